@@ -1,0 +1,10 @@
+pub mod Cases
+pub mod OrderLaws
+pub mod EveryLaws
+pub mod RangeLaws
+pub mod PartLaws
+pub mod BoundedLaws
+pub mod BagLaws
+pub mod SortLaws
+pub mod BytesLaws
+pub mod SignedLaws
