@@ -1,4 +1,5 @@
 pub mod Cases
+pub mod Products
 pub mod OrderLaws
 pub mod EveryLaws
 pub mod RangeLaws
