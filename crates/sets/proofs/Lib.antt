@@ -1,0 +1,4 @@
+pub mod SetLaws
+pub mod ItemLaws
+pub mod MergeLaws
+pub mod HalfLaws

@@ -1,0 +1,255 @@
+-- The walk along two ascending sets compares them densely; and that order is total and transitive. Assumes nothing.
+use mathlib.Core.Path.{_≡_, refl, sym, ap, _∙_, subst}
+use mathlib.Core.Bool.{Bool, true, false}
+use mathlib.Core.List.{List, [], _∷_}
+use mathlib.Core.Logic.{_⊎_, inl, inr, ⊎-elim}
+use Prim.Native.Nat.{ℕ, zero, suc, _+_, _-_, _*_, _≤_, _<_}
+use native.Mathlib.Numerals.{add-one, sub-one}
+use native.Mathlib.Nat.{add-zero, sub-zero}
+use native.Mathlib.Omega.{arith}
+use lib.ListN.{length, getD}
+use lib.Dec.{eqb, ltb}
+use borrow.Author.Tests.{lt-ltb, le-ltb, eq-eqb, ne-eqb}
+use Rattle.laws.specs.declared.Order.{Order}
+use Rattle.laws.specs.declared.Order.the-variants.{Less, Equal, Greater}
+use Rattle.laws.proofs.Cases.{lt-or-ge, Tri, tri}
+use Rattle.laws.proofs.Cases.Tri.{below, same, above}
+use Rattle.laws.specs.Range.{Only, Outside}
+use Rattle.laws.specs.Pick.{pick}
+use Rattle.laws.specs.Signed.{zeroWord}
+use Rattle.sets.specs.Set.{Set, wordOf, Ascending}
+use Rattle.sets.specs.Order.{Compared, byWords, orderNone, orderHead, order}
+use Rattle.sets.specs.Lent.{entries, startOf, countOf, setOf, Stored, Clear, atMost}
+use Rattle.sets.specs.Inner.{Next}
+use Rattle.laws.specs.Order.{isMost}
+use Rattle.sets.specs.Order.Compared.{less, equal, greater}
+
+pub by-less : (v w : ℕ) (o : Order) → v < w → byWords v w o ≡ Less
+unfolding byWords
+by-less v w o h = rw (lt-ltb v w h)
+
+pub by-more : (v w : ℕ) (o : Order) → w < v → byWords v w o ≡ Greater
+unfolding byWords
+by-more v w o h = rw (le-ltb v w (omega arith), lt-ltb w v h)
+
+pub by-rest : (v w : ℕ) (o : Order) → v ≡ w → byWords v w o ≡ o
+unfolding byWords
+by-rest v w o h = rw (le-ltb v w (omega arith), le-ltb w v (omega arith))
+
+-- Two functions that are `zeroWord` below q, have v and w at q, and from then on are f′ and g′.
+module _ {f g f′ g′ : ℕ → ℕ} {t v w : ℕ} (q : ℕ) (from : t ≤ q)
+    (f-below : (k : ℕ) → k < q → f k ≡ zeroWord) (g-below : (k : ℕ) → k < q → g k ≡ zeroWord)
+    (f-at : f q ≡ v) (g-at : g q ≡ w)
+    (f-rest : (k : ℕ) → q < k → f k ≡ f′ k) (g-rest : (k : ℕ) → q < k → g k ≡ g′ k) where
+  agree : v ≡ w → (r : ℕ) → ((k : ℕ) → suc q ≤ k → k < r → f′ k ≡ g′ k) → (k : ℕ) → k < r → f k ≡ g k
+  agree e r h k l = go (tri k q)
+    where
+      go : Tri k q → f k ≡ g k
+      go (below p) = f-below k p ∙ sym (g-below k p)
+      go (same p) = rw p (f-at ∙ e ∙ sym g-at)
+      go (above p) = f-rest k p ∙ h k p l ∙ sym (g-rest k p)
+
+  join : {o : Order} → v ≡ w → Compared (suc q) f′ g′ o → Compared t f g o
+  join e (less r p h l) = less r (omega arith) (λ k _. agree e r h k) (rw (f-rest r p, g-rest r p) l)
+  join e (equal h) = equal (λ k _. agree e (suc k) (λ j a _. h j a) k (omega arith))
+  join e (greater r p h l) = greater r (omega arith) (λ k _. agree e r h k) (rw (f-rest r p, g-rest r p) l)
+
+  step : (o : Order) → Compared (suc q) f′ g′ o → Compared t f g (byWords v w o)
+  step o c = go (tri v w)
+    where
+      go : Tri v w → Compared t f g (byWords v w o)
+      go (below p) = rw (by-less v w o p) (less q from (λ k _ l. f-below k l ∙ sym (g-below k l)) (rw (f-at, g-at) p))
+      go (same p) = rw (by-rest v w o p) (join p c)
+      go (above p) = rw (by-more v w o p) (greater q from (λ k _ l. f-below k l ∙ sym (g-below k l)) (rw (f-at, g-at) p))
+
+pub value-head : (e : ℕ × ℕ) (l : Set) (k : ℕ) → e .0 ≡ k → wordOf (e ∷ l) k ≡ e .1
+unfolding wordOf
+value-head e l k h = rw (eq-eqb (e .0) k h)
+
+pub value-tail : (e : ℕ × ℕ) (l : Set) (k : ℕ) → (e .0 ≡ k → ⊥) → wordOf (e ∷ l) k ≡ wordOf l k
+unfolding wordOf
+value-tail e l k h = rw (ne-eqb (e .0) k h)
+
+pub value-below : (l : Set) (t k : ℕ) → Ascending t l → k < t → wordOf l k ≡ zeroWord
+unfolding wordOf
+value-below [] t k a h = refl
+value-below (e ∷ l) t k a h = value-tail e l k (omega arith) ∙ value-below l (suc (e .0)) k (a .1) (omega arith)
+
+none-right : (b : Set) (t : ℕ) → Ascending t b → Compared t (wordOf []) (wordOf b) (orderNone b)
+unfolding orderNone wordOf
+none-right [] t p = equal (λ k _. refl)
+none-right (d ∷ b) t p =
+    step {v = zeroWord} {w = d .1} (d .0) (p .0) (λ k h. refl) (λ k h. value-below (d ∷ b) (d .0) k (omega arith, p .1) h) refl (value-head d b (d .0) refl)
+    (λ k h. refl) (λ k h. value-tail d b k (omega arith)) (orderNone b) (none-right b (suc (d .0)) (p .1))
+
+head-right : (e : ℕ × ℕ) (a : Set) → Ascending (suc (e .0)) a
+    → ((b : Set) (t : ℕ) → Ascending t a → Ascending t b → Compared t (wordOf a) (wordOf b) (order a b))
+    → (b : Set) (t : ℕ) → t ≤ e .0 → Ascending t b → Compared t (wordOf (e ∷ a)) (wordOf b) (orderHead e (order a) b)
+unfolding orderHead
+head-right e a asc ih [] t p _ =
+    step {v = e .1} {w = zeroWord} (e .0) p (λ k h. value-below (e ∷ a) (e .0) k (omega arith, asc) h) (λ k h. value-below [] (e .0) k tt h) (value-head e a (e .0) refl) (value-below [] (suc (e .0)) (e .0) tt (omega arith))
+    (λ k h. value-tail e a k (omega arith)) (λ k h. refl) (order a []) (ih [] (suc (e .0)) asc tt)
+head-right e a asc ih (d ∷ b) t p q = go (λ s l r. head-right e a asc ih b s l r) (tri (e .0) (d .0))
+  where
+    f-below : (k : ℕ) → k < e .0 → wordOf (e ∷ a) k ≡ zeroWord
+    f-below k h = value-below (e ∷ a) (e .0) k (omega arith, asc) h
+
+    g-below : (k : ℕ) → k < d .0 → wordOf (d ∷ b) k ≡ zeroWord
+    g-below k h = value-below (d ∷ b) (d .0) k (omega arith, q .1) h
+
+    go : ((s : ℕ) → s ≤ e .0 → Ascending s b → Compared s (wordOf (e ∷ a)) (wordOf b) (orderHead e (order a) b)) → Tri (e .0) (d .0) → Compared t (wordOf (e ∷ a)) (wordOf (d ∷ b)) (orderHead e (order a) (d ∷ b))
+    go more (below h) = rw (lt-ltb (e .0) (d .0) h)
+        (step {v = e .1} {w = zeroWord} (e .0) p f-below (λ k l. g-below k (omega arith)) (value-head e a (e .0) refl) (g-below (e .0) h)
+        (λ k l. value-tail e a k (omega arith)) (λ k l. refl) (order a (d ∷ b)) (ih (d ∷ b) (suc (e .0)) asc (h, q .1)))
+    go more (same h) = rw (le-ltb (e .0) (d .0) (omega arith), le-ltb (d .0) (e .0) (omega arith))
+        (step {v = e .1} {w = d .1} (e .0) p f-below (λ k l. g-below k (omega arith)) (value-head e a (e .0) refl) (value-head d b (e .0) (sym h))
+        (λ k l. value-tail e a k (omega arith)) (λ k l. value-tail d b k (omega arith)) (order a b) (ih b (suc (e .0)) asc (rw h (q .1))))
+    go more (above h) = rw (le-ltb (e .0) (d .0) (omega arith), lt-ltb (d .0) (e .0) h)
+        (step {v = zeroWord} {w = d .1} (d .0) (q .0) (λ k l. f-below k (omega arith)) g-below (f-below (d .0) h) (value-head d b (d .0) refl)
+        (λ k l. refl) (λ k l. value-tail d b k (omega arith)) (orderHead e (order a) b) (more (suc (d .0)) h (q .1)))
+
+-- THE LAW: along two ascending sets the walk finds the first region where they differ, if there is one
+pub order-right : (a b : Set) (t : ℕ) → Ascending t a → Ascending t b → Compared t (wordOf a) (wordOf b) (order a b)
+unfolding order
+order-right [] b t p q = none-right b t q
+order-right (e ∷ a) b t p q = head-right e a (p .1) (λ c s. order-right a c s) b t (p .0) q
+
+-- Of three functions: if the first is at most the second, and that at most the third, then the first is at most the third.
+-- `Above` is the one answer that rules that out.
+pub data AtMost (f g : ℕ → ℕ) : Type 0 where
+  smaller : (r : ℕ) → ((k : ℕ) → k < r → f k ≡ g k) → f r < g r → AtMost f g
+  alike : ((k : ℕ) → f k ≡ g k) → AtMost f g
+
+at-most-trans : {f g h : ℕ → ℕ} → AtMost f g → AtMost g h → AtMost f h
+at-most-trans (alike p) (alike q) = alike (λ k. p k ∙ q k)
+at-most-trans (alike p) (smaller r q l) = smaller r (λ k i. p k ∙ q k i) (rw (p r) l)
+at-most-trans (smaller r p l) (alike q) = smaller r (λ k i. p k i ∙ q k) (rw (sym (q r)) l)
+at-most-trans {f} {g} {h} (smaller r p l) (smaller s q m) = go (tri r s)
+  where
+    go : Tri r s → AtMost f h
+    go (below i) = smaller r (λ k j. p k j ∙ q k (omega arith)) (omega (arith, q r i))
+    go (same i) = smaller r (λ k j. p k j ∙ q k (omega arith)) (let m′ : g r < h r = rw i m in omega arith)
+    go (above i) = smaller s (λ k j. p k (omega arith) ∙ q k j) (omega (arith, p s i))
+
+at-most-not : {f g : ℕ → ℕ} → AtMost f g → Compared 0 f g Greater → ⊥
+at-most-not (alike p) (greater r _ q l) = omega (arith, p r)
+at-most-not {f} {g} (smaller s p m) (greater r _ q l) = go (tri s r)
+  where
+    go : Tri s r → ⊥
+    go (below i) = omega (arith, q s (omega arith) i)
+    go (same i) = let l′ : g s < f s = rw i l in omega arith
+    go (above i) = omega (arith, p r i)
+
+at-most-of : {f g : ℕ → ℕ} (o : Order) → Compared 0 f g o → isMost o ≡ true → AtMost f g
+unfolding isMost
+at-most-of Less (less r _ p l) e = smaller r (λ k. p k (omega arith)) l
+at-most-of Equal (equal p) e = alike (λ k. p k (omega arith))
+at-most-of Greater (greater r _ p l) e = let z : _≡_ {A = ℕ} 0 1 = cc in absurd (omega arith)
+
+is-most-of : {f g : ℕ → ℕ} (o : Order) → Compared 0 f g o → AtMost f g → isMost o ≡ true
+unfolding isMost
+is-most-of Less c m = refl
+is-most-of Equal c m = refl
+is-most-of Greater c m = absurd (at-most-not m c)
+
+at-most-back : {f g : ℕ → ℕ} (o : Order) → Compared 0 f g o → isMost o ≡ false → AtMost g f
+unfolding isMost
+at-most-back Less (less r _ p l) e = let z : _≡_ {A = ℕ} 0 1 = cc in absurd (omega arith)
+at-most-back Equal (equal p) e = let z : _≡_ {A = ℕ} 0 1 = cc in absurd (omega arith)
+at-most-back Greater (greater r _ p l) e = smaller r (λ k h. sym (p k (omega arith) h)) l
+
+-- the order on ascending sets is transitive and total
+pub order-trans : (a b c : Set) → Ascending 0 a → Ascending 0 b → Ascending 0 c
+    → isMost (order a b) ≡ true → isMost (order b c) ≡ true → isMost (order a c) ≡ true
+order-trans a b c p q r l m =
+    is-most-of (order a c) (order-right a c 0 p r)
+    (at-most-trans (at-most-of (order a b) (order-right a b 0 p q) l) (at-most-of (order b c) (order-right b c 0 q r) m))
+
+pub order-total : (a b : Set) → Ascending 0 a → Ascending 0 b → isMost (order a b) ≡ false → isMost (order b a) ≡ true
+order-total a b p q l =
+    is-most-of (order b a) (order-right b a 0 q p) (at-most-back (order a b) (order-right a b 0 p q) l)
+
+-- The walk's steps, on entries that stand in a list of words.
+
+entries-cons : (a m : ℕ) (w : List ℕ) → 0 < m → entries a m w ≡ (getD w a 0, getD w (a + 1) 0) ∷ entries (a + 2) (m - 1) w
+unfolding entries
+entries-cons a zero w h = absurd (omega arith)
+entries-cons a (suc m) w h = rw (sub-one (suc m))
+
+entries-none : (a : ℕ) (w : List ℕ) → entries a 0 w ≡ []
+unfolding entries
+entries-none a w = refl
+
+-- the case of two heads
+module _ (w : List ℕ) (a m b n : ℕ) (p : 0 < m) (q : 0 < n) where
+  pub next-left : getD w a 0 < getD w b 0 → Next w a m b n (getD w (a + 1) 0) zeroWord 1 0
+  unfolding order orderHead
+  next-left h = record {
+    some = omega arith;
+    left = p;
+    right = omega arith;
+    rest = rw (add-zero b, sub-zero n, entries-cons a m w p, entries-cons b n w q, lt-ltb (getD w a 0) (getD w b 0) h);
+  }
+
+  pub next-right : getD w b 0 < getD w a 0 → Next w a m b n zeroWord (getD w (b + 1) 0) 0 1
+  unfolding order orderHead
+  next-right h = record {
+    some = omega arith;
+    left = omega arith;
+    right = q;
+    rest = rw (add-zero a, sub-zero m, entries-cons a m w p, entries-cons b n w q, le-ltb (getD w a 0) (getD w b 0) (omega arith), lt-ltb (getD w b 0) (getD w a 0) h);
+  }
+
+  pub next-both : getD w a 0 ≡ getD w b 0 → Next w a m b n (getD w (a + 1) 0) (getD w (b + 1) 0) 1 1
+  unfolding order orderHead
+  next-both h = record {
+    some = omega arith;
+    left = p;
+    right = q;
+    rest = rw (entries-cons a m w p, entries-cons b n w q, le-ltb (getD w a 0) (getD w b 0) (omega arith), le-ltb (getD w b 0) (getD w a 0) (omega arith));
+  }
+
+pub next-only-right : (w : List ℕ) (a m b n : ℕ) → m ≡ 0 → 0 < n → Next w a m b n zeroWord (getD w (b + 1) 0) 0 1
+unfolding order orderNone entries
+next-only-right w a m b n e q = record {
+  some = omega arith;
+  left = omega arith;
+  right = q;
+  rest = rw (e, entries-cons b n w q);
+}
+
+pub next-only-left : (w : List ℕ) (a m b n : ℕ) → 0 < m → n ≡ 0 → Next w a m b n (getD w (a + 1) 0) zeroWord 1 0
+unfolding order orderHead entries
+next-only-left w a m b n p e = record {
+  some = omega arith;
+  left = p;
+  right = omega arith;
+  rest = rw (e, entries-cons a m w p);
+}
+
+pub walk-done : (w : List ℕ) (a m b n : ℕ) → m + n ≤ 0 → order (entries a m w) (entries b n w) ≡ Equal
+unfolding order orderNone entries
+walk-done w a m b n h = let p : m ≡ 0 = omega arith in let q : n ≡ 0 = omega arith in rw (p, q)
+
+-- a step that decides, and one that does not
+pub next-less : {w : List ℕ} {a m b n v u da db : ℕ} → Next w a m b n v u da db → v < u → order (entries a m w) (entries b n w) ≡ Less
+next-less s h = s .rest ∙ by-less _ _ _ h
+
+pub next-more : {w : List ℕ} {a m b n v u da db : ℕ} → Next w a m b n v u da db → u < v → order (entries a m w) (entries b n w) ≡ Greater
+next-more s h = s .rest ∙ by-more _ _ _ h
+
+pub next-same : {w : List ℕ} {a m b n v u da db : ℕ} → Next w a m b n v u da db → v ≡ u
+    → order (entries a m w) (entries b n w) ≡ order (entries (a + 2 * da) (m - da) w) (entries (b + 2 * db) (n - db) w)
+next-same s h = s .rest ∙ by-rest _ _ _ h
+
+-- What is right of two functions is one answer: so `Compared` says "if and only if".
+pub compared-unique : {f g : ℕ → ℕ} (o q : Order) → Compared 0 f g o → Compared 0 f g q → o ≡ q
+compared-unique Less Less c d = refl
+compared-unique Less Equal (less r _ _ l) (equal e) = absurd (omega (arith, e r (omega arith)))
+compared-unique Less Greater (less r t p l) d = absurd (at-most-not (smaller r (λ k. p k (omega arith)) l) d)
+compared-unique Equal Less (equal e) (less r _ _ l) = absurd (omega (arith, e r (omega arith)))
+compared-unique Equal Equal c d = refl
+compared-unique Equal Greater (equal e) (greater r _ _ l) = absurd (omega (arith, e r (omega arith)))
+compared-unique Greater Less c (less r t p l) = absurd (at-most-not (smaller r (λ k. p k (omega arith)) l) c)
+compared-unique Greater Equal (greater r _ _ l) (equal e) = absurd (omega (arith, e r (omega arith)))
+compared-unique Greater Greater c d = refl

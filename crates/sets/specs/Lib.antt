@@ -1,0 +1,4 @@
+pub mod Set
+pub mod Order
+pub mod Lent
+pub mod Inner

@@ -1,0 +1,6 @@
+// Sets of adjustments in lent words: their order, their ids, their shapes, and the groups that share a shape.
+mod comparing;
+mod sorting;
+
+pub use comparing::compare;
+pub use sorting::sort;
