@@ -2,3 +2,4 @@ pub mod SetLaws
 pub mod ItemLaws
 pub mod MergeLaws
 pub mod HalfLaws
+pub mod IdLaws

@@ -12,6 +12,8 @@ use lib.Dec.{eqb, ltb}
 use borrow.Author.Tests.{lt-ltb, le-ltb, eq-eqb, ne-eqb}
 use Rattle.laws.specs.declared.Order.{Order}
 use Rattle.laws.specs.declared.Order.the-variants.{Less, Equal, Greater}
+use Rattle.laws.specs.Order.{thenBy, isMost}
+use Rattle.laws.proofs.OrderLaws.{compared-less, compared-more, compared-same}
 use Rattle.laws.proofs.Cases.{lt-or-ge, Tri, tri}
 use Rattle.laws.proofs.Cases.Tri.{below, same, above}
 use Rattle.laws.specs.Range.{Only, Outside}
@@ -21,20 +23,19 @@ use Rattle.sets.specs.Set.{Set, wordOf, Ascending}
 use Rattle.sets.specs.Order.{Compared, byWords, orderNone, orderHead, order}
 use Rattle.sets.specs.Lent.{entries, startOf, countOf, setOf, Stored, Clear, atMost}
 use Rattle.sets.specs.Inner.{Next}
-use Rattle.laws.specs.Order.{isMost}
 use Rattle.sets.specs.Order.Compared.{less, equal, greater}
 
 pub by-less : (v w : ℕ) (o : Order) → v < w → byWords v w o ≡ Less
-unfolding byWords
-by-less v w o h = rw (lt-ltb v w h)
+unfolding byWords thenBy
+by-less v w o h = rw (compared-less v w h)
 
 pub by-more : (v w : ℕ) (o : Order) → w < v → byWords v w o ≡ Greater
-unfolding byWords
-by-more v w o h = rw (le-ltb v w (omega arith), lt-ltb w v h)
+unfolding byWords thenBy
+by-more v w o h = rw (compared-more v w h)
 
 pub by-rest : (v w : ℕ) (o : Order) → v ≡ w → byWords v w o ≡ o
-unfolding byWords
-by-rest v w o h = rw (le-ltb v w (omega arith), le-ltb w v (omega arith))
+unfolding byWords thenBy
+by-rest v w o h = rw (compared-same v w h)
 
 -- Two functions that are `zeroWord` below q, have v and w at q, and from then on are f′ and g′.
 module _ {f g f′ g′ : ℕ → ℕ} {t v w : ℕ} (q : ℕ) (from : t ≤ q)

@@ -1,4 +1,6 @@
 pub mod Set
 pub mod Order
+pub mod Ids
+pub mod Groups
 pub mod Lent
 pub mod Inner

@@ -19,7 +19,7 @@ pub data Compared (t : ℕ) (f g : ℕ → ℕ) : Order → Type 0 where
 
 -- by two words, and where they are equal by `o`
 unfoldable pub byWords : ℕ → ℕ → Order → Order
-byWords v w o = pick (ltb v w) Less (pick (ltb w v) Greater o)
+byWords v w o = thenBy (compared v w) o
 
 -- the empty set and b
 unfoldable pub orderNone : Set → Order
