@@ -5,9 +5,13 @@ use mathlib.Core.List.{List, [], _∷_, _++_}
 use Prim.Native.Nat.{ℕ, zero, suc, _+_, _≤_, _<_}
 use native.Mathlib.Nat.{not-suc-le-zero}
 use native.Mathlib.Omega.{arith}
-use lib.ListN.{length}
+use lib.ListN.{length, getD}
+use lib.Dec.{eqb}
+use borrow.Author.Tests.{eq-eqb, eqb-true}
 use Rattle.laws.specs.Bag.{weigh, sum, SameBag}
-use Rattle.laws.proofs.Cases.{same-or-not}
+use Rattle.laws.specs.Pick.{pick}
+use Rattle.laws.proofs.Cases.{same-or-not, Which, which}
+use Rattle.laws.proofs.Cases.Which.{holds, fails}
 
 pub weigh-append : {A : Type 0} (φ : A → ℕ) (l m : List A) → weigh φ (l ++ m) ≡ weigh φ l + weigh φ m
 unfolding weigh
@@ -62,3 +66,34 @@ sum-two a b (suc n) i j m l h = ⊎-elim
     let here = h n (omega arith) (omega arith) d in
     omega arith)
     (same-or-not n j)
+
+-- ---- a number of one list stands in the other
+
+abbrev one-at : ℕ → ℕ → ℕ
+one-at x y = pick (eqb x y) 1 0
+
+one-here : (x : ℕ) → one-at x x ≡ 1
+one-here x = rw (eq-eqb x x refl)
+
+weigh-at : (φ : ℕ → ℕ) (l : List ℕ) (j : ℕ) → j < length l → φ (getD l j 0) ≤ weigh φ l
+unfolding weigh
+weigh-at φ [] j h = absurd (omega arith)
+weigh-at φ (x ∷ l) zero h = omega arith
+weigh-at φ (x ∷ l) (suc j) h = omega (arith, weigh-at φ l j (omega arith))
+
+weigh-has : (x : ℕ) (l : List ℕ) → 0 < weigh (one-at x) l → (q : ℕ) × (q < length l) × (getD l q 0 ≡ x)
+unfolding weigh
+weigh-has x [] h = absurd (omega arith)
+weigh-has x (y ∷ l) h = go (λ p. weigh-has x l p) (which (eqb x y))
+  where
+    go : (0 < weigh (one-at x) l → (q : ℕ) × (q < length l) × (getD l q 0 ≡ x)) → Which (eqb x y) → (q : ℕ) × (q < suc (length l)) × (getD (y ∷ l) q 0 ≡ x)
+    go rec (holds e) = (0, omega arith, sym (eqb-true x y e))
+    go rec (fails e) =
+        let z : one-at x y ≡ 0 = rw e in
+        let r = rec (omega (arith, z)) in
+        (suc (r .0), omega (arith, r .1), r .2)
+
+pub bag-place : (l m : List ℕ) → SameBag l m → (j : ℕ) → j < length m → (q : ℕ) × (q < length l) × (getD l q 0 ≡ getD m j 0)
+bag-place l m s j h =
+    let x = getD m j 0 in
+    weigh-has x l (omega (arith, s .weighs (one-at x), weigh-at (one-at x) m j h, one-here x))

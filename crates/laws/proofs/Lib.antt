@@ -1,5 +1,6 @@
 pub mod Cases
 pub mod Products
+pub mod ListLaws
 pub mod OrderLaws
 pub mod EveryLaws
 pub mod RangeLaws

@@ -3,3 +3,7 @@ pub mod ItemLaws
 pub mod MergeLaws
 pub mod HalfLaws
 pub mod IdLaws
+pub mod HeldLaws
+pub mod FirstLaws
+pub mod FirstSteps
+pub mod IdentifySteps

@@ -1,5 +1,5 @@
 -- The walk along two ascending sets compares them densely; and that order is total and transitive. Assumes nothing.
-use mathlib.Core.Path.{_≡_, refl, sym, ap, _∙_, subst}
+use mathlib.Core.Path.{_≡_, refl, sym, ap, ap₂, _∙_, subst}
 use mathlib.Core.Bool.{Bool, true, false}
 use mathlib.Core.List.{List, [], _∷_}
 use mathlib.Core.Logic.{_⊎_, inl, inr, ⊎-elim}
@@ -12,14 +12,14 @@ use lib.Dec.{eqb, ltb}
 use borrow.Author.Tests.{lt-ltb, le-ltb, eq-eqb, ne-eqb}
 use Rattle.laws.specs.declared.Order.{Order}
 use Rattle.laws.specs.declared.Order.the-variants.{Less, Equal, Greater}
-use Rattle.laws.specs.Order.{thenBy, isMost}
+use Rattle.laws.specs.Order.{thenBy, flipped, isMost}
 use Rattle.laws.proofs.OrderLaws.{compared-less, compared-more, compared-same}
 use Rattle.laws.proofs.Cases.{lt-or-ge, Tri, tri}
 use Rattle.laws.proofs.Cases.Tri.{below, same, above}
 use Rattle.laws.specs.Range.{Only, Outside}
 use Rattle.laws.specs.Pick.{pick}
 use Rattle.laws.specs.Signed.{zeroWord}
-use Rattle.sets.specs.Set.{Set, wordOf, Ascending}
+use Rattle.sets.specs.Set.{Set, wordOf, Ascending, Proper}
 use Rattle.sets.specs.Order.{Compared, byWords, orderNone, orderHead, order}
 use Rattle.sets.specs.Lent.{entries, startOf, countOf, setOf, Stored, Clear, atMost}
 use Rattle.sets.specs.Inner.{Next}
@@ -63,51 +63,51 @@ module _ {f g f′ g′ : ℕ → ℕ} {t v w : ℕ} (q : ℕ) (from : t ≤ q)
       go (same p) = rw (by-rest v w o p) (join p c)
       go (above p) = rw (by-more v w o p) (greater q from (λ k _ l. f-below k l ∙ sym (g-below k l)) (rw (f-at, g-at) p))
 
-pub value-head : (e : ℕ × ℕ) (l : Set) (k : ℕ) → e .0 ≡ k → wordOf (e ∷ l) k ≡ e .1
+pub word-head : (e : ℕ × ℕ) (l : Set) (k : ℕ) → e .0 ≡ k → wordOf (e ∷ l) k ≡ e .1
 unfolding wordOf
-value-head e l k h = rw (eq-eqb (e .0) k h)
+word-head e l k h = rw (eq-eqb (e .0) k h)
 
-pub value-tail : (e : ℕ × ℕ) (l : Set) (k : ℕ) → (e .0 ≡ k → ⊥) → wordOf (e ∷ l) k ≡ wordOf l k
+pub word-tail : (e : ℕ × ℕ) (l : Set) (k : ℕ) → (e .0 ≡ k → ⊥) → wordOf (e ∷ l) k ≡ wordOf l k
 unfolding wordOf
-value-tail e l k h = rw (ne-eqb (e .0) k h)
+word-tail e l k h = rw (ne-eqb (e .0) k h)
 
-pub value-below : (l : Set) (t k : ℕ) → Ascending t l → k < t → wordOf l k ≡ zeroWord
+pub word-below : (l : Set) (t k : ℕ) → Ascending t l → k < t → wordOf l k ≡ zeroWord
 unfolding wordOf
-value-below [] t k a h = refl
-value-below (e ∷ l) t k a h = value-tail e l k (omega arith) ∙ value-below l (suc (e .0)) k (a .1) (omega arith)
+word-below [] t k a h = refl
+word-below (e ∷ l) t k a h = word-tail e l k (omega arith) ∙ word-below l (suc (e .0)) k (a .1) (omega arith)
 
 none-right : (b : Set) (t : ℕ) → Ascending t b → Compared t (wordOf []) (wordOf b) (orderNone b)
 unfolding orderNone wordOf
 none-right [] t p = equal (λ k _. refl)
 none-right (d ∷ b) t p =
-    step {v = zeroWord} {w = d .1} (d .0) (p .0) (λ k h. refl) (λ k h. value-below (d ∷ b) (d .0) k (omega arith, p .1) h) refl (value-head d b (d .0) refl)
-    (λ k h. refl) (λ k h. value-tail d b k (omega arith)) (orderNone b) (none-right b (suc (d .0)) (p .1))
+    step {v = zeroWord} {w = d .1} (d .0) (p .0) (λ k h. refl) (λ k h. word-below (d ∷ b) (d .0) k (omega arith, p .1) h) refl (word-head d b (d .0) refl)
+    (λ k h. refl) (λ k h. word-tail d b k (omega arith)) (orderNone b) (none-right b (suc (d .0)) (p .1))
 
 head-right : (e : ℕ × ℕ) (a : Set) → Ascending (suc (e .0)) a
     → ((b : Set) (t : ℕ) → Ascending t a → Ascending t b → Compared t (wordOf a) (wordOf b) (order a b))
     → (b : Set) (t : ℕ) → t ≤ e .0 → Ascending t b → Compared t (wordOf (e ∷ a)) (wordOf b) (orderHead e (order a) b)
 unfolding orderHead
 head-right e a asc ih [] t p _ =
-    step {v = e .1} {w = zeroWord} (e .0) p (λ k h. value-below (e ∷ a) (e .0) k (omega arith, asc) h) (λ k h. value-below [] (e .0) k tt h) (value-head e a (e .0) refl) (value-below [] (suc (e .0)) (e .0) tt (omega arith))
-    (λ k h. value-tail e a k (omega arith)) (λ k h. refl) (order a []) (ih [] (suc (e .0)) asc tt)
+    step {v = e .1} {w = zeroWord} (e .0) p (λ k h. word-below (e ∷ a) (e .0) k (omega arith, asc) h) (λ k h. word-below [] (e .0) k tt h) (word-head e a (e .0) refl) (word-below [] (suc (e .0)) (e .0) tt (omega arith))
+    (λ k h. word-tail e a k (omega arith)) (λ k h. refl) (order a []) (ih [] (suc (e .0)) asc tt)
 head-right e a asc ih (d ∷ b) t p q = go (λ s l r. head-right e a asc ih b s l r) (tri (e .0) (d .0))
   where
     f-below : (k : ℕ) → k < e .0 → wordOf (e ∷ a) k ≡ zeroWord
-    f-below k h = value-below (e ∷ a) (e .0) k (omega arith, asc) h
+    f-below k h = word-below (e ∷ a) (e .0) k (omega arith, asc) h
 
     g-below : (k : ℕ) → k < d .0 → wordOf (d ∷ b) k ≡ zeroWord
-    g-below k h = value-below (d ∷ b) (d .0) k (omega arith, q .1) h
+    g-below k h = word-below (d ∷ b) (d .0) k (omega arith, q .1) h
 
     go : ((s : ℕ) → s ≤ e .0 → Ascending s b → Compared s (wordOf (e ∷ a)) (wordOf b) (orderHead e (order a) b)) → Tri (e .0) (d .0) → Compared t (wordOf (e ∷ a)) (wordOf (d ∷ b)) (orderHead e (order a) (d ∷ b))
     go more (below h) = rw (lt-ltb (e .0) (d .0) h)
-        (step {v = e .1} {w = zeroWord} (e .0) p f-below (λ k l. g-below k (omega arith)) (value-head e a (e .0) refl) (g-below (e .0) h)
-        (λ k l. value-tail e a k (omega arith)) (λ k l. refl) (order a (d ∷ b)) (ih (d ∷ b) (suc (e .0)) asc (h, q .1)))
+        (step {v = e .1} {w = zeroWord} (e .0) p f-below (λ k l. g-below k (omega arith)) (word-head e a (e .0) refl) (g-below (e .0) h)
+        (λ k l. word-tail e a k (omega arith)) (λ k l. refl) (order a (d ∷ b)) (ih (d ∷ b) (suc (e .0)) asc (h, q .1)))
     go more (same h) = rw (le-ltb (e .0) (d .0) (omega arith), le-ltb (d .0) (e .0) (omega arith))
-        (step {v = e .1} {w = d .1} (e .0) p f-below (λ k l. g-below k (omega arith)) (value-head e a (e .0) refl) (value-head d b (e .0) (sym h))
-        (λ k l. value-tail e a k (omega arith)) (λ k l. value-tail d b k (omega arith)) (order a b) (ih b (suc (e .0)) asc (rw h (q .1))))
+        (step {v = e .1} {w = d .1} (e .0) p f-below (λ k l. g-below k (omega arith)) (word-head e a (e .0) refl) (word-head d b (e .0) (sym h))
+        (λ k l. word-tail e a k (omega arith)) (λ k l. word-tail d b k (omega arith)) (order a b) (ih b (suc (e .0)) asc (rw h (q .1))))
     go more (above h) = rw (le-ltb (e .0) (d .0) (omega arith), lt-ltb (d .0) (e .0) h)
-        (step {v = zeroWord} {w = d .1} (d .0) (q .0) (λ k l. f-below k (omega arith)) g-below (f-below (d .0) h) (value-head d b (d .0) refl)
-        (λ k l. refl) (λ k l. value-tail d b k (omega arith)) (orderHead e (order a) b) (more (suc (d .0)) h (q .1)))
+        (step {v = zeroWord} {w = d .1} (d .0) (q .0) (λ k l. f-below k (omega arith)) g-below (f-below (d .0) h) (word-head d b (d .0) refl)
+        (λ k l. refl) (λ k l. word-tail d b k (omega arith)) (orderHead e (order a) b) (more (suc (d .0)) h (q .1)))
 
 -- THE LAW: along two ascending sets the walk finds the first region where they differ, if there is one
 pub order-right : (a b : Set) (t : ℕ) → Ascending t a → Ascending t b → Compared t (wordOf a) (wordOf b) (order a b)
@@ -254,3 +254,55 @@ compared-unique Equal Greater (equal e) (greater r _ _ l) = absurd (omega (arith
 compared-unique Greater Less c (less r t p l) = absurd (at-most-not (smaller r (λ k. p k (omega arith)) l) c)
 compared-unique Greater Equal (greater r _ _ l) (equal e) = absurd (omega (arith, e r (omega arith)))
 compared-unique Greater Greater c d = refl
+
+-- ---- the order the other way round, and equal sets
+
+compared-flip : {f g : ℕ → ℕ} {o : Order} → Compared 0 f g o → Compared 0 g f (flipped o)
+unfolding flipped
+compared-flip (less r t p l) = greater r t (λ k a b. sym (p k a b)) l
+compared-flip (equal p) = equal (λ k a. sym (p k a))
+compared-flip (greater r t p l) = less r t (λ k a b. sym (p k a b)) l
+
+pub order-flip : (a b : Set) → Ascending 0 a → Ascending 0 b → order b a ≡ flipped (order a b)
+order-flip a b p q = compared-unique (order b a) (flipped (order a b)) (order-right b a 0 q p) (compared-flip (order-right a b 0 p q))
+
+-- at most each other, equal
+pub order-both : (a b : Set) → Ascending 0 a → Ascending 0 b → isMost (order a b) ≡ true → isMost (order b a) ≡ true → order a b ≡ Equal
+unfolding isMost flipped
+order-both a b p q l m = go (order a b) l (sym (ap isMost (order-flip a b p q)) ∙ m)
+  where
+    go : (o : Order) → isMost o ≡ true → isMost (flipped o) ≡ true → o ≡ Equal
+    go Less x y = let z : _≡_ {A = ℕ} 0 1 = cc in absurd (omega arith)
+    go Equal x y = refl
+    go Greater x y = let z : _≡_ {A = ℕ} 0 1 = cc in absurd (omega arith)
+
+pub order-self : (a : Set) → Ascending 0 a → order a a ≡ Equal
+order-self a p = compared-unique (order a a) Equal (order-right a a 0 p p) (equal (λ k _. refl))
+
+-- two sets that have the same words are the same: no value is zero
+pub words-same : (regions t : ℕ) (a b : Set) → Ascending t a → Ascending t b → Proper regions a → Proper regions b
+    → ((k : ℕ) → t ≤ k → wordOf a k ≡ wordOf b k) → a ≡ b
+unfolding wordOf
+words-same regions t [] [] p q x y h = refl
+words-same regions t [] (d ∷ b) p q x y h = absurd (y .0 .0 (sym (h (d .0) (q .0) ∙ word-head d b (d .0) refl)))
+words-same regions t (e ∷ a) [] p q x y h = absurd (x .0 .0 (sym (word-head e a (e .0) refl) ∙ h (e .0) (p .0)))
+words-same regions t (e ∷ a) (d ∷ b) p q x y h = go (λ k. words-same regions (suc (e .0)) a b (p .1) k (x .1) (y .1)) (tri (e .0) (d .0))
+  where
+    go : (Ascending (suc (e .0)) b → ((k : ℕ) → suc (e .0) ≤ k → wordOf a k ≡ wordOf b k) → a ≡ b) → Tri (e .0) (d .0) → e ∷ a ≡ d ∷ b
+    go rec (below l) = absurd (x .0 .0
+        (sym (word-head e a (e .0) refl) ∙ h (e .0) (p .0) ∙ word-below (d ∷ b) (d .0) (e .0) (omega arith, q .1) l))
+    go rec (same l) =
+        let v : e .1 ≡ d .1 = sym (word-head e a (e .0) refl) ∙ h (e .0) (p .0) ∙ word-head d b (e .0) (sym l) in
+        ap₂ _∷_ (λ i. (l i, v i))
+        (rec (rw l (q .1)) (λ k m. sym (word-tail e a k (omega arith)) ∙ h k (omega arith) ∙ word-tail d b k (omega arith)))
+    go rec (above l) = absurd (y .0 .0
+        (sym (word-head d b (d .0) refl) ∙ sym (h (d .0) (q .0)) ∙ word-below (e ∷ a) (e .0) (d .0) (omega arith, p .1) l))
+
+-- so Equal is said of equal sets alone
+pub order-equal : (regions : ℕ) (a b : Set) → Ascending 0 a → Ascending 0 b → Proper regions a → Proper regions b → order a b ≡ Equal → a ≡ b
+order-equal regions a b p q x y e = go (order a b) (order-right a b 0 p q) e
+  where
+    go : (o : Order) → Compared 0 (wordOf a) (wordOf b) o → o ≡ Equal → a ≡ b
+    go Less c e = let z : _≡_ {A = ℕ} 0 1 = cc in absurd (omega arith)
+    go Equal (equal h) e = words-same regions 0 a b p q x y h
+    go Greater c e = let z : _≡_ {A = ℕ} 0 1 = cc in absurd (omega arith)
