@@ -7,3 +7,4 @@ pub mod HeldLaws
 pub mod FirstLaws
 pub mod FirstSteps
 pub mod IdentifySteps
+pub mod GroupLaws
