@@ -81,7 +81,7 @@ abbrev pub Long : ℕ → Group → Type 0
 Long n g = length (g .shape) ≡ n
 
 module _ (n : ℕ) where
-  flip-less : (s t : Shape) → length s ≡ n → length t ≡ n → order s t ≡ Greater → order t s ≡ Less
+  pub flip-less : (s t : Shape) → length s ≡ n → length t ≡ n → order s t ≡ Greater → order t s ≡ Less
   flip-less s t p q e = order-flip s t (p ∙ sym q) ∙ (rw e (unfold flipped in refl))
 
   pub flip-more : (s t : Shape) → length s ≡ n → length t ≡ n → order s t ≡ Less → order t s ≡ Greater

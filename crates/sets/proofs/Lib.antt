@@ -8,3 +8,5 @@ pub mod FirstLaws
 pub mod FirstSteps
 pub mod IdentifySteps
 pub mod GroupLaws
+pub mod ShapeSteps
+pub mod TableSteps

@@ -172,12 +172,12 @@ order-total a b p q l =
 
 -- The walk's steps, on entries that stand in a list of words.
 
-entries-cons : (a m : ℕ) (w : List ℕ) → 0 < m → entries a m w ≡ (getD w a 0, getD w (a + 1) 0) ∷ entries (a + 2) (m - 1) w
+pub entries-cons : (a m : ℕ) (w : List ℕ) → 0 < m → entries a m w ≡ (getD w a 0, getD w (a + 1) 0) ∷ entries (a + 2) (m - 1) w
 unfolding entries
 entries-cons a zero w h = absurd (omega arith)
 entries-cons a (suc m) w h = rw (sub-one (suc m))
 
-entries-none : (a : ℕ) (w : List ℕ) → entries a 0 w ≡ []
+pub entries-none : (a : ℕ) (w : List ℕ) → entries a 0 w ≡ []
 unfolding entries
 entries-none a w = refl
 

@@ -3,4 +3,5 @@ pub mod Order
 pub mod Ids
 pub mod Groups
 pub mod Lent
+pub mod Table
 pub mod Inner
