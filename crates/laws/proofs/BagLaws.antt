@@ -75,11 +75,12 @@ one-at x y = pick (eqb x y) 1 0
 one-here : (x : ℕ) → one-at x x ≡ 1
 one-here x = rw (eq-eqb x x refl)
 
-weigh-at : (φ : ℕ → ℕ) (l : List ℕ) (j : ℕ) → j < length l → φ (getD l j 0) ≤ weigh φ l
+-- an element weighs at most what all weigh
+pub weigh-at : {A : Type 0} (φ : A → ℕ) (l : List A) (j : ℕ) (d : A) → j < length l → φ (getD l j d) ≤ weigh φ l
 unfolding weigh
-weigh-at φ [] j h = absurd (omega arith)
-weigh-at φ (x ∷ l) zero h = omega arith
-weigh-at φ (x ∷ l) (suc j) h = omega (arith, weigh-at φ l j (omega arith))
+weigh-at φ [] j d h = absurd (omega arith)
+weigh-at φ (x ∷ l) zero d h = omega arith
+weigh-at φ (x ∷ l) (suc j) d h = omega (arith, weigh-at φ l j d (omega arith))
 
 weigh-has : (x : ℕ) (l : List ℕ) → 0 < weigh (one-at x) l → (q : ℕ) × (q < length l) × (getD l q 0 ≡ x)
 unfolding weigh
@@ -96,4 +97,4 @@ weigh-has x (y ∷ l) h = go (λ p. weigh-has x l p) (which (eqb x y))
 pub bag-place : (l m : List ℕ) → SameBag l m → (j : ℕ) → j < length m → (q : ℕ) × (q < length l) × (getD l q 0 ≡ getD m j 0)
 bag-place l m s j h =
     let x = getD m j 0 in
-    weigh-has x l (omega (arith, s .weighs (one-at x), weigh-at (one-at x) m j h, one-here x))
+    weigh-has x l (omega (arith, s .weighs (one-at x), weigh-at (one-at x) m j 0 h, one-here x))

@@ -21,7 +21,7 @@ use Rattle.shapes.specs.Group.{Group}
 use Rattle.shapes.proofs.OrderLaws.{order-self, order-equal, order-flip, order-chain}
 use Rattle.sets.specs.Set.{Set, wordOf}
 use Rattle.sets.specs.Ids.{distinct, distinctFrom}
-use Rattle.sets.specs.Groups.{shapeOf, placed, withShape, groupsFrom, groupsOf}
+use Rattle.sets.specs.Groups.{shapeOf, Before, placed, withShape, groupsFrom, groupsOf}
 
 pub shape-length : (regions : ℕ) (s : Set) → length (shapeOf regions s) ≡ regions
 unfolding shapeOf
@@ -73,9 +73,6 @@ from-all Q gs [] q f a = a
 from-all Q gs (s ∷ l) q f a = from-all Q (withShape gs s) l (q .1) f (with-all Q gs s (q .0) f a)
 
 -- ---- the groups stand in their order, so no two have one shape
-
-abbrev pub Before : Group → Group → Type 0
-Before g h = order (g .shape) (h .shape) ≡ Less
 
 abbrev pub Long : ℕ → Group → Type 0
 Long n g = length (g .shape) ≡ n
@@ -190,7 +187,7 @@ pub groups-long : (regions : ℕ) (sets : List Set) → All (Long regions) (grou
 unfolding groupsOf
 groups-long regions sets = from-all (Long regions) [] (map (shapeOf regions) (distinct sets)) (shapes-long regions (distinct sets)) (λ g q. q) tt
 
-before-unlike : (g h : Group) → Before g h → g .shape ≡ h .shape → ⊥
+pub before-unlike : (g h : Group) → Before g h → g .shape ≡ h .shape → ⊥
 before-unlike g h b e =
     let x = order-self (g .shape) in
     let y = ap (order (g .shape)) e in

@@ -202,7 +202,7 @@ module _ (sets : List Set) (k : ℕ) (h : k < length sets) where
   whole : distinctFrom (distinct (take (k + 1) sets)) (drop (k + 1) sets) ≡ distinct sets
   whole = sym (distinct-append [] (take (k + 1) sets) (drop (k + 1) sets)) ∙ ap distinct (take-append-drop (k + 1) sets)
 
-  grows-here : Grows (distinct (take (k + 1) sets)) (distinct sets)
+  pub grows-here : Grows (distinct (take (k + 1) sets)) (distinct sets)
   grows-here = record { more = grows-from (distinct (take (k + 1) sets)) (drop (k + 1) sets) .more; is = sym whole ∙ grows-from (distinct (take (k + 1) sets)) (drop (k + 1) sets) .is }
 
   -- a set that no earlier one equals gets the next id
@@ -221,19 +221,40 @@ module _ (sets : List Set) (k : ℕ) (h : k < length sets) where
       let w = with-place (distinct (take k sets)) (getD sets k []) in
       grows-place (getD sets k []) grows-here (rw (steps, w .0) (w .1)) ∙ ap (place (getD sets k [])) steps ∙ w .0 ∙ f
 
+  pub first-distinct : place (getD sets k []) sets ≡ k → distinct (take (k + 1) sets) ≡ distinct (take k sets) ++ (getD sets k [] ∷ [])
+  first-distinct e = steps ∙ with-new (distinct (take k sets)) (getD sets k []) (first-new e)
+
   pub first-count : place (getD sets k []) sets ≡ k → length (distinct (take (k + 1) sets)) ≡ length (distinct (take k sets)) + 1
-  first-count e = ap length (steps ∙ with-new (distinct (take k sets)) (getD sets k []) (first-new e)) ∙ length-append (distinct (take k sets)) (getD sets k [] ∷ [])
+  first-count e = ap length (first-distinct e) ∙ length-append (distinct (take k sets)) (getD sets k [] ∷ [])
 
   -- one that an earlier one equals is known
-  pub again-count : place (getD sets k []) sets < k → length (distinct (take (k + 1) sets)) ≡ length (distinct (take k sets))
-  again-count l =
+  pub again-distinct : place (getD sets k []) sets < k → distinct (take (k + 1) sets) ≡ distinct (take k sets)
+  again-distinct l =
       let f = place (getD sets k []) sets in
       let e : getD (take k sets) f [] ≡ getD sets k [] = getD-take k sets f [] l ∙ place-here (getD sets k []) sets (omega arith) in
       let b = id-below (take k sets) f (omega (arith, length-take k sets)) in
-      ap length (steps ∙ with-known (distinct (take k sets)) (getD sets k []) (rw e at b))
+      steps ∙ with-known (distinct (take k sets)) (getD sets k []) (rw e at b)
+
+  pub again-count : place (getD sets k []) sets < k → length (distinct (take (k + 1) sets)) ≡ length (distinct (take k sets))
+  again-count l = ap length (again-distinct l)
 
   pub again-same : place (getD sets k []) sets < k → getD sets (place (getD sets k []) sets) [] ≡ getD sets k []
   again-same l = place-here (getD sets k []) sets (omega arith)
 
 pub distinct-all-of : (sets : List Set) (k : ℕ) → length sets ≤ k → distinct (take k sets) ≡ distinct sets
 distinct-all-of sets k h = ap distinct (take-all k sets h)
+
+-- no more distinct sets than sets
+from-most : (known l : List Set) → length (distinctFrom known l) ≤ length known + length l
+unfolding distinctFrom
+from-most known [] = omega arith
+from-most known (s ∷ l) = omega (arith, from-most (withSet known s) l, one known s)
+  where
+    one : (known : List Set) (s : Set) → length (withSet known s) ≤ length known + 1
+    one known s = ⊎-elim
+        (λ h. rw (with-known known s h) (omega arith))
+        (λ h. rw (with-new known s h, length-append known (s ∷ [])) (omega arith))
+        (known-or-new known s)
+
+pub distinct-most : (sets : List Set) → length (distinct sets) ≤ length sets
+distinct-most sets = omega (arith, from-most [] sets)

@@ -10,3 +10,5 @@ pub mod IdentifySteps
 pub mod GroupLaws
 pub mod ShapeSteps
 pub mod TableSteps
+pub mod AddSteps
+pub mod GroupSteps

@@ -18,7 +18,7 @@ use Rattle.shapes.specs.Order.{order}
 use Rattle.shapes.specs.Lent.{Narrow}
 use Rattle.shapes.proofs.OrderLaws.{order-equal, order-flip, order-chain}
 use Rattle.sets.specs.declared.table.Shapes.{Shapes}
-use Rattle.sets.specs.Table.{shapeIn, slotIn, SlotFits, Searchable, FoundAt, FoundBefore, InsertedAt}
+use Rattle.sets.specs.Table.{shapeIn, slotIn, SlotFits, Searchable, FoundAt, FoundGap, InsertedAt}
 use Rattle.sets.proofs.GroupLaws.{flip-less, flip-more}
 
 pub shape-in-length : (t : Shapes) (s : ℕ) (w : List ℕ) → SlotFits t s w → length (shapeIn t s w) ≡ t .regions
@@ -89,7 +89,7 @@ module _ {t : Shapes} {n s : ℕ} {w : List ℕ} (r : Searchable t n s w) where
     pub search-here : order (shapeIn t s w) (shapeIn t (slotIn t mid w) w) ≡ Equal → FoundAt t n s w mid
     search-here e = record { below = mid-below; same = order-equal (shapeIn t s w) (shapeIn t (slotIn t mid w) w) (sought-long ∙ sym (long mid mid-below)) e }
 
-  pub search-done : {lo hi : ℕ} → Searching t n s w lo hi → hi ≤ lo → FoundBefore t n s w lo
+  pub search-done : {lo hi : ℕ} → Searching t n s w lo hi → hi ≤ lo → FoundGap t n s w lo
   search-done {lo} {hi} i h = record { most = omega (arith, i .within, i .most); behind = i .behind; ahead = λ k p q. i .ahead k (omega arith) q }
 
 -- ---- inserting

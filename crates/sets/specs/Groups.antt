@@ -1,5 +1,6 @@
 -- Groups. Document 01: "A shape has one width for each region of all sets. .. Mode 0: group sets by shape; order groups by row cost, then by
 -- width compared from the last region down to the first; number them from 0." The number of a group is its place in the list.
+use mathlib.Core.Path.{_≡_}
 use mathlib.Core.List.{List, [], _∷_, map}
 use Prim.Native.Nat.{ℕ, _+_}
 use Rattle.laws.specs.declared.Order.{Order}
@@ -16,6 +17,10 @@ use Rattle.sets.specs.Ids.{distinct}
 -- the width of each of so many regions
 unfoldable pub shapeOf : ℕ → Set → Shape
 shapeOf regions s = tabulate 0 regions (λ k. costOf (widthOf (value (wordOf s k))))
+
+-- g comes before h
+abbrev pub Before : Group → Group → Type 0
+Before g h = order (g .shape) (h .shape) ≡ Less
 
 -- a shape beside the first group, by their order: before it, in it, or in the groups behind it
 unfoldable pub placed : Order → Shape → Group → List Group → List Group → List Group

@@ -22,7 +22,7 @@ pub struct Shapes {
 // Where a shape is in the table: at a number, or missing, with the number before which it would come.
 pub enum Found {
     At(usize),
-    Before(usize),
+    Missing(usize),
 }
 
 // How the shape in slot a stands to the one in slot b.
@@ -59,7 +59,7 @@ pub fn find_shape(work: &[u32], t: Shapes, n: usize, s: usize) -> Found
             }
         }
     }
-    Found::Before(lo)
+    Found::Missing(lo)
 }
 
 // Makes v the i-th of n words from `at` on, moving the later ones up by one.
