@@ -24,8 +24,8 @@ use Rattle.laws.proofs.RangeLaws.{outside-at, only-refl, only-trans, only-set, 
 use Rattle.sets.specs.Set.{Set}
 use Rattle.sets.specs.Order.{order}
 use Rattle.sets.specs.Ids.{place, distinctFrom, distinct}
-use Rattle.sets.specs.Lent.{setOf, Stored, Held, setsIn, atMost}
-use Rattle.sets.specs.Inner.{isSame, beginsAt, CountedUp, FirstsFit, FirstsAt, GivesIds}
+use Rattle.sets.specs.Lent.{setOf, Stored, Held, setsIn, atMost, CountedUp}
+use Rattle.sets.specs.Inner.{isSame, beginsAt, FirstsFit, FirstsAt, GivesIds}
 use Rattle.sets.proofs.IdLaws.{ids-place, first-id, first-count, again-count, again-same, distinct-all-of}
 use Rattle.sets.proofs.HeldLaws.{Kept, kept-only, set-same, held-kept, held-stored, sets-length, sets-at}
 use Rattle.sets.proofs.FirstLaws.{line-at, line-has, order-same, begins-first}

@@ -13,8 +13,8 @@ use Rattle.laws.proofs.RangeLaws.{only-trans, only-weaken, only-seg, getD-seg, 
 use Rattle.laws.proofs.SortLaws.{sorted-same, sorted-all}
 use Rattle.sets.specs.Set.{Set}
 use Rattle.sets.specs.Ids.{place, distinct, sharedIds}
-use Rattle.sets.specs.Lent.{setOf, Ready, SortedAt, Held, setsIn, atMost, IdsFit, Identified}
-use Rattle.sets.specs.Inner.{CountedUp, FirstsFit, FirstsAt, GivesIds}
+use Rattle.sets.specs.Lent.{setOf, Ready, SortedAt, Held, setsIn, atMost, CountedUp, IdsFit, Identified}
+use Rattle.sets.specs.Inner.{FirstsFit, FirstsAt, GivesIds}
 use Rattle.sets.proofs.IdLaws.{place-first}
 use Rattle.sets.proofs.HeldLaws.{Kept, kept-only, kept-trans, held-kept, held-ready, set-same, sets-same, most-same, sets-length, sets-at}
 use Rattle.sets.proofs.FirstLaws.{up-all}

@@ -7,8 +7,3 @@ pub mod HeldLaws
 pub mod FirstLaws
 pub mod FirstSteps
 pub mod IdentifySteps
-pub mod GroupLaws
-pub mod ShapeSteps
-pub mod TableSteps
-pub mod AddSteps
-pub mod GroupSteps

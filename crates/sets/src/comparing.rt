@@ -1,5 +1,5 @@
 // The order of two sets: their values compared densely, from region 0 up, by a walk along both.
-use laws::Order;
+use laws::{Order, wide};
 ghost use mathlib.Core.Path.{_≡_};
 ghost use Prim.Native.Nat.{_+_, _*_, _<_, _≤_};
 ghost use lib.ListN.{length};
@@ -17,13 +17,6 @@ struct Step {
     u: u32,
     da: usize,
     db: usize,
-}
-
-// A word as an index.
-pub fn wide(x: u32) -> usize
-    ensures { λ r. ⌜ r ≡ x ⌝ }
-{
-    x as usize
 }
 
 // One step of the walk along two sets: m entries from index a on, and n from b on.

@@ -1,19 +1,18 @@
 // Ids: sets sorted once; of equal ones, which stand side by side, the first in the job gives its id to all.
 use crate::comparing::compare;
-use crate::comparing::wide;
 use crate::sorting::sort;
-use laws::Order;
+use laws::{Order, wide};
 ghost use mathlib.Core.Path.{_≡_};
 ghost use mathlib.Core.List.{List};
 ghost use Prim.Native.Nat.{ℕ, _+_, _-_, _<_, _≤_};
 ghost use lib.ListN.{length, getD};
 ghost use Rattle.laws.specs.Range.{Apart};
 ghost use Rattle.sets.specs.Set.{Set};
-ghost use Rattle.sets.specs.Lent.{Stored, IdsFit, Identified};
-ghost use Rattle.sets.specs.Inner.{beginsAt, CountedUp, FirstsFit, FirstsAt, GivesIds};
+ghost use Rattle.sets.specs.Lent.{Stored, CountedUp, IdsFit, Identified};
+ghost use Rattle.sets.specs.Inner.{beginsAt, FirstsFit, FirstsAt, GivesIds};
 
-// The numbers 0 up to n.
-fn count_up(work: &mut [u32], at: usize, n: usize)
+// The numbers 0 up to n: in mode 1 a set's own number is its id.
+pub fn own_ids(work: &mut [u32], at: usize, n: usize)
     requires { ⌜ at + n ≤ length (now work) ⌝ }
     requires { ⌜ n ≤ 4294967296 ⌝ }
     ensures { λ _. ⌜ CountedUp at n (now (work .entry)) (now (work .exit)) ⌝ }
@@ -100,7 +99,7 @@ pub fn identify(
     requires { ⌜ IdsFit (now work) index n at first ids ⌝ }
     ensures { λ r. ⌜ Identified index n at first ids (now (work .entry)) (now (work .exit)) r ⌝ }
 {
-    count_up(work, at, n);
+    own_ids(work, at, n);
     sort(work, index, at, n, first);
     firsts(work, index, at, n, first);
     give_ids(work, first, ids, n)

@@ -10,7 +10,7 @@ use Rattle.sets.proofs.comparing.compare.Tie as tie
 use Rattle.sets.proofs.comparing.compare.Reads as reads
 use Rattle.sets.proofs.comparing.compare.Lts as lts
 use Rattle.sets.proofs.comparing.walk.Reads as walk-reads
-use Rattle.sets.proofs.comparing.wide.Reads as wide-reads
+use Rattle.laws.proofs.wide.Reads as wide-reads
 
 mul-wide : tie.Need-mul-wide
 mul-wide c = omega arith

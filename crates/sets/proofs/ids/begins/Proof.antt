@@ -8,7 +8,7 @@ use Rattle.sets.proofs.ids.begins.Tie as tie
 use Rattle.sets.proofs.ids.begins.Reads as reads
 use Rattle.sets.proofs.ids.begins.Lts as lts
 use Rattle.sets.proofs.comparing.compare.Reads as compare-reads
-use Rattle.sets.proofs.comparing.wide.Reads as wide-reads
+use Rattle.laws.proofs.wide.Reads as wide-reads
 
 returns : tie.Need-returns
 returns c = begins-none _ _ _ _ (c .if1 .taken)

@@ -7,7 +7,7 @@ use Rattle.sets.proofs.ids.firsts.Statement.{statement}
 use Rattle.sets.proofs.ids.firsts.Tie as tie
 use Rattle.sets.proofs.ids.firsts.Reads as reads
 use Rattle.sets.proofs.ids.firsts.Lts as lts
-use Rattle.sets.proofs.comparing.wide.Reads as wide-reads
+use Rattle.laws.proofs.wide.Reads as wide-reads
 use Rattle.sets.proofs.ids.begins.Reads as begins-reads
 
 abbrev Inv-loop : tie.InvT-loop

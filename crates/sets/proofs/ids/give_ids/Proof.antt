@@ -7,7 +7,7 @@ use Rattle.sets.proofs.ids.give_ids.Statement.{statement}
 use Rattle.sets.proofs.ids.give_ids.Tie as tie
 use Rattle.sets.proofs.ids.give_ids.Reads as reads
 use Rattle.sets.proofs.ids.give_ids.Lts as lts
-use Rattle.sets.proofs.comparing.wide.Reads as wide-reads
+use Rattle.laws.proofs.wide.Reads as wide-reads
 
 abbrev Inv-loop : tie.InvT-loop
 Inv-loop work₀ first ids n next₀ k₀ work next k = Giving first ids n work₀ work next k

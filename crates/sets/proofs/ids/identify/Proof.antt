@@ -5,39 +5,39 @@ use Rattle.sets.proofs.ids.identify.Statement.{statement}
 use Rattle.sets.proofs.ids.identify.Tie as tie
 use Rattle.sets.proofs.ids.identify.Reads as reads
 use Rattle.sets.proofs.ids.identify.Lts as lts
-use Rattle.sets.proofs.ids.count_up.Reads as count-up-reads
+use Rattle.sets.proofs.ids.own_ids.Reads as own-ids-reads
 use Rattle.sets.proofs.ids.firsts.Reads as firsts-reads
 use Rattle.sets.proofs.ids.give_ids.Reads as give-ids-reads
 use Rattle.sets.proofs.sorting.sort.Reads as sort-reads
 
-count-up-requires : tie.Need-count-up-requires
-count-up-requires c κs = search needs
+own-ids-requires : tie.Need-own-ids-requires
+own-ids-requires c κs = search needs
 
 sort-requires : tie.Need-sort-requires
-sort-requires c κs = sort-ready (c .before .before .before .before .before .before .pre) (c .before .before .before .count-up .ensures)
+sort-requires c κs = sort-ready (c .before .before .before .before .before .before .pre) (c .before .before .before .own-ids .ensures)
 
 firsts-requires : tie.Need-firsts-requires
-firsts-requires c κs = firsts-fit (c .before .before .before .before .before .before .before .before .before .before .pre) (c .before .before .before .before .before .before .before .count-up .ensures) (c .before .before .before .sort .ensures)
+firsts-requires c κs = firsts-fit (c .before .before .before .before .before .before .before .before .before .before .pre) (c .before .before .before .before .before .before .before .own-ids .ensures) (c .before .before .before .sort .ensures)
 
 give-ids-requires : tie.Need-give-ids-requires
 give-ids-requires c κs =
     let r = c .before .before .before .before .before .before .before .before .before .before .before .before .before .before .pre in
-    let n = c .before .before .before .before .before .before .before .before .before .before .before .count-up .ensures in
+    let n = c .before .before .before .before .before .before .before .before .before .before .before .own-ids .ensures in
     let s = c .before .before .before .before .before .before .before .sort .ensures in
     let f = c .before .before .before .firsts .ensures in
     ((room-first r n s f, room-ids r n s f), (ids-apart r n s f, (r .few, first-most r n s f)))
 
 same-length : tie.Need-same-length
-same-length c = identified (c .before .before .before .before .before .before .before .before .before .before .before .before .before .before .before .before .before .pre) (c .before .before .before .before .before .before .before .before .before .before .before .before .before .before .count-up .ensures) (c .before .before .before .before .before .before .before .before .before .before .sort .ensures) (c .before .before .before .before .before .before .firsts .ensures) (c .before .before .give-ids .ensures) .only .long
+same-length c = identified (c .before .before .before .before .before .before .before .before .before .before .before .before .before .before .before .before .before .pre) (c .before .before .before .before .before .before .before .before .before .before .before .before .before .before .own-ids .ensures) (c .before .before .before .before .before .before .before .before .before .before .sort .ensures) (c .before .before .before .before .before .before .firsts .ensures) (c .before .before .give-ids .ensures) .only .long
 
 returns : tie.Need-returns
-returns c = identified (c .before .before .before .before .before .before .before .before .before .before .before .before .before .before .before .before .before .pre) (c .before .before .before .before .before .before .before .before .before .before .before .before .before .before .count-up .ensures) (c .before .before .before .before .before .before .before .before .before .before .sort .ensures) (c .before .before .before .before .before .before .firsts .ensures) (c .before .before .give-ids .ensures)
+returns c = identified (c .before .before .before .before .before .before .before .before .before .before .before .before .before .before .before .before .before .pre) (c .before .before .before .before .before .before .before .before .before .before .before .before .before .before .own-ids .ensures) (c .before .before .before .before .before .before .before .before .before .before .sort .ensures) (c .before .before .before .before .before .before .firsts .ensures) (c .before .before .give-ids .ensures)
 
 pub identify-spec : {M : Type 1} → statement M
 identify-spec =
     tie.close
     (tie.spec
-    count-up-requires
+    own-ids-requires
     sort-requires
     firsts-requires
     give-ids-requires

@@ -1,0 +1,5 @@
+pub mod GroupLaws
+pub mod ShapeSteps
+pub mod TableSteps
+pub mod AddSteps
+pub mod GroupSteps
