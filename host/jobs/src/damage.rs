@@ -1,0 +1,109 @@
+//! Damage: small changes that a job file can suffer on its way. The result may
+//! still be a sound job.
+
+use crate::{Rng, RECORD};
+
+/// The kinds of damage.
+#[derive(Clone, Copy, Debug, PartialEq, Eq)]
+pub enum Damage {
+    /// One byte gets another value.
+    ByteChanged,
+    /// One byte that is zero gets a small value, or one small byte becomes zero:
+    /// kinds, region numbers and zero bytes are hit more often than by chance.
+    SmallByteChanged,
+    /// The end is cut off, at any byte.
+    Truncated,
+    /// The end is cut off between two records.
+    RecordsCut,
+    /// Two records change places.
+    RecordsSwapped,
+    /// A record stands twice, once at another place.
+    RecordRepeated,
+    /// A record is left out.
+    RecordDropped,
+}
+
+/// All kinds of damage.
+pub const ALL: [Damage; 7] = [
+    Damage::ByteChanged,
+    Damage::SmallByteChanged,
+    Damage::Truncated,
+    Damage::RecordsCut,
+    Damage::RecordsSwapped,
+    Damage::RecordRepeated,
+    Damage::RecordDropped,
+];
+
+/// The job with damage of a kind that the random numbers choose. A job without
+/// records is left as it is.
+pub fn any(rng: &mut Rng, job: &[u8]) -> (Damage, Vec<u8>) {
+    let kind = rng.pick(&ALL);
+    (kind, of_kind(kind, rng, job))
+}
+
+/// The job with damage of one kind.
+pub fn of_kind(kind: Damage, rng: &mut Rng, job: &[u8]) -> Vec<u8> {
+    let mut bytes = job.to_vec();
+    let records = job.len() / RECORD;
+    if records == 0 {
+        return bytes;
+    }
+    let one = RECORD * rng.below(records);
+    let other = RECORD * rng.below(records);
+    match kind {
+        Damage::ByteChanged => {
+            let at = rng.below(bytes.len());
+            bytes[at] = bytes[at].wrapping_add(rng.between(1, 255) as u8);
+        }
+        Damage::SmallByteChanged => {
+            let at = one + rng.pick(&[0, 0, 1, 1, 2, 3, 8, 9, 10, 11]);
+            bytes[at] = if bytes[at] == 0 {
+                rng.between(1, 4) as u8
+            } else {
+                rng.below(bytes[at] as usize) as u8
+            };
+        }
+        Damage::Truncated => bytes.truncate(rng.below(job.len())),
+        Damage::RecordsCut => bytes.truncate(one),
+        Damage::RecordsSwapped => {
+            for i in 0..RECORD {
+                bytes.swap(one + i, other + i);
+            }
+        }
+        Damage::RecordRepeated => {
+            bytes.splice(other..other, job[one..one + RECORD].iter().copied());
+        }
+        Damage::RecordDropped => {
+            bytes.drain(one..one + RECORD);
+        }
+    }
+    bytes
+}
+
+#[cfg(test)]
+mod tests {
+    use super::*;
+    use crate::Job;
+
+    #[test]
+    fn every_kind_keeps_its_word() {
+        let job = Job::one_axis(2).with(&[&[(0, 1)], &[(1, 300)]]).to_bytes();
+        for seed in 0..200 {
+            for kind in ALL {
+                let hurt = of_kind(kind, &mut Rng::new(seed), &job);
+                let changed = hurt.iter().zip(&job).filter(|(a, b)| a != b).count();
+                match kind {
+                    Damage::ByteChanged | Damage::SmallByteChanged => {
+                        assert_eq!((hurt.len(), changed), (job.len(), 1))
+                    }
+                    Damage::Truncated => assert!(hurt.len() < job.len() && changed == 0),
+                    Damage::RecordsCut => assert!(hurt.len() % RECORD == 0 && changed == 0),
+                    Damage::RecordsSwapped => assert_eq!(hurt.len(), job.len()),
+                    Damage::RecordRepeated => assert_eq!(hurt.len(), job.len() + RECORD),
+                    Damage::RecordDropped => assert_eq!(hurt.len(), job.len() - RECORD),
+                }
+            }
+        }
+        assert!(any(&mut Rng::new(0), &[]).1.is_empty());
+    }
+}
