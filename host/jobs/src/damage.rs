@@ -80,6 +80,36 @@ pub fn of_kind(kind: Damage, rng: &mut Rng, job: &[u8]) -> Vec<u8> {
     bytes
 }
 
+/// A store with one field or byte changed, or its end cut off, or left as it is.
+pub fn store(rng: &mut Rng, store: &[u8]) -> Vec<u8> {
+    let mut bytes = store.to_vec();
+    if bytes.len() < 2 {
+        return bytes;
+    }
+    match rng.below(8) {
+        0 => {}
+        1 => bytes.truncate(rng.below(store.len())),
+        2 => bytes.truncate(store.len() - 1),
+        3 | 4 => {
+            // A field of two bytes, most often in the header or a subtable's.
+            let at = 2 * rng.below(bytes.len().min(64) / 2);
+            let old = u16::from_be_bytes([bytes[at], bytes[at + 1]]);
+            let new = match rng.below(4) {
+                0 => old.wrapping_add(1),
+                1 => old.wrapping_sub(1),
+                2 => old ^ 0x8000,
+                _ => rng.pick(&[0, 1, 2, 0x7FFF, 0x8000, 0x8001, 0xFFFF]),
+            };
+            bytes[at..at + 2].copy_from_slice(&new.to_be_bytes());
+        }
+        _ => {
+            let at = rng.below(bytes.len());
+            bytes[at] = bytes[at].wrapping_add(rng.between(1, 255) as u8);
+        }
+    }
+    bytes
+}
+
 #[cfg(test)]
 mod tests {
     use super::*;

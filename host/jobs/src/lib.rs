@@ -1,6 +1,7 @@
 //! Jobs for tests.
 //!
 //! * [`Job`]: regions and sets, written as 12-byte records and read back.
+//! * [`examples`]: document 01's, by name.
 //! * [`random`]: the job of a seed.
 //! * [`small`]: all jobs of a small kind, one after another.
 //! * [`edges`]: the large jobs at the limits of document 01.
@@ -9,6 +10,7 @@
 
 pub mod damage;
 pub mod edges;
+pub mod examples;
 pub mod hex;
 mod job;
 pub mod random;
