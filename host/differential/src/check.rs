@@ -18,6 +18,7 @@ fn answer(case: &Case<'_>) -> Result<(), String> {
     match (said, sound) {
         (Ok(done), Some(job)) => {
             laws::done(&job, case.mode, &done)?;
+            laws::rows_read_back(&job, &done)?;
             source(&job, case.mode, &done)
         }
         (Err(refused), Some(job)) => full(&job, case.mode, refused),

@@ -6,7 +6,8 @@
 //! * [`check`]: what is compared on one job.
 //! * [`laws`]: what must hold of an answer, whoever gave it.
 //! * [`replay`]: the recorded answers, without the source.
-//! * [`stores`]: the reader on good and on damaged stores.
+//! * [`sizes`]: lent memory around each size that is asked for.
+//! * [`stores`]: the reader on damaged stores.
 //! * [`Tally`]: how many comparisons held.
 
 pub mod cases;

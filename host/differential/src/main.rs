@@ -55,7 +55,6 @@ fn main() -> ExitCode {
         every(&mut |case| tally.count(sizes::check(case)));
         tally
     });
-    show("rows read back", &|| stores::good(from..from + seeds / 10));
     show("damaged stores", &|| {
         stores::damaged(from..from + seeds / 10, 100)
     });

@@ -1,24 +1,8 @@
-//! The reader on good and on damaged stores.
+//! The reader on damaged stores. (Good ones: [`crate::laws::rows_read_back`].)
 
-use crate::{laws, Tally};
+use crate::Tally;
 use jobs::{damage, random, Rng};
 use plain::{number, read, Sizes};
-
-/// Every row of the stores of some seeds, read back, in both modes.
-pub fn good(seeds: impl Iterator<Item = u64>) -> Tally {
-    let mut tally = Tally::default();
-    for seed in seeds {
-        let job = random::job(seed);
-        for mode in [0, 1] {
-            let built = plain::build(job.axes as u32, mode, &job.to_bytes(), &Sizes::PLENTY);
-            let outcome = built
-                .map_err(|refused| refused.to_string())
-                .and_then(|done| laws::rows_read_back(&job, &done));
-            tally.count(outcome.map_err(|what| format!("seed {seed}, mode {mode}: {what}")));
-        }
-    }
-    tally
-}
 
 /// Some places of a damaged store of each seed, read: an answer always comes, and
 /// it is the answer to a longer store that begins with this one, unless it is
@@ -27,11 +11,11 @@ pub fn damaged(seeds: impl Iterator<Item = u64>, readings: usize) -> Tally {
     let mut tally = Tally::default();
     for seed in seeds {
         let job = random::job(seed);
-        let mode = (seed / 12 % 2) as u32;
+        let rng = &mut Rng::new(!seed);
+        let mode = rng.below(2) as u32;
         let Ok(done) = plain::build(job.axes as u32, mode, &job.to_bytes(), &Sizes::PLENTY) else {
             continue;
         };
-        let rng = &mut Rng::new(!seed);
         for _ in 0..readings {
             let store = damage::store(rng, &done.store);
             let longer = [&store[..], &[0; 7]].concat();

@@ -66,14 +66,16 @@ struct Recipe {
 use Value::{Edge, Four, One, Tiny, Two, Zero};
 
 #[rustfmt::skip]
-const RECIPES: [Recipe; 12] = [
+const RECIPES: [Recipe; 14] = [
     Recipe { name: "tiny", axes: (1, 2), regions: (0, 3), twins: 4, sets: (0, 6), patterns: 0, spread: 2, values: &[Zero, Tiny, One, Two, Four], again: 4 },
     Recipe { name: "width edges", axes: (1, 3), regions: (1, 4), twins: 0, sets: (1, 12), patterns: 0, spread: 2, values: &[Edge], again: 8 },
     Recipe { name: "few shapes", axes: (1, 2), regions: (2, 8), twins: 0, sets: (20, 120), patterns: 4, spread: 2, values: &[One, Two], again: 10 },
     Recipe { name: "many shapes", axes: (1, 2), regions: (3, 7), twins: 0, sets: (20, 60), patterns: 0, spread: 2, values: &[One, Two, Four], again: 0 },
+    Recipe { name: "more shapes", axes: (1, 1), regions: (5, 9), twins: 0, sets: (80, 160), patterns: 0, spread: 2, values: &[One, Two, Four], again: 0 },
+    Recipe { name: "hundreds of sets", axes: (1, 2), regions: (4, 10), twins: 5, sets: (200, 600), patterns: 12, spread: 2, values: &[Zero, One, Two], again: 3 },
     Recipe { name: "sets repeated", axes: (1, 2), regions: (1, 4), twins: 0, sets: (10, 60), patterns: 3, spread: 2, values: &[Zero, Tiny], again: 2 },
     Recipe { name: "equal regions", axes: (1, 4), regions: (4, 12), twins: 2, sets: (4, 30), patterns: 0, spread: 3, values: &[Zero, Tiny, One, Two], again: 6 },
-    Recipe { name: "ties", axes: (1, 1), regions: (3, 10), twins: 0, sets: (6, 40), patterns: 0, spread: 8, values: &[Tiny], again: 0 },
+    Recipe { name: "ties", axes: (1, 1), regions: (4, 12), twins: 0, sets: (10, 50), patterns: 0, spread: 4, values: &[Tiny], again: 0 },
     Recipe { name: "gains near 0", axes: (1, 1), regions: (2, 4), twins: 0, sets: (8, 60), patterns: 5, spread: 2, values: &[One], again: 0 },
     Recipe { name: "bytes beside longs", axes: (1, 1), regions: (2, 8), twins: 0, sets: (4, 40), patterns: 3, spread: 1, values: &[Zero, One, Two, Four], again: 5 },
     Recipe { name: "zeros", axes: (1, 2), regions: (1, 6), twins: 3, sets: (1, 20), patterns: 0, spread: 2, values: &[Zero, Zero, Zero, One], again: 4 },
@@ -197,5 +199,5 @@ mod tests {
         assert_eq!(digest, FIRST_600, "the jobs changed: record answers again");
     }
 
-    const FIRST_600: u64 = 2_035_224_000_621_605_090;
+    const FIRST_600: u64 = 16_539_239_914_555_236_486;
 }

@@ -9,7 +9,7 @@ use std::{env, fs};
 const USAGE: &str = "usage: oracle record [FOLDER]    (FOLDER: the repository's vectors/)";
 
 /// Seeds 0 to this, without it, are recorded.
-const SEEDS: u64 = 120;
+const SEEDS: u64 = 112;
 
 fn main() -> ExitCode {
     let arguments: Vec<String> = env::args().skip(1).collect();
