@@ -64,6 +64,22 @@ pub fn records(visit: &mut dyn FnMut(&Case<'_>)) {
     });
 }
 
+/// Every small damage to one job with two axes, two of its regions equal.
+pub fn each_damage(visit: &mut dyn FnMut(&Case<'_>)) {
+    let mut job = Job::one_axis(3).with(&[&[(2, 300), (0, -1)], &[], &[(1, 0), (0, 2)]]);
+    job.axes = 2;
+    for (number, region) in job.regions.iter_mut().enumerate() {
+        region.push([0, number as i16 / 2, 1]);
+    }
+    job.regions[1] = job.regions[2].clone();
+    let mut number = 0;
+    damage::each(&job.to_bytes(), |bytes| {
+        let name = format_args!("damage {number}");
+        both(job.axes, bytes, &name, visit);
+        number += 1;
+    });
+}
+
 /// The random jobs of some seeds, in both modes.
 pub fn random(seeds: std::ops::Range<u64>, visit: &mut dyn FnMut(&Case<'_>)) {
     for seed in seeds {

@@ -44,6 +44,7 @@ fn main() -> ExitCode {
     show("edges", &|| over(cases::edges));
     show("all small jobs", &|| over(cases::small));
     show("all short record sequences", &|| over(cases::records));
+    show("every damage to one job", &|| over(cases::each_damage));
     show("random jobs", &|| over(|v| cases::random(range.clone(), v)));
     show("damaged jobs", &|| {
         over(|v| cases::damaged(range.clone(), v))

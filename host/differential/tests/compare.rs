@@ -30,6 +30,11 @@ fn all_short_record_sequences() {
 }
 
 #[test]
+fn every_damage_to_one_job() {
+    over(cases::each_damage);
+}
+
+#[test]
 fn random_jobs() {
     over(|visit| cases::random(0..20_000, visit));
 }

@@ -80,6 +80,31 @@ pub fn of_kind(kind: Damage, rng: &mut Rng, job: &[u8]) -> Vec<u8> {
     bytes
 }
 
+/// Shows the job with every byte changed to every other value, cut off at every
+/// byte, and with every two records swapped and every record repeated everywhere.
+pub fn each(job: &[u8], mut visit: impl FnMut(&[u8])) {
+    let mut bytes = job.to_vec();
+    for at in 0..job.len() {
+        for change in 1..=255 {
+            bytes[at] = job[at].wrapping_add(change);
+            visit(&bytes);
+        }
+        bytes[at] = job[at];
+        visit(&job[..at]);
+    }
+    let records: Vec<&[u8]> = job.chunks(RECORD).collect();
+    for one in 0..records.len() {
+        for other in 0..records.len() {
+            let mut swapped = records.clone();
+            swapped.swap(one, other);
+            visit(&swapped.concat());
+            let mut repeated = records.clone();
+            repeated.insert(other, records[one]);
+            visit(&repeated.concat());
+        }
+    }
+}
+
 /// A store with one field or byte changed, or its end cut off, or left as it is.
 pub fn store(rng: &mut Rng, store: &[u8]) -> Vec<u8> {
     let mut bytes = store.to_vec();
@@ -135,5 +160,8 @@ mod tests {
             }
         }
         assert!(any(&mut Rng::new(0), &[]).1.is_empty());
+        let (mut count, records) = (0, job.len() / RECORD);
+        each(&job, |_| count += 1);
+        assert_eq!(count, 256 * job.len() + 2 * records * records);
     }
 }
