@@ -1,0 +1,54 @@
+//! The recorded answers, given again. Needs no source.
+
+use crate::check::same;
+use crate::Tally;
+use oracle::vectors::{self, word_bytes, Bytes};
+use plain::Sizes;
+use std::fs;
+use std::path::{Path, PathBuf};
+
+/// The repository's recorded answers.
+pub fn folder() -> PathBuf {
+    PathBuf::from(concat!(env!("CARGO_MANIFEST_DIR"), "/../../vectors"))
+}
+
+/// Replays every `.txt` of a folder.
+pub fn all(folder: &Path) -> Result<Tally, String> {
+    let said = |e: std::io::Error| format!("{}: {e}", folder.display());
+    let mut paths = Vec::new();
+    for entry in fs::read_dir(folder).map_err(said)? {
+        paths.push(entry.map_err(said)?.path());
+    }
+    paths.retain(|path| path.extension().is_some_and(|e| e == "txt"));
+    paths.sort();
+    let mut tally = Tally::default();
+    for path in paths {
+        let told = |e: String| format!("{}: {e}", path.display());
+        let text = fs::read_to_string(&path).map_err(|e| told(e.to_string()))?;
+        for case in vectors::parse(&text).map_err(told)? {
+            let outcome = case_again(&case);
+            tally.count(outcome.map_err(|e| told(format!("{}: {e}", case.name))));
+        }
+    }
+    Ok(tally)
+}
+
+/// The plain reading gives the recorded answer.
+fn case_again(case: &vectors::Case) -> Result<(), String> {
+    let done = plain::build(case.axes, case.mode, &case.job, &Sizes::PLENTY)
+        .map_err(|refused| format!("refused: {refused}"))?;
+    let is = |what: &str, recorded: &Bytes, bytes: &[u8]| same(what, &recorded.is(bytes), &true);
+    is("ids", &case.ids, &word_bytes(&done.ids))?;
+    is("map", &case.map, &word_bytes(&done.map))?;
+    is("store", &case.store, &done.store)?;
+    is("log", &case.log, &word_bytes(&done.log))?;
+    let c = &done.counts;
+    if case.mode == 0 {
+        same(
+            "sizes",
+            &case.sizes,
+            &[c.shapes, c.size_before, c.size_after],
+        )?;
+    }
+    Ok(())
+}

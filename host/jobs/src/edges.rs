@@ -1,0 +1,52 @@
+//! The large jobs at the limits of document 01, all over one axis.
+
+use crate::Job;
+
+/// `count` different sets of one shape: {R0: 70,000 + n} for the n-th.
+pub fn one_shape(count: usize) -> Job {
+    let mut job = Job::one_axis(1);
+    job.sets = (0..count).map(|n| vec![(0, 70_000 + n as i32)]).collect();
+    job
+}
+
+/// `count` sets of as many different shapes, at most 4,096: the digits of the
+/// set's number in base 4 are the widths of six regions.
+pub fn shapes(count: usize) -> Job {
+    const OF_WIDTH: [i32; 4] = [0, 1, 1_000, 100_000];
+    let mut job = Job::one_axis(6);
+    let value = |n: usize, r: u32| (r as u8, OF_WIDTH[n / 4usize.pow(r) % 4]);
+    job.sets = (0..count)
+        .map(|n| (0..6).map(|r| value(n, r)).collect())
+        .collect();
+    job
+}
+
+/// A job of 1,048,576 records: 256 regions, and 4,095 sets of 255 values, the
+/// n-th without region n mod 256.
+pub fn most_records() -> Job {
+    let mut job = Job::one_axis(256);
+    let value = |n: usize, r: usize| (r as u8, (n * 7 + r * 11) as i32 % 100 + 1);
+    let set = |n: usize| {
+        (0..256)
+            .filter(move |r| *r != n % 256)
+            .map(move |r| value(n, r))
+    };
+    job.sets = (0..4_095).map(|n| set(n).collect()).collect();
+    job
+}
+
+#[cfg(test)]
+mod tests {
+    use super::*;
+
+    #[test]
+    fn at_the_record_limit() {
+        assert_eq!(most_records().records(), 1_048_576);
+    }
+
+    #[test]
+    fn all_different() {
+        let sets: std::collections::BTreeSet<_> = shapes(4_096).sets.into_iter().collect();
+        assert_eq!(sets.len(), 4_096);
+    }
+}

@@ -1,0 +1,21 @@
+//! Jobs for tests.
+//!
+//! * [`Job`]: regions and sets, written as 12-byte records and read back.
+//! * [`examples`]: document 01's, by name.
+//! * [`random`]: the job of a seed.
+//! * [`small`]: all jobs of a small kind, one after another.
+//! * [`edges`]: the large jobs at the limits of document 01.
+//! * [`damage`]: bytes changed, records cut off, swapped, repeated.
+//! * [`Rng`]: the random numbers behind all of it; [`hex`]: bytes as text.
+
+pub mod damage;
+pub mod edges;
+pub mod examples;
+pub mod hex;
+mod job;
+pub mod random;
+mod rng;
+pub mod small;
+
+pub use job::{Job, Region, RECORD};
+pub use rng::Rng;

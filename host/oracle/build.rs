@@ -1,0 +1,57 @@
+//! Finds the source. Its files are compiled where they stand, unchanged; no text
+//! of theirs is in this repository. Where they are not there, the crate is built
+//! without them and says so (`oracle::PRESENT`).
+
+use std::env;
+use std::fs;
+use std::path::{Path, PathBuf};
+
+/// Names the folder of the source.
+const VARIABLE: &str = "FENIKEZO_SOURCE";
+
+/// The folder of the source, from the repository's root.
+const DEFAULT: &str = "../shared/docs/src";
+
+/// Where its files stand within it.
+const FILES: &str = "src/tables/variations";
+
+fn main() {
+    println!("cargo:rerun-if-env-changed={VARIABLE}");
+    println!("cargo:rustc-check-cfg=cfg(source)");
+    let here = PathBuf::from(env::var_os("CARGO_MANIFEST_DIR").expect("cargo sets it"));
+    let out = PathBuf::from(env::var_os("OUT_DIR").expect("cargo sets it"));
+    let folder = match env::var_os(VARIABLE) {
+        Some(named) => PathBuf::from(named),
+        None => here.join("../..").join(DEFAULT),
+    };
+    let mut text = String::new();
+    let mut all = true;
+    for name in ["common_builder", "ivs_builder"] {
+        let path = folder.join(FILES).join(name).with_extension("rs");
+        println!("cargo:rerun-if-changed={}", path.display());
+        all &= path.is_file();
+        text += &declaration(name, &path);
+    }
+    if all {
+        println!("cargo:rustc-cfg=source");
+    } else {
+        text.clear();
+        let folder = folder.display();
+        println!("cargo:warning=no source in {folder} ({VARIABLE} names it): built without it");
+    }
+    fs::write(out.join("source.rs"), text).expect("OUT_DIR can be written");
+}
+
+/// The lines that declare the module `name` at `path`.
+fn declaration(name: &str, path: &Path) -> String {
+    let path = path.canonicalize().unwrap_or_else(|_| path.to_path_buf());
+    let upper = name.to_uppercase();
+    format!(
+        "/// The source's file of that name.\n\
+         #[allow(missing_docs, dead_code)]\n\
+         #[path = {path:?}]\n\
+         pub mod {name};\n\
+         /// Its text, for its digest.\n\
+         pub(crate) const {upper}: &[u8] = include_bytes!({path:?});\n"
+    )
+}

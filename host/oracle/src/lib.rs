@@ -1,0 +1,112 @@
+//! The source, asked.
+//!
+//! `ivs_builder.rs` and `common_builder.rs` of write-fonts 0.53.0 are compiled
+//! unchanged from where they stand (`build.rs`), over stand-ins of the few types
+//! they lean on ([`tables`]), with the real `indexmap` and `log`. [`build`] hands
+//! regions and sets to the source's builder and gives back what it made;
+//! [`Store::bytes`] places that as document 01 says. [`vectors`] writes and reads
+//! recorded answers, for where the source is not.
+//!
+//! The source tells what it merges by `log::trace!`; [`build_traced`] listens.
+
+mod placing;
+pub mod tables;
+mod trace;
+pub mod vectors;
+
+pub use trace::Trace;
+
+use jobs::Region;
+#[cfg(source)]
+use tables::variations::ivs_builder::VariationStoreBuilder;
+use tables::variations::{ItemVariationStore, RegionAxisCoordinates, VariationRegion};
+
+/// The source was there when this was compiled.
+pub const PRESENT: bool = cfg!(source);
+
+/// The pieces of a store, as the source made them.
+pub type Store = ItemVariationStore;
+
+/// What the source answers to a job.
+#[derive(Clone, Debug)]
+pub struct Built {
+    /// The store's pieces.
+    pub store: Store,
+    /// The id that each `add_deltas` gave.
+    pub ids: Vec<u32>,
+    /// For each id, outer x 65,536 + inner.
+    pub map: Vec<u32>,
+}
+
+/// A set: (number of a region, value).
+pub type Set = Vec<(u8, i32)>;
+
+/// Builds with the source: mode 0 deduplicating, any other implicit indices. A
+/// set must name only regions that there are. None without the source.
+///
+/// # Panics
+/// Where the source does: in mode 1 above 65,535 sets.
+pub fn build(axes: u16, mode: u32, regions: &[Region], sets: &[Set]) -> Option<Built> {
+    let regions: Vec<VariationRegion> = regions.iter().map(region).collect();
+    ask(axes, mode, &regions, sets)
+}
+
+/// [`build`], with what the source tells of its merging.
+pub fn build_traced(
+    axes: u16,
+    mode: u32,
+    regions: &[Region],
+    sets: &[Set],
+) -> Option<(Built, Trace)> {
+    let (built, trace) = trace::listen(|| build(axes, mode, regions, sets));
+    built.map(|built| (built, trace))
+}
+
+fn region(region: &Region) -> VariationRegion {
+    let axis = |c: &[i16; 3]| RegionAxisCoordinates::from(*c);
+    VariationRegion::new(region.iter().map(axis).collect())
+}
+
+#[cfg(source)]
+fn ask(axes: u16, mode: u32, regions: &[VariationRegion], sets: &[Set]) -> Option<Built> {
+    let mut builder = if mode == 0 {
+        VariationStoreBuilder::new(axes)
+    } else {
+        VariationStoreBuilder::new_with_implicit_indices(axes)
+    };
+    let value = |v: &(u8, i32)| (regions[v.0 as usize].clone(), v.1);
+    let ids: Vec<u32> = sets
+        .iter()
+        .map(|set| builder.add_deltas(set.iter().map(value).collect::<Vec<_>>()))
+        .collect();
+    let (store, remapping) = builder.build();
+    let last = ids.iter().max().map_or(0, |&id| id + 1);
+    let word = |id: u32| {
+        let index = remapping.get(id).expect("the source maps every id");
+        65_536 * u32::from(index.delta_set_outer_index) + u32::from(index.delta_set_inner_index)
+    };
+    Some(Built {
+        store,
+        map: (0..last).map(word).collect(),
+        ids,
+    })
+}
+
+#[cfg(not(source))]
+fn ask(_: u16, _: u32, _: &[VariationRegion], _: &[Set]) -> Option<Built> {
+    None
+}
+
+/// The length and digest of each file of the source; empty without it.
+pub fn source_digests() -> Vec<(&'static str, usize, u64)> {
+    #[cfg(source)]
+    let files: [(&str, &[u8]); 2] = [
+        ("ivs_builder.rs", tables::variations::IVS_BUILDER),
+        ("common_builder.rs", tables::variations::COMMON_BUILDER),
+    ];
+    #[cfg(not(source))]
+    let files: [(&str, &[u8]); 0] = [];
+    let digest =
+        |(name, text): &(&'static str, &[u8])| (*name, text.len(), jobs::hex::digest(text));
+    files.iter().map(digest).collect()
+}

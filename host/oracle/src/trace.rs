@@ -1,0 +1,132 @@
+//! What the source tells of its merging, heard through the real `log` crate: how
+//! many groups there are and what they cost before and after, and each join.
+
+use std::cell::RefCell;
+use std::fmt::{self, Write};
+use std::sync::Once;
+
+/// What one build told. Empty in mode 1, where nothing is merged.
+#[derive(Clone, Debug, Default, PartialEq, Eq)]
+pub struct Trace {
+    /// N: the groups before merging.
+    pub shapes: u64,
+    /// The modelled size before merging.
+    pub size_before: u64,
+    /// Each join: first number, second number, gain.
+    pub log: Vec<u32>,
+    /// The groups after merging.
+    pub groups_after: u64,
+    /// The modelled size after merging.
+    pub size_after: u64,
+}
+
+/// The lines that are listened to, by how they begin.
+const LINES: [&str; 3] = ["optimizing ", "combining ", "optimized "];
+
+thread_local! {
+    /// The trace of this thread's build, while it is listened to.
+    static HEARD: RefCell<Option<Trace>> = const { RefCell::new(None) };
+}
+
+/// Does `work` and gives what the source told of it.
+pub fn listen<T>(work: impl FnOnce() -> T) -> (T, Trace) {
+    static ONCE: Once = Once::new();
+    ONCE.call_once(|| {
+        if log::set_logger(&Listener).is_ok() {
+            log::set_max_level(log::LevelFilter::Trace);
+        }
+    });
+    HEARD.with(|heard| heard.replace(Some(Trace::default())));
+    let done = work();
+    let trace = HEARD.with(|heard| heard.take());
+    (done, trace.unwrap_or_default())
+}
+
+struct Listener;
+
+impl log::Log for Listener {
+    fn enabled(&self, _: &log::Metadata<'_>) -> bool {
+        HEARD.with(|heard| heard.borrow().is_some())
+    }
+
+    fn log(&self, record: &log::Record<'_>) {
+        if !self.enabled(record.metadata()) {
+            return;
+        }
+        let mut line = Line(String::new());
+        if write!(line, "{}", record.args()).is_ok() {
+            HEARD.with(|heard| {
+                if let Some(trace) = heard.borrow_mut().as_mut() {
+                    trace.hear(&line.0);
+                }
+            });
+        }
+    }
+
+    fn flush(&self) {}
+}
+
+impl Trace {
+    fn hear(&mut self, line: &str) {
+        let [before, join, after] = LINES.map(|l| line.starts_with(l));
+        match &numbers(line)[..] {
+            [groups, size] if before => (self.shapes, self.size_before) = (*groups, *size),
+            [groups, size, _] if after => (self.groups_after, self.size_after) = (*groups, *size),
+            [first, second, gain] if join => {
+                self.log.extend([first, second, gain].map(|n| *n as u32));
+            }
+            _ => panic!("the source's line is not understood: {line}"),
+        }
+    }
+}
+
+/// The runs of digits in a line. The source's shapes have none; it writes a gain
+/// with a minus before it.
+fn numbers(line: &str) -> Vec<u64> {
+    line.split(|c: char| !c.is_ascii_digit())
+        .filter_map(|digits| digits.parse().ok())
+        .collect()
+}
+
+/// A line that gives up as soon as it begins like none of [`LINES`]: the source
+/// tells much more, and writing all of it out would take most of a run.
+struct Line(String);
+
+impl Write for Line {
+    fn write_str(&mut self, part: &str) -> fmt::Result {
+        self.0.push_str(part);
+        let wanted = |l: &&str| l.starts_with(&self.0) || self.0.starts_with(*l);
+        if LINES.iter().any(wanted) {
+            Ok(())
+        } else {
+            Err(fmt::Error)
+        }
+    }
+}
+
+#[cfg(test)]
+mod tests {
+    use super::*;
+
+    #[test]
+    fn lines_are_understood() {
+        let mut trace = Trace::default();
+        trace.hear("optimizing 3 encodings, 41B");
+        trace.hear("combining 0+1 (B-, -B -8)");
+        trace.hear("optimized 2 encodings, 33B, (8B saved)");
+        assert_eq!(
+            trace,
+            Trace {
+                shapes: 3,
+                size_before: 41,
+                log: vec![0, 1, 8],
+                groups_after: 2,
+                size_after: 33,
+            }
+        );
+        let mut line = Line(String::new());
+        assert!(write!(line, "adding ({})", 1).is_err());
+        let mut line = Line(String::new());
+        assert!(write!(line, "combining {}+{}", 1, 2).is_ok());
+    }
+}

@@ -1,0 +1,70 @@
+//! Groups of sets: by shape at first, and as they are written at last.
+
+use crate::sets::{dense, Set};
+use crate::widths::Shape;
+
+/// A shape and the sets (by id) that are laid into it.
+#[derive(Clone, Debug)]
+pub struct Group {
+    pub shape: Shape,
+    pub sets: Vec<usize>,
+}
+
+impl Group {
+    /// "A group costs overhead + row cost x sets."
+    pub fn cost(&self) -> u64 {
+        self.shape.overhead() + self.shape.row_cost() * self.sets.len() as u64
+    }
+
+    /// The group of both groups' sets.
+    pub fn join(&self, other: &Group) -> Group {
+        Group {
+            shape: self.shape.join(&other.shape),
+            sets: [&self.sets[..], &other.sets[..]].concat(),
+        }
+    }
+}
+
+/// "group sets by shape; order groups by row cost, then by width compared from
+/// the last region down to the first; number them from 0."
+pub fn by_shape(sets: &[Set], regions: usize) -> Vec<Group> {
+    let mut groups: Vec<Group> = Vec::new();
+    for (id, set) in sets.iter().enumerate() {
+        let shape = Shape::of(&dense(set, regions));
+        // The groups are kept in their order, so that a shape's group, if there
+        // is one, is the last that does not come after the shape.
+        let after = groups.partition_point(|g| g.shape.order(&shape).is_le());
+        match after.checked_sub(1).map(|last| &mut groups[last]) {
+            Some(group) if group.shape == shape => group.sets.push(id),
+            _ => groups.insert(
+                after,
+                Group {
+                    shape,
+                    sets: vec![id],
+                },
+            ),
+        }
+    }
+    groups
+}
+
+/// The one group of all sets, "shape the join of all"; none without sets.
+pub fn of_all(sets: &[Set], regions: usize) -> Option<Group> {
+    let shapes = sets.iter().map(|set| Shape::of(&dense(set, regions)));
+    shapes.reduce(|a, b| a.join(&b)).map(|shape| Group {
+        shape,
+        sets: (0..sets.len()).collect(),
+    })
+}
+
+/// "Then each group's sets are ordered by their dense signed values from region
+/// 0 up; groups by the order above."
+pub fn final_order(mut groups: Vec<Group>, sets: &[Set], regions: usize) -> Vec<Group> {
+    for group in &mut groups {
+        group
+            .sets
+            .sort_by_cached_key(|&id| dense(&sets[id], regions));
+    }
+    groups.sort_by(|a, b| a.shape.order(&b.shape));
+    groups
+}

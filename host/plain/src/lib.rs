@@ -1,0 +1,221 @@
+//! A plain reading of document 01, "From a job to an item variation store".
+//!
+//! Written from the document alone, not from the source it ports and not from
+//! the proved library, so that it can judge both. It is slow where slow is
+//! simpler: the code is meant to be believed by reading it beside the document.
+//! The file of each part quotes the sentences it renders.
+//!
+//! [`build`] says what one build call must answer and write; [`read`] says what
+//! reading one value must answer.
+
+mod groups;
+mod merging;
+mod reading;
+mod records;
+mod refusals;
+mod sets;
+mod store;
+mod widths;
+
+pub use reading::{read, Reading};
+pub use refusals::{name, number, Refused};
+
+use groups::Group;
+
+/// "At most 1,048,576 records".
+pub const RECORD_LIMIT: usize = 1_048_576;
+
+/// How much memory the caller lends: words of work, bytes of output, words of
+/// ids, map and log.
+#[derive(Clone, Copy, Debug, PartialEq, Eq)]
+pub struct Sizes {
+    /// Words of work.
+    pub work: usize,
+    /// Bytes of output.
+    pub out: usize,
+    /// Words of ids.
+    pub ids: usize,
+    /// Words of map.
+    pub map: usize,
+    /// Words of log.
+    pub log: usize,
+}
+
+impl Sizes {
+    /// As much of everything as any job could ask for.
+    pub const PLENTY: Sizes = Sizes {
+        work: usize::MAX,
+        out: usize::MAX,
+        ids: usize::MAX,
+        map: usize::MAX,
+        log: usize::MAX,
+    };
+}
+
+/// The numbers that a done build gives, in document 01's order.
+#[derive(Clone, Copy, Debug, Default, PartialEq, Eq)]
+pub struct Counts {
+    /// Bytes of the store.
+    pub store_bytes: u64,
+    /// "the count in the store, a null one included".
+    pub subtables: u64,
+    /// Regions kept.
+    pub regions_kept: u64,
+    /// Distinct ids.
+    pub distinct_ids: u64,
+    /// N: the groups before merging.
+    pub shapes: u64,
+    /// Merges.
+    pub merges: u64,
+    /// Pairs weighed.
+    pub pairs: u64,
+    /// Modelled size before merging.
+    pub size_before: u64,
+    /// Modelled size after merging.
+    pub size_after: u64,
+    /// The forecast.
+    pub forecast: u64,
+}
+
+/// What a done build gives and writes.
+#[derive(Clone, Debug, PartialEq, Eq)]
+pub struct Done {
+    /// The ten numbers.
+    pub counts: Counts,
+    /// The store's bytes.
+    pub store: Vec<u8>,
+    /// "The n-th word of ids is the n-th set's id."
+    pub ids: Vec<u32>,
+    /// For each id, outer x 65,536 + inner.
+    pub map: Vec<u32>,
+    /// For each merge: first number, second number, gain.
+    pub log: Vec<u32>,
+}
+
+/// The published number of work words for a job of `records` records; 0 above
+/// the record limit.
+///
+/// "depends on the record count alone, at most 16 per record plus 4,194,304".
+pub fn work_words(records: usize) -> usize {
+    if records > RECORD_LIMIT {
+        return 0;
+    }
+    let square = records.min(1_024);
+    16 * records + 4 * square * square
+}
+
+/// One build call: what it answers, and what it writes when it is done.
+pub fn build(axes: u32, mode: u32, job: &[u8], sizes: &Sizes) -> Result<Done, Refused> {
+    let records = job.len() / records::RECORD;
+    // "1 to 4 are tested in that order."
+    if axes == 0 || axes > 64 {
+        return Err(Refused::at(number::BAD_AXES, 0));
+    }
+    if mode > 1 {
+        return Err(Refused::at(number::BAD_MODE, 0));
+    }
+    if job.len() % records::RECORD != 0 || records > RECORD_LIMIT {
+        return Err(Refused::at(number::BAD_JOB_LENGTH, 0));
+    }
+    if sizes.work < work_words(records) {
+        return Err(Refused::at(number::WORK_SHORT, 0));
+    }
+    // "Then records from the first on", "Then 8".
+    let said = records::check(axes as usize, mode, job)?;
+    let numbered = sets::number(mode, &said);
+    let regions = numbered.regions.len();
+
+    // "Mode 0: group sets by shape"; "Mode 1: one group".
+    let plan = if mode == 0 {
+        let start = groups::by_shape(&numbered.sets, regions);
+        // "then 10 to 14 in order", "else 0" for the place.
+        if start.len() > 1_024 {
+            return Err(Refused::at(number::SHAPES_FULL, 0));
+        }
+        Plan::merged(start, &numbered.sets, regions)
+    } else {
+        Plan::one_group(&numbered.sets, regions)
+    };
+    let laid = store::lay(axes as usize, &numbered, &plan.groups, mode == 1);
+    let counts = Counts {
+        store_bytes: laid.bytes.len() as u64,
+        subtables: laid.subtables,
+        regions_kept: laid.regions_kept,
+        distinct_ids: numbered.sets.len() as u64,
+        ..plan.counts
+    };
+    let forecast = forecast(axes as u64, &counts, &plan.groups, laid.null_subtables);
+
+    if sizes.ids < numbered.ids.len() {
+        return Err(Refused::at(number::IDS_SHORT, 0));
+    }
+    if sizes.map < numbered.sets.len() {
+        return Err(Refused::at(number::MAP_SHORT, 0));
+    }
+    if mode == 0 && counts.shapes >= 1 && (sizes.log as u64) < 3 * (counts.shapes - 1) {
+        return Err(Refused::at(number::LOG_SHORT, 0));
+    }
+    if (sizes.out as u64) < counts.store_bytes {
+        return Err(Refused::at(number::OUT_SHORT, 0));
+    }
+    Ok(Done {
+        counts: Counts { forecast, ..counts },
+        store: laid.bytes,
+        ids: numbered.ids,
+        map: laid.map,
+        log: plan.log,
+    })
+}
+
+/// "The forecast is 12 + 6 x axes x regions kept + the model's cost of each
+/// final group written + 4 per null subtable."
+fn forecast(axes: u64, counts: &Counts, groups: &[Group], null_subtables: u64) -> u64 {
+    let written: u64 = groups.iter().map(Group::cost).sum();
+    12 + 6 * axes * counts.regions_kept + written + 4 * null_subtables
+}
+
+/// The final groups with their sets in row order, and what led to them.
+struct Plan {
+    groups: Vec<Group>,
+    log: Vec<u32>,
+    counts: Counts,
+}
+
+impl Plan {
+    /// Mode 0: merge, order each group's sets and the groups.
+    fn merged(start: Vec<Group>, sets: &[sets::Set], regions: usize) -> Plan {
+        let size_before = start.iter().map(Group::cost).sum();
+        let shapes = start.len() as u64;
+        let outcome = merging::merge(start);
+        let size_after = outcome.groups.iter().map(Group::cost).sum();
+        Plan {
+            groups: groups::final_order(outcome.groups, sets, regions),
+            counts: Counts {
+                shapes,
+                merges: outcome.log.len() as u64 / 3,
+                pairs: outcome.pairs,
+                size_before,
+                size_after,
+                ..Counts::default()
+            },
+            log: outcome.log,
+        }
+    }
+
+    /// "Mode 1: one group, shape the join of all, rows in order of adding". "In
+    /// mode 1 N, merges and pairs are 0 and both sizes are the one group's cost,
+    /// or 0 when there are no sets."
+    fn one_group(sets: &[sets::Set], regions: usize) -> Plan {
+        let groups: Vec<Group> = groups::of_all(sets, regions).into_iter().collect();
+        let size = groups.iter().map(Group::cost).sum();
+        Plan {
+            groups,
+            log: Vec::new(),
+            counts: Counts {
+                size_before: size,
+                size_after: size,
+                ..Counts::default()
+            },
+        }
+    }
+}

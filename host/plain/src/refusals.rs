@@ -1,0 +1,76 @@
+//! Document 01, "Refusal numbers".
+
+use std::fmt;
+
+/// The refusal numbers, by name.
+pub mod number {
+    #![allow(missing_docs)] // the names are document 01's
+    pub const BAD_AXES: u32 = 1;
+    pub const BAD_MODE: u32 = 2;
+    pub const BAD_JOB_LENGTH: u32 = 3;
+    pub const WORK_SHORT: u32 = 4;
+    pub const BAD_RECORD: u32 = 5;
+    pub const UNKNOWN_REGION: u32 = 6;
+    pub const REGION_TWICE: u32 = 7;
+    pub const UNFINISHED: u32 = 8;
+    pub const SETS_FULL: u32 = 9;
+    pub const SHAPES_FULL: u32 = 10;
+    pub const IDS_SHORT: u32 = 11;
+    pub const MAP_SHORT: u32 = 12;
+    pub const LOG_SHORT: u32 = 13;
+    pub const OUT_SHORT: u32 = 14;
+    pub const BAD_STORE: u32 = 20;
+    pub const NO_ROW: u32 = 21;
+    pub const NO_REGION: u32 = 22;
+}
+
+/// Document 01's name of a refusal number.
+pub fn name(refusal: u32) -> &'static str {
+    match refusal {
+        number::BAD_AXES => "BAD_AXES",
+        number::BAD_MODE => "BAD_MODE",
+        number::BAD_JOB_LENGTH => "BAD_JOB_LENGTH",
+        number::WORK_SHORT => "WORK_SHORT",
+        number::BAD_RECORD => "BAD_RECORD",
+        number::UNKNOWN_REGION => "UNKNOWN_REGION",
+        number::REGION_TWICE => "REGION_TWICE",
+        number::UNFINISHED => "UNFINISHED",
+        number::SETS_FULL => "SETS_FULL",
+        number::SHAPES_FULL => "SHAPES_FULL",
+        number::IDS_SHORT => "IDS_SHORT",
+        number::MAP_SHORT => "MAP_SHORT",
+        number::LOG_SHORT => "LOG_SHORT",
+        number::OUT_SHORT => "OUT_SHORT",
+        number::BAD_STORE => "BAD_STORE",
+        number::NO_ROW => "NO_ROW",
+        number::NO_REGION => "NO_REGION",
+        _ => "unknown",
+    }
+}
+
+/// A refusal and its place.
+///
+/// "The place is the record's index from 0 for 5, 6, 7 and 9, the record count
+/// for 8, else 0". All counts are 0 and nothing lent but work is touched.
+#[derive(Clone, Copy, Debug, PartialEq, Eq)]
+pub struct Refused {
+    /// The refusal number.
+    pub number: u32,
+    /// Where.
+    pub place: u64,
+}
+
+impl Refused {
+    pub(crate) fn at(number: u32, place: usize) -> Refused {
+        Refused {
+            number,
+            place: place as u64,
+        }
+    }
+}
+
+impl fmt::Display for Refused {
+    fn fmt(&self, f: &mut fmt::Formatter<'_>) -> fmt::Result {
+        write!(f, "{} {} at {}", self.number, name(self.number), self.place)
+    }
+}

@@ -1,0 +1,140 @@
+//! Columns, rows, regions kept, and document 01's "Byte placing".
+
+use crate::groups::Group;
+use crate::sets::{dense, Numbered};
+use crate::widths::{Shape, Width};
+
+/// "A group of more than 65,535 sets is then cut into runs of 65,535".
+const RUN: usize = 65_535;
+
+/// The store and what came with it.
+pub struct Laid {
+    pub bytes: Vec<u8>,
+    /// The map word of each id.
+    pub map: Vec<u32>,
+    pub subtables: u64,
+    pub null_subtables: u64,
+    pub regions_kept: u64,
+}
+
+/// Lays out the final groups, whose sets are in row order. `implicit` is mode 1.
+pub fn lay(axes: usize, numbered: &Numbered, groups: &[Group], implicit: bool) -> Laid {
+    // "Regions no subtable names are dropped, the rest renumbered in order."
+    let named = |index: &usize| groups.iter().any(|g| g.shape.0[*index] != Width::None);
+    let kept: Vec<usize> = (0..numbered.regions.len()).filter(named).collect();
+
+    // "Outer is the run's position, inner the row's."
+    let mut map = vec![0; numbered.sets.len()];
+    let mut subtables: Vec<Vec<u8>> = Vec::new();
+    for group in groups {
+        for run in group.sets.chunks(RUN) {
+            for (inner, &id) in run.iter().enumerate() {
+                map[id] = (subtables.len() * 65_536 + inner) as u32;
+            }
+            subtables.push(subtable(&group.shape, run, numbered, &kept));
+        }
+    }
+    // "No sets: one null subtable." of mode 1.
+    let null_subtables = u64::from(implicit && subtables.is_empty());
+
+    let list = region_list(axes, numbered, &kept);
+    Laid {
+        bytes: place(&list, &subtables, null_subtables),
+        map,
+        subtables: subtables.len() as u64 + null_subtables,
+        null_subtables,
+        regions_kept: kept.len() as u64,
+    }
+}
+
+/// "Format 1 (u16), region list offset (u32), subtable count (u16), subtable
+/// offsets (u32 each, 0 for null); region list [..]; subtables in order".
+fn place(list: &[u8], subtables: &[Vec<u8>], null_subtables: u64) -> Vec<u8> {
+    let count = subtables.len() + null_subtables as usize;
+    let header = 8 + 4 * count;
+    let mut bytes = Vec::new();
+    put_u16(&mut bytes, 1);
+    put_u32(&mut bytes, header);
+    put_u16(&mut bytes, count);
+    let mut offset = header + list.len();
+    for subtable in subtables {
+        put_u32(&mut bytes, offset);
+        offset += subtable.len();
+    }
+    for _ in 0..null_subtables {
+        put_u32(&mut bytes, 0);
+    }
+    bytes.extend(list);
+    bytes.extend(subtables.iter().flatten());
+    bytes
+}
+
+/// "region list: axis count, region count (u16), then start, peak, end per axis".
+fn region_list(axes: usize, numbered: &Numbered, kept: &[usize]) -> Vec<u8> {
+    let mut bytes = Vec::new();
+    put_u16(&mut bytes, axes);
+    put_u16(&mut bytes, kept.len());
+    for &index in kept {
+        for coordinate in numbered.regions[index].iter().flatten() {
+            bytes.extend(coordinate.to_be_bytes());
+        }
+    }
+    bytes
+}
+
+/// "item count, word count, region count, region indexes (u16), rows".
+fn subtable(shape: &Shape, run: &[usize], numbered: &Numbered, kept: &[usize]) -> Vec<u8> {
+    let columns = columns(shape);
+    let (word_count, bytes_of) = row_format(shape);
+    let mut bytes = Vec::new();
+    put_u16(&mut bytes, run.len());
+    put_u16(&mut bytes, word_count);
+    put_u16(&mut bytes, columns.len());
+    for index in &columns {
+        let place = kept.iter().position(|k| k == index);
+        put_u16(&mut bytes, place.expect("a column's region is kept"));
+    }
+    for &id in run {
+        let values = dense(&numbered.sets[id], numbered.regions.len());
+        for &index in &columns {
+            let all = values[index].to_be_bytes();
+            bytes.extend(&all[4 - bytes_of(shape.0[index])..]);
+        }
+    }
+    bytes
+}
+
+/// "Columns: wider first, then by region index; None has no column."
+fn columns(shape: &Shape) -> Vec<usize> {
+    let of = |width: Width| (0..shape.0.len()).filter(move |&i| shape.0[i] == width);
+    of(Width::Four)
+        .chain(of(Width::Two))
+        .chain(of(Width::One))
+        .collect()
+}
+
+/// The word count, and the bytes that a column of each width takes in a row.
+///
+/// "With a Four column, Four is written in 4 bytes and One and Two in 2; word
+/// count is the Fours plus 0x8000. Else Two in 2, One in 1; word count is the
+/// Twos."
+fn row_format(shape: &Shape) -> (usize, fn(Width) -> usize) {
+    let count = |width: Width| shape.0.iter().filter(|&&w| w == width).count();
+    if count(Width::Four) > 0 {
+        let long = |w| if w == Width::Four { 4 } else { 2 };
+        (count(Width::Four) + 0x8000, long)
+    } else {
+        let short = |w| if w == Width::Two { 2 } else { 1 };
+        (count(Width::Two), short)
+    }
+}
+
+fn put_u16(bytes: &mut Vec<u8>, number: usize) {
+    let number = u16::try_from(number).expect("the rules keep this below 65,536");
+    bytes.extend(number.to_be_bytes());
+}
+
+fn put_u32(bytes: &mut Vec<u8>, number: usize) {
+    let number = u32::try_from(number).expect("a store stays far below 4 GiB");
+    bytes.extend(number.to_be_bytes());
+}
