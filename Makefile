@@ -1,0 +1,26 @@
+# What there is to do here; README.md says more. `rt` is Rattle's command, cargo the host's.
+#
+#   make run    the main job on the example that ships
+#   make test   everything that is tested: what .ci/run runs
+#   make check  the proofs alone, what changed since they last passed
+#   make bench  the times of the library beside the Rust
+#   make fmt    the layout of every file
+
+.PHONY: run test bench check fmt
+
+run:
+	$(MAKE) -C host --no-print-directory crates
+	cd host && cargo run --quiet --release -p plain -- ../examples/two-sets.job 1 0
+
+test:
+	./tests/run
+
+bench:
+	@echo "bench: the library is not built yet; nothing to measure"
+
+check:
+	rt check
+
+fmt:
+	rt fmt
+	cd host && cargo fmt
