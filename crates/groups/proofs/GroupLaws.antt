@@ -214,3 +214,59 @@ groups-count regions sets =
 pub groups-few : (regions : ℕ) (sets : List Set) → length (groupsOf regions sets) ≤ length (distinct sets)
 unfolding groupsOf
 groups-few regions sets = omega (arith, from-length [] (map (shapeOf regions) (distinct sets)) .1, length-map (distinct sets) (shapeOf regions))
+
+-- ---- each set's shape is a group's
+
+-- some group of the list has the shape
+pub record Has (s : Shape) (gs : List Group) : Type 0 where
+  pub place : ℕ
+  pub below : place < length gs
+  pub here : getD gs place (record { shape = []; sets = 0 }) .shape ≡ s
+
+has-tail : {s : Shape} {g : Group} {gs : List Group} → Has s gs → Has s (g ∷ gs)
+has-tail h = record { place = suc (h .place); below = omega (arith, h .below); here = h .here }
+
+has-head : {s : Shape} (g : Group) (gs : List Group) → g .shape ≡ s → Has s (g ∷ gs)
+has-head g gs e = record { place = 0; below = omega arith; here = e }
+
+has-cases : {s : Shape} {g : Group} {gs : List Group} {C : Type 0} → Has s (g ∷ gs) → (g .shape ≡ s → C) → (Has s gs → C) → C
+has-cases {s} {g} {gs} {C} h f r = go (h .place) (h .below) (h .here)
+  where
+    go : (i : ℕ) → i < suc (length gs) → getD (g ∷ gs) i (record { shape = []; sets = 0 }) .shape ≡ s → C
+    go zero l e = f e
+    go (suc i) l e = r (record { place = i; below = omega arith; here = e })
+
+has-with : (t s : Shape) (gs : List Group) → Has t gs → Has t (withShape gs s)
+has-with t s [] h = absurd (omega (arith, h .below))
+has-with t s (g ∷ gs) h = go (λ k. has-with t s gs k) (said (order s (g .shape)))
+  where
+    go : (Has t gs → Has t (withShape gs s)) → Said (order s (g .shape)) → Has t (withShape (g ∷ gs) s)
+    go rec (less e) = rw (with-less g gs s e) (has-tail h)
+    go rec (equal e) = rw (with-equal g gs s e) (has-cases h (λ q. has-head (more g) gs q) (λ k. has-tail k))
+    go rec (greater e) = rw (with-more g gs s e) (has-cases h (λ q. has-head g (withShape gs s) q) (λ k. has-tail (rec k)))
+
+has-this : (n : ℕ) (s : Shape) (gs : List Group) → length s ≡ n → All (Long n) gs → Has s (withShape gs s)
+has-this n s [] p l = unfold withShape in has-head (one s) [] refl
+has-this n s (g ∷ gs) p l = go (has-this n s gs p (l .1)) (said (order s (g .shape)))
+  where
+    go : Has s (withShape gs s) → Said (order s (g .shape)) → Has s (withShape (g ∷ gs) s)
+    go rec (less e) = rw (with-less g gs s e) (has-head (one s) (g ∷ gs) refl)
+    go rec (equal e) = rw (with-equal g gs s e) (has-head (more g) gs (sym (order-equal s (g .shape) (p ∙ sym (l .0)) e)))
+    go rec (greater e) = rw (with-more g gs s e) (has-tail rec)
+
+from-has : (n : ℕ) (gs : List Group) (l : List Shape) → All (λ s. length s ≡ n) l → All (Long n) gs → (t : Shape) → Has t gs → Has t (groupsFrom gs l)
+unfolding groupsFrom
+from-has n gs [] p q t h = h
+from-has n gs (s ∷ l) p q t h = from-has n (withShape gs s) l (p .1) (with-long n gs s (p .0) q) t (has-with t s gs h)
+
+from-these : (n : ℕ) (gs : List Group) (l : List Shape) → All (λ s. length s ≡ n) l → All (Long n) gs → All (λ s. Has s (groupsFrom gs l)) l
+unfolding groupsFrom
+from-these n gs [] p q = tt
+from-these n gs (s ∷ l) p q =
+    let m = with-long n gs s (p .0) q in
+    (from-has n (withShape gs s) l (p .1) m s (has-this n s gs (p .0) q), from-these n (withShape gs s) l (p .1) m)
+
+-- THE LAW: the shape of each distinct set is the shape of one of the groups
+pub groups-has : (regions : ℕ) (sets : List Set) → All (λ s. Has s (groupsOf regions sets)) (map (shapeOf regions) (distinct sets))
+unfolding groupsOf
+groups-has regions sets = from-these regions [] (map (shapeOf regions) (distinct sets)) (shapes-long regions (distinct sets)) tt

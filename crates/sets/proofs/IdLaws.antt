@@ -13,6 +13,7 @@ use borrow.Author.Tests.{eqb-true, eq-eqb, lt-ltb, le-ltb}
 use Rattle.laws.specs.Every.{All}
 use Rattle.laws.proofs.Cases.{Which, which, and-true, lt-or-ge}
 use Rattle.laws.proofs.Cases.Which.{holds, fails}
+use Rattle.laws.proofs.ListLaws.{getD-map-in}
 use Rattle.laws.proofs.EveryLaws.{all-append, all-getD, all-intro}
 use Rattle.sets.specs.Set.{Set, sameSet}
 use Rattle.sets.specs.Ids.{place, withSet, idsFrom, distinctFrom, distinct, sharedIds}
@@ -258,3 +259,7 @@ from-most known (s ∷ l) = omega (arith, from-most (withSet known s) l, one kno
 
 pub distinct-most : (sets : List Set) → length (distinct sets) ≤ length sets
 distinct-most sets = omega (arith, from-most [] sets)
+
+-- the n-th id is the place of the n-th set among the distinct ones
+pub id-at : (sets : List Set) (k : ℕ) → k < length sets → getD (sharedIds sets) k 0 ≡ place (getD sets k []) (distinct sets)
+id-at sets k h = ap (λ (l : List ℕ). getD l k 0) (ids-place [] sets) ∙ getD-map-in (λ s. place s (distinct sets)) sets k [] 0 h
