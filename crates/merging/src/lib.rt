@@ -1,0 +1,1 @@
+// Merging: groups of sets are joined while that saves bytes.
