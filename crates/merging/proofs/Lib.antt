@@ -1,5 +1,12 @@
+-- The rule on lists, and its theorems.
 pub mod PairLaws
 pub mod Theorems
 pub mod Origins
 pub mod Bridge
 pub mod Worked
+-- The queue of waiting pairs.
+pub mod QueueOrder
+pub mod QueueBag
+pub mod QueueHeap
+pub mod QueueWords
+pub mod QueueContent

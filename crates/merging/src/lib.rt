@@ -1,1 +1,5 @@
 // Merging: groups of sets are joined while that saves bytes.
+mod queue;
+
+pub use queue::Taken;
+pub use queue::Waiting;
