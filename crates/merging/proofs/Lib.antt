@@ -10,3 +10,6 @@ pub mod QueueBag
 pub mod QueueHeap
 pub mod QueueWords
 pub mod QueueContent
+
+-- The tables in work.
+pub mod TableLaws

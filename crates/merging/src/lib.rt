@@ -1,5 +1,8 @@
 // Merging: groups of sets are joined while that saves bytes.
+mod groups;
 mod queue;
+mod tables;
 
 pub use queue::Taken;
 pub use queue::Waiting;
+pub use tables::Tables;
