@@ -13,3 +13,4 @@ pub mod QueueContent
 
 -- The tables in work.
 pub mod TableLaws
+pub mod SlotLaws

@@ -53,3 +53,25 @@ pub record CostsAs (t : Tables) (w : List ℕ) (s row cols sets : ℕ) : Type 0 
   pub row-is : row ≡ getD w (t .rows + s) 0
   pub columns-is : cols ≡ getD w (t .columns + s) 0
   pub sets-is : sets ≡ getD w (t .counts + s) 0
+  pub sets-few : sets < 4294967296
+
+-- the starting groups lie in slots of their own
+pub record Dealt (t : Tables) (w : List ℕ) : Type 0 where
+  pub within : (i : ℕ) → i < t .groups → getD w (t .order + i) 0 < t .groups
+  pub apart : (i j : ℕ) → i < j → j < t .groups → getD w (t .order + i) 0 ≡ getD w (t .order + j) 0 → ⊥
+
+-- slot s was measured
+pub record MeasuredIn (t : Tables) (s : ℕ) (old new : List ℕ) : Type 0 where
+  pub only : Only ((t .rows + s, 1) ∷ (t .columns + s, 1) ∷ []) old new
+  pub is : Measured (shapeIn t old s) (getD new (t .rows + s) 0) (getD new (t .columns + s) 0)
+
+-- every slot was
+pub record MeasuredAll (t : Tables) (old new : List ℕ) : Type 0 where
+  pub only : Only ((t .rows, t .groups) ∷ (t .columns, t .groups) ∷ []) old new
+  pub sound : Sound t new
+
+-- slot a holds what the groups of slots a and b become
+pub record JoinedIn (t : Tables) (a b : ℕ) (old new : List ℕ) : Type 0 where
+  pub only : Only ((t .slots + a * t .regions, t .regions) ∷ (t .counts + a, 1) ∷ (t .rows + a, 1) ∷ (t .columns + a, 1) ∷ []) old new
+  pub sound : Sound t new
+  pub is : groupIn t new a ≡ joined (groupIn t old a) (groupIn t old b)
