@@ -10,7 +10,7 @@ pub mod QueueBag
 pub mod QueueHeap
 pub mod QueueWords
 pub mod QueueContent
-
 -- The tables in work.
 pub mod TableLaws
 pub mod SlotLaws
+pub mod WaitLaws

@@ -119,7 +119,7 @@ unfolding groupIn
 shape-is t w s = refl
 
 module _ (t : Tables) (w w₁ : List ℕ) (a b x y : ℕ) (h : Sound t w) (la : a < t .groups) (lb : b < t .groups) (d : a ≢ b)
-  (ex : x ≡ t .slots + a * t .regions) (ey : y ≡ t .slots + b * t .regions) (j : JoinedAt x y (t .regions) w w₁) where
+    (ex : x ≡ t .slots + a * t .regions) (ey : y ≡ t .slots + b * t .regions) (j : JoinedAt x y (t .regions) w w₁) where
   abbrev sum : ℕ
   sum = getD w₁ (t .counts + a) 0 + getD w₁ (t .counts + b) 0
 

@@ -65,8 +65,8 @@ pub costs-small : (t : Tables) (w : List ℕ) (s row cols sets : ℕ) → Sound 
 costs-small t w s row cols sets h l c = narrow-small (shapeIn t w s) row cols (h .shaped .narrow s l) (costs-measured t w s row cols sets h l c)
 
 module _ (t : Tables) (w : List ℕ) (a b x y rj cj : ℕ) (h : Sound t w) (la : a < t .groups) (lb : b < t .groups)
-  (ex : x ≡ t .slots + a * t .regions) (ey : y ≡ t .slots + b * t .regions)
-  (j : Measured (join (take (x + t .regions - x) (drop x w)) (take (y + t .regions - y) (drop y w))) rj cj) where
+    (ex : x ≡ t .slots + a * t .regions) (ey : y ≡ t .slots + b * t .regions)
+    (j : Measured (join (take (x + t .regions - x) (drop x w)) (take (y + t .regions - y) (drop y w))) rj cj) where
   joined-measured : Measured (join (shapeIn t w a) (shapeIn t w b)) rj cj
   joined-measured = rw (part-is t w a x ex, part-is t w b y ey) at j
 

@@ -1,3 +1,4 @@
 pub mod Model
 pub mod Queue
 pub mod Lent
+pub mod Waits

@@ -2,6 +2,7 @@
 mod groups;
 mod queue;
 mod tables;
+mod waits;
 
 pub use queue::Taken;
 pub use queue::Waiting;
