@@ -14,3 +14,4 @@ pub mod QueueContent
 pub mod TableLaws
 pub mod SlotLaws
 pub mod WaitLaws
+pub mod StoreLaws

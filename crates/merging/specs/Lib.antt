@@ -2,3 +2,4 @@ pub mod Model
 pub mod Queue
 pub mod Lent
 pub mod Waits
+pub mod Held

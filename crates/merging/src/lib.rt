@@ -1,5 +1,6 @@
 // Merging: groups of sets are joined while that saves bytes.
 mod groups;
+mod pairs;
 mod queue;
 mod tables;
 mod waits;
