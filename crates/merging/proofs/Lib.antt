@@ -15,3 +15,4 @@ pub mod TableLaws
 pub mod SlotLaws
 pub mod WaitLaws
 pub mod StoreLaws
+pub mod JoinLaws

@@ -36,7 +36,7 @@ module _ (w : List ℕ) (i j k m n v x y z u : ℕ) where
       getD-set-other s₄ n a u 0 h ∙ getD-set-other s₃ m a z 0 g ∙ getD-set-other s₂ k a y 0 f ∙ getD-set-other s₁ j a x 0 e ∙ getD-set-other w i a v 0 d
 
   module _ (li : i < length w) (lj : j < length w) (lk : k < length w) (lm : m < length w) (ln : n < length w)
-    (ij : i ≢ j) (ik : i ≢ k) (im : i ≢ m) (iN : i ≢ n) (jk : j ≢ k) (jm : j ≢ m) (jn : j ≢ n) (km : k ≢ m) (kn : k ≢ n) (mn : m ≢ n) where
+      (ij : i ≢ j) (ik : i ≢ k) (im : i ≢ m) (iN : i ≢ n) (jk : j ≢ k) (jm : j ≢ m) (jn : j ≢ n) (km : k ≢ m) (kn : k ≢ n) (mn : m ≢ n) where
     five-1 : getD s₅ i 0 ≡ v
     five-1 =
         getD-set-other s₄ n i u 0 iN ∙ getD-set-other s₃ m i z 0 im ∙ getD-set-other s₂ k i y 0 ik ∙ getD-set-other s₁ j i x 0 ij ∙ getD-set-same w i v 0 li

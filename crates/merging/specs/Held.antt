@@ -103,3 +103,33 @@ pub record Retired (t : Tables) (a b k v : ℕ) (w w′ : List ℕ) : Type 0 whe
 pub record Noted (t : Tables) (j : ℕ) (p : Waiting) (w w′ : List ℕ) : Type 0 where
   pub only : Only ((t .log + 3 * j, 3) ∷ []) w w′
   pub is : seg (t .log + 3 * j) 3 w′ ≡ p .first ∷ p .second ∷ p .gain ∷ []
+
+-- what joining the pair p as merge j asks
+pub record Joinable (t : Tables) (j : ℕ) (p : Waiting) (w : List ℕ) : Type 0 where
+  pub sound : Sound t w
+  pub room : j < t .groups
+  pub order : p .first < p .second
+  pub below : p .second < t .groups + j
+  pub first-lives : 0 < placeOf t w (p .first)
+  pub first-slot : placeOf t w (p .first) ≤ t .groups
+  pub second-lives : 0 < placeOf t w (p .second)
+  pub second-slot : placeOf t w (p .second) ≤ t .groups
+  pub apart : placeOf t w (p .first) ≢ placeOf t w (p .second)
+  pub sets-few : groupOf t w (p .first) .sets + groupOf t w (p .second) .sets < 4294967296
+
+-- and does: both are dead, the next number is what they became, in the first one's slot, and the log has them
+pub record PairJoined (t : Tables) (j : ℕ) (p : Waiting) (w w′ : List ℕ) : Type 0 where
+  pub only : Only (written t) w w′
+  pub heap-same : heapOf t w′ ≡ heapOf t w
+  pub sound : Sound t w′
+  pub first-dead : placeOf t w′ (p .first) ≡ 0
+  pub second-dead : placeOf t w′ (p .second) ≡ 0
+  pub new : placeOf t w′ (t .groups + j) ≡ placeOf t w (p .first)
+  pub others : (c : ℕ) → c ≢ p .first → c ≢ p .second → c < t .groups + j → placeOf t w′ c ≡ placeOf t w c
+  pub became : groupOf t w′ (t .groups + j) ≡ joined (groupOf t w (p .first)) (groupOf t w (p .second))
+  pub other-slots : (s : ℕ) → s < t .groups → s ≢ placeOf t w (p .first) - 1 → groupIn t w′ s ≡ groupIn t w s
+  pub first-into : getD w′ (t .into + p .first) 0 ≡ t .groups + j
+  pub second-into : getD w′ (t .into + p .second) 0 ≡ t .groups + j
+  pub others-into : (c : ℕ) → c ≢ p .first → c ≢ p .second → c < t .groups + j → getD w′ (t .into + c) 0 ≡ getD w (t .into + c) 0
+  pub log-new : seg (t .log + 3 * j) 3 w′ ≡ p .first ∷ p .second ∷ p .gain ∷ []
+  pub log-old : seg (t .log) (3 * j) w′ ≡ seg (t .log) (3 * j) w

@@ -7,7 +7,7 @@ ghost use mathlib.Core.Logic.{_≢_};
 ghost use Prim.Native.Nat.{ℕ, _+_, _*_, _≤_, _<_};
 ghost use lib.ListN.{length, getD};
 ghost use Rattle.merging.specs.Lent.{Laid};
-ghost use Rattle.merging.specs.Held.{Retired, Noted};
+ghost use Rattle.merging.specs.Held.{Retired, Noted, Joinable, PairJoined};
 
 // Numbers a and b die; number k lives at their place v.
 fn retire(work: &mut [u32], t: Tables, a: usize, b: usize, k: usize, v: u32)
@@ -36,4 +36,20 @@ fn note(work: &mut [u32], t: Tables, j: usize, p: Waiting)
     work[at] = p.first;
     work[at + 1] = p.second;
     work[at + 2] = p.gain;
+}
+
+// Joins the pair, as merge j. Its numbers die; what they become is number groups + j.
+pub fn join_pair(work: &mut [u32], t: Tables, j: usize, p: Waiting)
+    requires { ⌜ Joinable t j p (now work) ⌝ }
+    ensures { λ _. ⌜ PairJoined t j p (now (work .entry)) (now (work .exit)) ⌝ }
+{
+    let place = t.place;
+    let a = p.first as usize;
+    let b = p.second as usize;
+    let x = work[place + a];
+    let y = work[place + b];
+    groups::join_slots(work, t, x as usize - 1, y as usize - 1);
+    let k = t.groups + j;
+    retire(work, t, a, b, k, x);
+    note(work, t, j, p);
 }
