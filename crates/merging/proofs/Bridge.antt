@@ -1,6 +1,6 @@
 -- What a program that merges leans on: the numbers ascend, a pair is known by its numbers, and the pair that is ahead of all others is the choice.
 use mathlib.Core.Path.{_≡_, refl, sym, ap, ap₂, subst, _∙_}
-use mathlib.Core.Logic.{_⊎_, inl, inr, ⊎-elim}
+use mathlib.Core.Logic.{_≢_, _⊎_, inl, inr, ⊎-elim}
 use mathlib.Core.Option.{Option, none, some}
 use mathlib.Core.List.{List, [], _∷_, _++_, map, List·Memᴰ, List·Memᴰ·head, List·Memᴰ·tail, List·Memᴰ·append-cases, List·Memᴰ·cases-cons, List·Memᴰ·not-nil, Memᴰ·cast, Memᴰ·append-left, Memᴰ·append-right}
 use Prim.Native.Nat.{ℕ, zero, suc, _+_, _*_, _-_, _≤_, _<_}
@@ -8,6 +8,7 @@ use lib.ListN.{length}
 use native.Mathlib.Omega.{arith}
 use native.Mathlib.Decide.{ℕ-discrete}
 use Rattle.laws.specs.Every.{All, EachTwo}
+use Rattle.laws.proofs.Cases.{same-or-not}
 use Rattle.laws.proofs.EveryLaws.{all, all-imp, all-and, all-append, two-imp, two-end}
 use Rattle.shapes.specs.Group.{Group, gain}
 use Rattle.merging.specs.Model.{Living, Pair, Out, Entry, State, Ahead, gainOf, keepOut, outs, pairWith, keepPair, pairs, choice, merge, follow, step, run, number, start, merged}
@@ -51,9 +52,9 @@ run-numbered k xs =
 
 -- ---- from each two to any two, by number
 
-all-mem : (P : Living → Type 0) (l : List Living) → All P l → (g : Living) → List·Memᴰ g l → P g
-all-mem P [] h g m = absurd (List·Memᴰ·not-nil m)
-all-mem P (x ∷ l) h g m = ⊎-elim (λ e. subst P (sym e) (h .0)) (λ m′. all-mem P l (h .1) g m′) (List·Memᴰ·cases-cons m)
+pub has : {A : Type 0} (P : A → Type 0) (l : List A) → All P l → (g : A) → List·Memᴰ g l → P g
+has P [] h g m = absurd (List·Memᴰ·not-nil m)
+has P (x ∷ l) h g m = ⊎-elim (λ e. subst P (sym e) (h .0)) (λ m′. has P l (h .1) g m′) (List·Memᴰ·cases-cons m)
 
 pub any-two : (R : Living → Living → Type 0) (l : List Living) → EachTwo R l → Rising l → (g h : Living) → List·Memᴰ g l → List·Memᴰ h l → g .num < h .num → R g h
 any-two R [] e r g h m n lt = absurd (List·Memᴰ·not-nil m)
@@ -61,8 +62,8 @@ any-two R (x ∷ l) e r g h m n lt = go (λ a b. any-two R l (e .1) (r .1) g h a
   where
     go : (List·Memᴰ g l → List·Memᴰ h l → R g h) → (g ≡ x) ⊎ List·Memᴰ g l → (h ≡ x) ⊎ List·Memᴰ h l → R g h
     go ih (inl p) (inl q) = absurd (omega (arith, ap (λ (z : Living). z .num) p, ap (λ (z : Living). z .num) q))
-    go ih (inl p) (inr n) = subst (λ z. R z h) (sym p) (all-mem (R x) l (e .0) h n)
-    go ih (inr m) (inl q) = absurd (omega (arith, all-mem _ l (r .0) g m, ap (λ (z : Living). z .num) q))
+    go ih (inl p) (inr n) = subst (λ z. R z h) (sym p) (has (R x) l (e .0) h n)
+    go ih (inr m) (inl q) = absurd (omega (arith, has _ l (r .0) g m, ap (λ (z : Living). z .num) q))
     go ih (inr m) (inr n) = ih m n
 
 -- ---- a pair of a rising list is known by its numbers
@@ -71,10 +72,6 @@ mem-map : {A B : Type 0} (f : A → B) (l : List A) (b : B) → List·Memᴰ b (
 mem-map f [] b m = absurd (List·Memᴰ·not-nil m)
 mem-map f (x ∷ l) b m =
     ⊎-elim (λ e. (x, List·Memᴰ·head refl, e)) (λ m′. let r = mem-map f l b m′ in (r .0, List·Memᴰ·tail (r .1), r .2)) (List·Memᴰ·cases-cons m)
-
-has : {A : Type 0} (P : A → Type 0) (l : List A) → All P l → (g : A) → List·Memᴰ g l → P g
-has P [] h g m = absurd (List·Memᴰ·not-nil m)
-has P (x ∷ l) h g m = ⊎-elim (λ e. subst P (sym e) (h .0)) (λ m′. has P l (h .1) g m′) (List·Memᴰ·cases-cons m)
 
 outs-unique : (l : List Living) → Rising l → (o p : Out) → List·Memᴰ o (outs l) → List·Memᴰ p (outs l) → o .one .num ≡ p .one .num → o ≡ p
 unfolding outs keepOut
@@ -216,6 +213,34 @@ pairs-has (x ∷ l) r g h m n lt = go (λ a b. pairs-has l (r .1) g h a b lt) (L
         ap (without (h .num)) (without-keep (g .num) x l (λ e. omega arith)) ∙ without-keep (h .num) x (without (g .num) l) (λ e. omega arith) in
         Memᴰ·append-right (map (pairWith x) (outs l))
         (Memᴰ·cast (λ i. record { first = g; second = h; rest = e i }) (mem-onto (keepPair x) (pairs l) (pair-of g h l) (ih a b)))
+
+-- who is left
+pub without-all : (P : Living → Type 0) (k : ℕ) (l : List Living) → All P l → All (λ g. P g × (g .num ≢ k)) (without k l)
+without-all P k [] h = unfold without in tt
+without-all P k (g ∷ l) h = ⊎-elim
+    (λ (e : k ≡ g .num). rw (without-head k g l e) (without-all P k l (h .1)))
+    (λ d. rw (without-keep k g l d) ((h .0, λ e. d (sym e)), without-all P k l (h .1)))
+    (same-or-not k (g .num))
+
+pub without-mem : (k : ℕ) (l : List Living) (g : Living) → List·Memᴰ g l → g .num ≢ k → List·Memᴰ g (without k l)
+without-mem k [] g m n = absurd (List·Memᴰ·not-nil m)
+without-mem k (x ∷ l) g m n = ⊎-elim
+    (λ (e : k ≡ x .num).
+    rw (without-head k x l e)
+    (⊎-elim (λ (q : g ≡ x). absurd (n (ap (λ (z : Living). z .num) q ∙ sym e))) (λ m′. without-mem k l g m′ n) (List·Memᴰ·cases-cons m)))
+    (λ d.
+    rw (without-keep k x l d)
+    (⊎-elim (λ (q : g ≡ x). List·Memᴰ·head q) (λ m′. List·Memᴰ·tail (without-mem k l g m′ n)) (List·Memᴰ·cases-cons m)))
+    (same-or-not k (x .num))
+
+-- from any two, by number, to each two
+pub two-intro : (R : Living → Living → Type 0) (l : List Living) → Rising l → ((g h : Living) → List·Memᴰ g l → List·Memᴰ h l → g .num < h .num → R g h) → EachTwo R l
+two-intro R [] r f = tt
+two-intro R (x ∷ l) r f = (first l (r .0) (λ h m. List·Memᴰ·tail m), two-intro R l (r .1) (λ g h m n. f g h (List·Memᴰ·tail m) (List·Memᴰ·tail n)))
+  where
+    first : (l′ : List Living) → All (λ h. x .num < h .num) l′ → ((h : Living) → List·Memᴰ h l′ → List·Memᴰ h (x ∷ l)) → All (R x) l′
+    first [] a i = tt
+    first (y ∷ l′) a i = (f x y (List·Memᴰ·head refl) (i y (List·Memᴰ·head refl)) (a .0), first l′ (a .1) (λ h m. i h (List·Memᴰ·tail m)))
 
 -- What a program shows at each turn: the two groups that it found gain, and are ahead of every two that live.
 pub step-is : (s : State) → Rising (s .living) → (g h : Living) → List·Memᴰ g (s .living) → List·Memᴰ h (s .living) → g .num < h .num → 0 < gainOf g h → EachTwo (Ahead g h) (s .living) → step s ≡ merge s (pair-of g h (s .living))

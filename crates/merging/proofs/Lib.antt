@@ -16,3 +16,4 @@ pub mod SlotLaws
 pub mod WaitLaws
 pub mod StoreLaws
 pub mod JoinLaws
+pub mod HeldLaws

@@ -271,3 +271,31 @@ module _ (w k : ℕ) (xs : List Group) (p : Proper w xs) where
   -- "If a living group already has the joined shape, the source folds it in": no living group ever has it
   pub no-fold : (c : Pair) → choice (run k (start xs) .living) ≡ some c → All (λ h. h .group .shape ≡ join (c .first .group .shape) (c .second .group .shape) → ⊥) (c .rest)
   no-fold c e = merge-unlike w (run k (start xs)) c e run-full shapes-distinct
+
+-- ---- what the run keeps: the next number, and the sets
+
+pub run-next : (k : ℕ) (xs : List Group) → run k (start xs) .next ≡ length xs + length (run k (start xs) .log)
+unfolding start
+run-next k xs =
+    run-keeps (λ s. s .next ≡ length xs + length (s .log)) go k (start xs) (omega arith)
+  where
+    go : (s : State) (c : Pair) → choice (s .living) ≡ some c → s .next ≡ length xs + length (s .log) → merge s c .next ≡ length xs + length (merge s c .log)
+    go s c e p = let l = merge-length s c e .2 in unfold merge in omega (arith, l)
+
+number-sets : (k : ℕ) (xs : List Group) → weigh (λ g. g .group .sets) (number k xs) ≡ weigh (λ x. x .sets) xs
+unfolding number weigh
+number-sets k [] = refl
+number-sets k (x ∷ xs) = omega (arith, number-sets (suc k) xs)
+
+pub run-sets : (k : ℕ) (xs : List Group) → weigh (λ g. g .group .sets) (run k (start xs) .living) ≡ weigh (λ x. x .sets) xs
+unfolding start
+run-sets k xs =
+    run-keeps (λ s. weigh (λ g. g .group .sets) (s .living) ≡ weigh (λ x. x .sets) xs) go k (start xs) (number-sets 0 xs)
+  where
+    go : (s : State) (c : Pair) → choice (s .living) ≡ some c → weigh (λ g. g .group .sets) (s .living) ≡ weigh (λ x. x .sets) xs → weigh (λ g. g .group .sets) (merge s c .living) ≡ weigh (λ x. x .sets) xs
+    go s c e p =
+        let f : Living → ℕ = λ g. g .group .sets in
+        let a = chosen-has _ (s .living) c e (pairs-sum f (s .living)) in
+        let b = sum-end f (c .rest) (joinedAs (s .next) (c .first) (c .second)) in
+        let n = joined-sets (c .first .group) (c .second .group) in
+        unfold merge in omega (arith, a, b, n)

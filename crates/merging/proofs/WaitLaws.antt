@@ -107,18 +107,16 @@ module _ (t : Tables) (w w′ : List ℕ) (h : Laid t (length w)) (p : Only ((t 
 pub pair-kept : (t : Tables) (w w′ : List ℕ) (k a b : ℕ) → Kept t k w w′ → a < k → b < k → pairOf t w′ a b ≡ pairOf t w a b
 pair-kept t w w′ k a b h p q = λ i. record { gain = gain (h .group a p i) (h .group b q i); first = a; second = b }
 
-pub fair-kept : (t : Tables) (w w′ : List ℕ) (k c : ℕ) (q : Waiting) → Kept t (k + 1) w w′ → Fair t k c w q → Fair t k c w′ q
-fair-kept t w w′ k c q h f =
-    let r = f .reached in
-    let la : q .first < k + 1 = omega (arith, r .order, r .below) in
-    let lb : q .second < k + 1 = omega (arith, r .below) in
+pub fair-kept : (t : Tables) (w w′ : List ℕ) (i k c : ℕ) (q : Waiting) → Kept t i w w′ → q .second < i → Fair t k c w q → Fair t k c w′ q
+fair-kept t w w′ i k c q h lb f =
+    let la : q .first < i = omega (arith, f .reached .order) in
     record {
-      reached = r;
+      reached = f .reached;
       some = f .some;
       is = λ x y.
           let x′ : 0 < placeOf t w (q .first) = omega (arith, h .place (q .first) la) in
           let y′ : 0 < placeOf t w (q .second) = omega (arith, h .place (q .second) lb) in
-          f .is x′ y′ ∙ sym (pair-kept t w w′ (k + 1) (q .first) (q .second) h la lb);
+          f .is x′ y′ ∙ sym (pair-kept t w w′ i (q .first) (q .second) h la lb);
     }
 
 -- what waits, said of the words before
@@ -135,7 +133,7 @@ waits-move t w w′ k c n h o f g = record {
       let y′ : 0 < placeOf t w b = omega (arith, h .place b lb) in
       let z′ : 0 < gain (groupOf t w a) (groupOf t w b) = omega (arith, ap (λ (p : Waiting). p .gain) e) in
       subst (Has (heapOf t w′) n) (sym e) (f a b r x′ y′ z′);
-  fair = λ q u. fair-kept t w w′ k c q h (g q u);
+  fair = λ q u. let f = g q u in fair-kept t w w′ (k + 1) k c q h (omega (arith, f .reached .below)) f;
 }
 
 -- ---- weighing k with c

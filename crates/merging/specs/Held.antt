@@ -17,7 +17,9 @@ use Rattle.merging.specs.Waits.{placeOf, groupOf, alive, pairOf, heapOf,
 
 -- the group lies in the slot of its number
 pub record Lives (t : Tables) (w : List ℕ) (g : Living) : Type 0 where
+  pub known : g .num < 2 * t .groups
   pub alive : 0 < placeOf t w (g .num)
+  pub slot : placeOf t w (g .num) ≤ t .groups
   pub is : groupOf t w (g .num) ≡ g .group
 
 -- c is the number of a living group
@@ -33,8 +35,8 @@ words (e ∷ l) = e .first ∷ e .second ∷ e .gain ∷ words l
 
 -- number c was joined into one that was joined into .. d, which lives
 pub data Reaches (t : Tables) (w : List ℕ) : ℕ → ℕ → Type 0 where
-  here : (c : ℕ) → 0 < placeOf t w c → Reaches t w c c
-  onto : (c d : ℕ) → placeOf t w c ≡ 0 → Reaches t w (getD w (t .into + c) 0) d → Reaches t w c d
+  here : (c : ℕ) → c < 2 * t .groups → 0 < placeOf t w c → Reaches t w c c
+  onto : (c d : ℕ) → c < 2 * t .groups → placeOf t w c ≡ 0 → Reaches t w (getD w (t .into + c) 0) d → Reaches t w c d
 
 -- the state s, after j merges, lies in the tables
 pub record Held (t : Tables) (s : State) (j : ℕ) (w : List ℕ) : Type 0 where
