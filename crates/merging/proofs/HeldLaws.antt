@@ -42,9 +42,9 @@ module _ (t : Tables) (w w′ : List ℕ) (h : Laid t (length w)) (p : Only ((t 
         is = group-of-kept t w w′ (g .num) (omega (arith, l .known)) (l .slot) e (heap-groups t w w′ h p) ∙ l .is;
       }
 
-  pub reaches-kept : {c d : ℕ} → Reaches t w c d → Reaches t w′ c d
-  reaches-kept (here c l a) = here c l (rw (heap-place t w w′ h p c l) a)
-  reaches-kept (onto c d l a r) = onto c d l (rw (heap-place t w w′ h p c l) a) (rw (into-kept c l) (reaches-kept r))
+  reaches-kept : (k : ℕ) {c d : ℕ} → k ≤ 2 * t .groups → Reaches t k w c d → Reaches t k w′ c d
+  reaches-kept k m (here c l a) = here c l (rw (heap-place t w w′ h p c (omega arith)) a)
+  reaches-kept k m (onto c d l a r) = onto c d l (rw (heap-place t w w′ h p c (omega arith)) a) (rw (into-kept c (omega arith)) (reaches-kept k m r))
 
   pub held-kept : (s : State) (j : ℕ) → t .groups + j ≤ 2 * t .groups → Held t s j w → Held t s j w′
   held-kept s j m q =
@@ -62,7 +62,7 @@ module _ (t : Tables) (w w′ : List ℕ) (h : Laid t (length w)) (p : Only ((t 
         onward = λ c l a.
             let o = q .onward c l (sym (e c l) ∙ a) in
             rw (into-kept c (omega arith)) o;
-        homes = all-imp (λ g. all-imp (λ i. reaches-kept) (g .origins)) (s .living) (q .homes);
+        homes = all-imp (λ g. all-imp (λ i. reaches-kept (t .groups + j) m) (g .origins)) (s .living) (q .homes);
       }
 
 -- ---- as many merges as groups, at most

@@ -17,3 +17,4 @@ pub mod WaitLaws
 pub mod StoreLaws
 pub mod JoinLaws
 pub mod HeldLaws
+pub mod MergeLaws

@@ -33,10 +33,10 @@ unfoldable pub words : List Entry → List ℕ
 words [] = []
 words (e ∷ l) = e .first ∷ e .second ∷ e .gain ∷ words l
 
--- number c was joined into one that was joined into .. d, which lives
-pub data Reaches (t : Tables) (w : List ℕ) : ℕ → ℕ → Type 0 where
-  here : (c : ℕ) → c < 2 * t .groups → 0 < placeOf t w c → Reaches t w c c
-  onto : (c d : ℕ) → c < 2 * t .groups → placeOf t w c ≡ 0 → Reaches t w (getD w (t .into + c) 0) d → Reaches t w c d
+-- number c was joined into one that was joined into .. d, which lives; all below k
+pub data Reaches (t : Tables) (k : ℕ) (w : List ℕ) : ℕ → ℕ → Type 0 where
+  here : (c : ℕ) → c < k → 0 < placeOf t w c → Reaches t k w c c
+  onto : (c d : ℕ) → c < k → placeOf t w c ≡ 0 → Reaches t k w (getD w (t .into + c) 0) d → Reaches t k w c d
 
 -- the state s, after j merges, lies in the tables
 pub record Held (t : Tables) (s : State) (j : ℕ) (w : List ℕ) : Type 0 where
@@ -50,7 +50,7 @@ pub record Held (t : Tables) (s : State) (j : ℕ) (w : List ℕ) : Type 0 where
   pub counted : sum (alive t w) (t .groups + j) ≡ length (s .living)
   pub log-is : seg (t .log) (3 * j) w ≡ words (s .log)
   pub onward : (c : ℕ) → c < t .groups + j → placeOf t w c ≡ 0 → (c < getD w (t .into + c) 0) × (getD w (t .into + c) 0 < t .groups + j)
-  pub homes : All (λ g. All (λ i. Reaches t w i (g .num)) (g .origins)) (s .living)
+  pub homes : All (λ g. All (λ i. Reaches t (t .groups + j) w i (g .num)) (g .origins)) (s .living)
 
 -- The run of the groups xs, after j merges: n pairs wait, m were weighed, and the groups cost z together.
 pub record Standing (t : Tables) (xs : List Group) (n m j z : ℕ) (w : List ℕ) : Type 0 where
