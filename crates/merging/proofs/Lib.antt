@@ -18,3 +18,4 @@ pub mod StoreLaws
 pub mod JoinLaws
 pub mod HeldLaws
 pub mod MergeLaws
+pub mod RunLaws

@@ -135,3 +135,32 @@ pub record PairJoined (t : Tables) (j : ℕ) (p : Waiting) (w w′ : List ℕ) :
   pub others-into : (c : ℕ) → c ≢ p .first → c ≢ p .second → c < t .groups + j → getD w′ (t .into + c) 0 ≡ getD w (t .into + c) 0
   pub log-new : seg (t .log + 3 * j) 3 w′ ≡ p .first ∷ p .second ∷ p .gain ∷ []
   pub log-old : seg (t .log) (3 * j) w′ ≡ seg (t .log) (3 * j) w
+
+-- ---- The groups that a run started from are known to no function below `optimize`: what each asks holds of some groups, and what each does of
+-- any that hold.
+
+pub record SomeStanding (t : Tables) (n m j z : ℕ) (w : List ℕ) : Type 0 where
+  pub groups : List Group
+  pub standing : Standing t groups n m j z w
+
+pub record SomeChosen (t : Tables) (n m j z : ℕ) (p : Waiting) (w : List ℕ) : Type 0 where
+  pub groups : List Group
+  pub chosen : Chosen t groups n m j z p w
+
+-- the pair p was joined or passed over
+pub record Decided (t : Tables) (n m j z : ℕ) (p : Waiting) (n′ m′ j′ z′ : ℕ) (w w′ : List ℕ) : Type 0 where
+  pub only : Only (written t) w w′
+  pub stands : (xs : List Group) → Chosen t xs n m j z p w → Standing t xs n′ m′ j′ z′ w′
+  pub less : n′ + m ≤ n + m′
+
+-- a turn of the run
+pub record Turned (t : Tables) (n m j z n′ m′ j′ z′ : ℕ) (w w′ : List ℕ) : Type 0 where
+  pub only : Only (written t) w w′
+  pub stands : (xs : List Group) → Standing t xs n m j z w → Standing t xs n′ m′ j′ z′ w′
+  pub less : n′ + m < n + m′
+
+-- the whole run: nothing waits
+pub record Ran (t : Tables) (n m j z n′ m′ j′ z′ : ℕ) (w w′ : List ℕ) : Type 0 where
+  pub only : Only (written t) w w′
+  pub stands : (xs : List Group) → Standing t xs n m j z w → Standing t xs n′ m′ j′ z′ w′
+  pub done : n′ ≡ 0

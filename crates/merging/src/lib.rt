@@ -2,6 +2,7 @@
 mod groups;
 mod pairs;
 mod queue;
+mod run;
 mod tables;
 mod waits;
 
