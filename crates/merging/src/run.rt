@@ -57,3 +57,33 @@ fn decide(work: &mut [u32], t: Tables, s: Progress, p: Waiting) -> Progress
     }
     join(work, t, s, p)
 }
+
+// Takes the best pair, and decides on it.
+fn turn(work: &mut [u32], t: Tables, s: Progress) -> Progress
+    requires { ⌜ SomeStanding t (s .waiting) (s .weighed) (s .merges) (s .size) (now work) ⌝ }
+    requires { ⌜ 0 < s .waiting ⌝ }
+    ensures { λ r. ⌜ Turned t (s .waiting) (s .weighed) (s .merges) (s .size) (r .waiting) (r .weighed) (r .merges) (r .size) (now (work .entry)) (now (work .exit)) ⌝ }
+{
+    let Taken::Best(p) = waits::take(work, t, s.waiting) else {
+        return s;
+    };
+    let left = Progress {
+        waiting: s.waiting - 1,
+        weighed: s.weighed,
+        merges: s.merges,
+        size: s.size,
+    };
+    decide(work, t, left, p)
+}
+
+// Until nothing waits.
+pub fn run(work: &mut [u32], t: Tables, start: Progress) -> Progress
+    requires { ⌜ SomeStanding t (start .waiting) (start .weighed) (start .merges) (start .size) (now work) ⌝ }
+    ensures { λ r. ⌜ Ran t (start .waiting) (start .weighed) (start .merges) (start .size) (r .waiting) (r .weighed) (r .merges) (r .size) (now (work .entry)) (now (work .exit)) ⌝ }
+{
+    let mut s = start;
+    while 0 < s.waiting {
+        s = turn(work, t, s);
+    }
+    s
+}
