@@ -19,3 +19,4 @@ pub mod JoinLaws
 pub mod HeldLaws
 pub mod MergeLaws
 pub mod RunLaws
+pub mod FinishLaws

@@ -3,3 +3,4 @@ pub mod Queue
 pub mod Lent
 pub mod Waits
 pub mod Held
+pub mod Optimized

@@ -1,5 +1,6 @@
 // Merging: groups of sets are joined while that saves bytes.
 mod groups;
+mod optimize;
 mod pairs;
 mod queue;
 mod run;
