@@ -20,3 +20,4 @@ pub mod HeldLaws
 pub mod MergeLaws
 pub mod RunLaws
 pub mod FinishLaws
+pub mod OptimizeLaws

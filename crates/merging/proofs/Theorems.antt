@@ -98,7 +98,7 @@ merge-length s c e =
     let a = chosen-has _ (s .living) c e (pairs-length (s .living)) in
     simp length-append (omega (arith, a))
 
-number-length : (k : ℕ) (xs : List Group) → length (number k xs) ≡ length xs
+pub number-length : (k : ℕ) (xs : List Group) → length (number k xs) ≡ length xs
 unfolding number
 number-length k [] = refl
 number-length k (x ∷ xs) = ap suc (number-length (suc k) xs)

@@ -334,7 +334,7 @@ pub record Opens (t : Tables) (w₀ w : List ℕ) (n m k : ℕ) : Type 0 where
   pub weighed : 2 * m + k ≡ k * k
   pub few : n ≤ m
 
-sum-ones : (a : ℕ → ℕ) (k : ℕ) → ((c : ℕ) → c < k → a c ≡ 1) → sum a k ≡ k
+pub sum-ones : (a : ℕ → ℕ) (k : ℕ) → ((c : ℕ) → c < k → a c ≡ 1) → sum a k ≡ k
 unfolding sum
 sum-ones a zero h = refl
 sum-ones a (suc k) h = omega (arith, sum-ones a k (λ c l. h c (omega arith)), h k (omega arith))

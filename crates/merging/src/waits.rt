@@ -62,7 +62,7 @@ pub fn offer_all(work: &mut [u32], t: Tables, k: usize, at: Tally) -> Tally
 }
 
 // Weighs each pair of the starting groups.
-pub fn open(work: &mut [u32], t: Tables) -> Tally
+pub fn weigh_each(work: &mut [u32], t: Tables) -> Tally
     requires { ⌜ Opening t (now work) ⌝ }
     ensures { λ r. ⌜ Opened t (r .waiting) (r .weighed) (now (work .entry)) (now (work .exit)) ⌝ }
 {

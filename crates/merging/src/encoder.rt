@@ -63,3 +63,28 @@ fn finish(work: &mut [u32], t: Tables, k: usize)
         resolve(work, t, c);
     }
 }
+
+// Joins groups while a pair gains, the best pair first.
+pub fn optimize(work: &mut [u32], t: Tables) -> Merged
+    requires { ⌜ Ready t (now work) ⌝ }
+    ensures { λ r. ⌜ Optimized t (r .merges) (r .weighed) (r .before) (r .after) (now (work .entry)) (now (work .exit)) ⌝ }
+{
+    groups::measure_all(work, t);
+    let before = groups::size(work, t);
+    settle(work, t);
+    let tally = waits::weigh_each(work, t);
+    let start = Progress {
+        waiting: tally.waiting,
+        weighed: tally.weighed,
+        merges: 0,
+        size: before,
+    };
+    let end = run::run(work, t, start);
+    finish(work, t, t.groups + end.merges);
+    Merged {
+        merges: end.merges,
+        weighed: end.weighed,
+        before,
+        after: end.size,
+    }
+}

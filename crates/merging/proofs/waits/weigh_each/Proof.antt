@@ -2,10 +2,10 @@ use Prim.Native.Nat.{_-_}
 use Rattle.merging.proofs.WaitLaws.{Opens, opens-start, opens-asks, opens-room, opens-more, opens-done}
 use borrow.Author.Needs.{needs}
 use native.Mathlib.Omega.{arith}
-use Rattle.merging.proofs.waits.open.Statement.{statement}
-use Rattle.merging.proofs.waits.open.Tie as tie
-use Rattle.merging.proofs.waits.open.Reads as reads
-use Rattle.merging.proofs.waits.open.Lts as lts
+use Rattle.merging.proofs.waits.weigh_each.Statement.{statement}
+use Rattle.merging.proofs.waits.weigh_each.Tie as tie
+use Rattle.merging.proofs.waits.weigh_each.Reads as reads
+use Rattle.merging.proofs.waits.weigh_each.Lts as lts
 use Rattle.merging.proofs.waits.offer_all.Reads as offer-all-reads
 
 abbrev Inv-loop : tie.InvT-loop
@@ -39,8 +39,8 @@ same-length c = c .before .loop .inv .only .long
 returns : tie.Need-returns Inv-loop μ-loop
 returns c = opens-done _ _ (c .before .before .before .pre) _ _ _ _ (c .before .loop .inv) (omega arith)
 
-pub open-spec : {M : Type 1} → statement M
-open-spec =
+pub weigh-each-spec : {M : Type 1} → statement M
+weigh-each-spec =
     tie.close
     (tie.spec
     Inv-loop
