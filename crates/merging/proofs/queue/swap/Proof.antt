@@ -1,0 +1,31 @@
+use borrow.Author.Needs.{needs}
+use Rattle.merging.proofs.QueueWords.{puts-swap}
+use Rattle.merging.proofs.queue.swap.Statement.{statement}
+use Rattle.merging.proofs.queue.swap.Tie as tie
+use Rattle.merging.proofs.queue.swap.Reads as reads
+use Rattle.merging.proofs.queue.swap.Lts as lts
+use Rattle.merging.proofs.queue.read.Reads as read-reads
+use Rattle.merging.proofs.queue.write.Reads as write-reads
+
+read-requires : tie.Need-read-requires
+read-requires c κs = search needs
+
+read-requires-2 : tie.Need-read-requires-2
+read-requires-2 c κs = search needs
+
+write-requires : tie.Need-write-requires
+write-requires c κs = search needs
+
+write-requires-2 : tie.Need-write-requires-2
+write-requires-2 c κs = search needs
+
+same-length : tie.Need-same-length
+same-length c = search needs
+
+returns : tie.Need-returns
+returns c = search puts-swap
+
+pub swap-spec : {M : Type 1} → statement M
+swap-spec =
+    tie.close
+    (tie.spec read-requires read-requires-2 write-requires write-requires-2 same-length returns)

@@ -1,0 +1,6 @@
+pub mod Model
+pub mod Queue
+pub mod Lent
+pub mod Waits
+pub mod Held
+pub mod Optimized

@@ -1,0 +1,90 @@
+// Merging, from the starting groups to the living ones.
+use crate::groups;
+use crate::run;
+use crate::run::Progress;
+use crate::tables::Tables;
+use crate::waits;
+ghost use mathlib.Core.Path.{_≡_};
+ghost use Prim.Native.Nat.{ℕ, _+_, _*_, _≤_, _<_};
+ghost use lib.ListN.{length, getD};
+ghost use Rattle.merging.specs.Lent.{Laid, Dealt};
+ghost use Rattle.merging.specs.Waits.{placeOf};
+ghost use Rattle.merging.specs.Optimized.{Ready, Optimized, Settled, Onward, Resolved, Finished};
+
+// How many merges there were and pairs were weighed, and the modelled size before and after.
+pub struct Merged {
+    pub merges: usize,
+    pub weighed: usize,
+    pub before: u64,
+    pub after: u64,
+}
+
+// Number i lives in the slot of starting group i.
+fn settle(work: &mut [u32], t: Tables)
+    requires { ⌜ Laid t (length (now work)) ⌝ }
+    requires { ⌜ Dealt t (now work) ⌝ }
+    ensures { λ _. ⌜ Settled t (now (work .entry)) (now (work .exit)) ⌝ }
+{
+    let groups = t.groups;
+    let place = t.place;
+    let order = t.order;
+    let mut i = 0;
+    while i < groups {
+        work[place + i] = work[order + i] + 1;
+        i += 1;
+    }
+}
+
+// The heir of number c, where those of the later numbers are known.
+fn resolve(work: &mut [u32], t: Tables, c: usize)
+    requires { ⌜ Laid t (length (now work)) ⌝ }
+    requires { ⌜ c < 2 * t .groups ⌝ }
+    requires { ⌜ (placeOf t (now work) c ≡ 0 → getD (now work) (t .into + c) 0 < 2 * t .groups) ⌝ }
+    ensures { λ _. ⌜ Resolved t c (now (work .entry)) (now (work .exit)) ⌝ }
+{
+    let place = t.place;
+    let into = t.into;
+    if work[place + c] == 0 {
+        let heir = work[into + c] as usize;
+        work[into + c] = work[into + heir];
+    } else {
+        work[into + c] = c as u32;
+    }
+}
+
+// The living number that each number below k went into, from the last down to the first.
+fn finish(work: &mut [u32], t: Tables, k: usize)
+    requires { ⌜ Onward t k (now work) ⌝ }
+    ensures { λ _. ⌜ Finished t k (now (work .entry)) (now (work .exit)) ⌝ }
+{
+    let mut c = k;
+    while 0 < c {
+        c -= 1;
+        resolve(work, t, c);
+    }
+}
+
+// Joins groups while a pair gains, the best pair first.
+pub fn optimize(work: &mut [u32], t: Tables) -> Merged
+    requires { ⌜ Ready t (now work) ⌝ }
+    ensures { λ r. ⌜ Optimized t (r .merges) (r .weighed) (r .before) (r .after) (now (work .entry)) (now (work .exit)) ⌝ }
+{
+    groups::measure_all(work, t);
+    let before = groups::size(work, t);
+    settle(work, t);
+    let tally = waits::weigh_each(work, t);
+    let start = Progress {
+        waiting: tally.waiting,
+        weighed: tally.weighed,
+        merges: 0,
+        size: before,
+    };
+    let end = run::run(work, t, start);
+    finish(work, t, t.groups + end.merges);
+    Merged {
+        merges: end.merges,
+        weighed: end.weighed,
+        before,
+        after: end.size,
+    }
+}

@@ -1,0 +1,14 @@
+// Merging: groups of sets are joined while that saves bytes.
+mod encoder;
+mod groups;
+mod pairs;
+mod queue;
+mod run;
+mod tables;
+mod waits;
+
+pub use encoder::Merged;
+pub use encoder::optimize;
+pub use queue::Taken;
+pub use queue::Waiting;
+pub use tables::Tables;

@@ -1,0 +1,92 @@
+// The pairs that wait: each pair of living groups that was weighed and gains.
+use crate::groups;
+use crate::queue;
+use crate::queue::Taken;
+use crate::tables::Tables;
+ghost use mathlib.Core.Path.{_≡_};
+ghost use Prim.Native.Nat.{ℕ, _+_, _*_, _≤_, _<_};
+ghost use lib.ListN.{length, getD};
+ghost use Rattle.laws.specs.Bag.{sum};
+ghost use Rattle.merging.specs.Lent.{Laid, Sound, room};
+ghost use Rattle.merging.specs.Queue.{HeapOrdered};
+ghost use Rattle.merging.specs.Waits.{heapOf, alive, Asked, Offered, OfferedAll, Opening, Opened, Took};
+
+// How many pairs wait, and how many were weighed.
+pub struct Tally {
+    pub waiting: usize,
+    pub weighed: usize,
+}
+
+// Weighs numbers c and k, if c lives; where they gain, they wait.
+fn offer(work: &mut [u32], t: Tables, c: usize, k: usize, at: Tally) -> Tally
+    requires { ⌜ Asked t k c (at .waiting) (now work) ⌝ }
+    requires { ⌜ c < k ⌝ }
+    requires { ⌜ at .waiting + alive t (now work) c ≤ room (t .groups) ⌝ }
+    requires { ⌜ at .weighed + alive t (now work) c ≤ room (t .groups) ⌝ }
+    ensures { λ r. ⌜ Offered t k c (at .waiting) (at .weighed) (r .waiting) (r .weighed) (now (work .entry)) (now (work .exit)) ⌝ }
+{
+    let place = t.place;
+    let x = work[place + c] as usize;
+    if x == 0 {
+        return at;
+    }
+    let y = work[place + k] as usize;
+    let gain = groups::weigh(work, t, x - 1, y - 1);
+    let weighed = at.weighed + 1;
+    if gain == 0 {
+        return Tally {
+            waiting: at.waiting,
+            weighed,
+        };
+    }
+    let heap = t.heap;
+    let end = heap + 3 * t.room();
+    let waiting = queue::push(&mut work[heap..end], at.waiting, gain, c as u32, k as u32);
+    Tally { waiting, weighed }
+}
+
+// Weighs number k with each living number below it.
+pub fn offer_all(work: &mut [u32], t: Tables, k: usize, at: Tally) -> Tally
+    requires { ⌜ Asked t k 0 (at .waiting) (now work) ⌝ }
+    requires { ⌜ at .waiting + sum (alive t (now work)) k ≤ room (t .groups) ⌝ }
+    requires { ⌜ at .weighed + sum (alive t (now work)) k ≤ room (t .groups) ⌝ }
+    ensures { λ r. ⌜ OfferedAll t k (at .waiting) (at .weighed) (r .waiting) (r .weighed) (now (work .entry)) (now (work .exit)) ⌝ }
+{
+    let mut now = at;
+    let mut c = 0;
+    while c < k {
+        now = offer(work, t, c, k, now);
+        c += 1;
+    }
+    now
+}
+
+// Weighs each pair of the starting groups.
+pub fn weigh_each(work: &mut [u32], t: Tables) -> Tally
+    requires { ⌜ Opening t (now work) ⌝ }
+    ensures { λ r. ⌜ Opened t (r .waiting) (r .weighed) (now (work .entry)) (now (work .exit)) ⌝ }
+{
+    let groups = t.groups;
+    let mut now = Tally {
+        waiting: 0,
+        weighed: 0,
+    };
+    let mut k = 0;
+    while k < groups {
+        now = offer_all(work, t, k, now);
+        k += 1;
+    }
+    now
+}
+
+// Takes the best pair out of the n that wait.
+pub fn take(work: &mut [u32], t: Tables, n: usize) -> Taken
+    requires { ⌜ Laid t (length (now work)) ⌝ }
+    requires { ⌜ n ≤ room (t .groups) ⌝ }
+    requires { ⌜ HeapOrdered (heapOf t (now work)) n ⌝ }
+    ensures { λ r. ⌜ Took t n r (now (work .entry)) (now (work .exit)) ⌝ }
+{
+    let heap = t.heap;
+    let end = heap + 3 * t.room();
+    queue::take(&mut work[heap..end], n)
+}
