@@ -66,9 +66,16 @@ groups-kept t m u w p q r = tabulate-same 0 m (groupIn t w) (groupIn t u)
     let l : i < m = omega arith in
     group-eq (ap (λ (s : ℕ). shapeIn t s w) (p i l) ∙ r i l) (ap (λ (s : ℕ). getD w (t .counts + s) 0) (p i l) ∙ q i l))
 
--- a slot lies within the slots
+-- a slot lies within the slots, before the other tables
+pub slot-end : {t : Shapes} {w : List ℕ} → Laid t w → (s : ℕ) → s ≤ t .room → t .slots + s * t .regions + t .regions ≤ t .order
+slot-end {t} l s h = omega (arith, l .slots-to, row-fits (t .regions) (t .room + 1) s (omega arith))
+
 pub slot-room : {t : Shapes} {w : List ℕ} → Laid t w → (s : ℕ) → s ≤ t .room → t .slots + s * t .regions + t .regions ≤ length w
-slot-room {t} l s h = omega (arith, l .slots-to, row-fits (t .regions) (t .room + 1) s (omega arith))
+slot-room l s h = omega (arith, slot-end l s h, l .order-to, l .counts-to)
+
+-- the slots come before the numbers
+pub slots-first : {t : Shapes} {w : List ℕ} → Laid t w → t .slots ≤ t .order
+slots-first {t} l = omega (arith, slot-end l 0 (omega arith))
 
 module _ {t : Shapes} {m kind : ℕ} {w : List ℕ} (a : AddFit t m kind w) where
   laid : Laid t w
@@ -98,7 +105,7 @@ module _ {t : Shapes} {m kind : ℕ} {w : List ℕ} (a : AddFit t m kind w) wher
 
   pub searchable : Searchable t m m w
   searchable = record {
-    room = omega (arith, laid .order-to, laid .counts-to, laid .slots-to, fits);
+    room = omega (arith, laid .order-to, laid .counts-to, fits);
     sought = sought-fits;
     slot = slot-fits;
     ordered = λ i j p q. let l : i < m = omega arith in rw (shape-at t m w i l, shape-at t m w j q) at (before i j p q);
@@ -123,15 +130,16 @@ module _ {t : Shapes} {m kind : ℕ} {w : List ℕ} (a : AddFit t m kind w) wher
   shape-kept : {new : List ℕ} → Only may w new → (s : ℕ) → s ≤ t .room → shapeIn t s new ≡ shapeIn t s w
   unfolding shapeIn
   shape-kept o s h = only-seg o (t .slots + s * t .regions) (t .regions) (slot-room laid s h)
-      (λ k p q. (
-        record { apart = λ x. omega (arith, a .kind-to, laid .order-to, laid .counts-to) },
-        (record { apart = λ x. omega (arith, laid .order-to, laid .counts-to) }, (record { apart = λ x. omega (arith, laid .counts-to) }, tt)),
+      (λ k p q.
+      let e = slot-end laid s h in (
+        record { apart = λ x. omega (arith, a .kind-to) },
+        (record { apart = λ x. absurd (omega arith) }, (record { apart = λ x. absurd (omega (arith, laid .order-to)) }, tt)),
       ))
 
   table-of : {new : List ℕ} {r : ℕ} → length new ≡ length w → r ≤ t .room → ((i : ℕ) → i < r → slotIn t i new < r)
       → groupsIn t r new ≡ withShape (groupsIn t m w) (shapeIn t m w) → Table t r new
   table-of {new} {r} l f b e = record {
-    laid = record { order-to = laid .order-to; counts-to = laid .counts-to; slots-to = omega (arith, laid .slots-to); few = laid .few; narrow = laid .narrow };
+    laid = record { slots-to = laid .slots-to; order-to = laid .order-to; counts-to = omega (arith, laid .counts-to); few = laid .few; narrow = laid .narrow };
     fits = f;
     below = b;
     ordered = rw e (with-before (t .regions) (groupsIn t m w) (shapeIn t m w) (shape-in-length t m w sought-fits) long (a .table .ordered));
@@ -143,10 +151,10 @@ module _ {t : Shapes} {m kind : ℕ} {w : List ℕ} (a : AddFit t m kind w) wher
   module _ {i : ℕ} (f : FoundAt t m m w i) where
     pub join-fit : JoinFit t i kind w
     join-fit = record {
-      place = omega (arith, f .below, fits, laid .order-to, laid .counts-to, laid .slots-to);
-      count = omega (arith, slot-below i (f .below), fits, laid .counts-to, laid .slots-to);
+      place = omega (arith, f .below, fits, slots-first laid, laid .order-to, laid .counts-to);
+      count = omega (arith, slot-below i (f .below), fits, laid .counts-to);
       small = a .small i (f .below);
-      kind-in = omega (arith, a .kind-to, laid .order-to, laid .counts-to, laid .slots-to);
+      kind-in = omega (arith, a .kind-to, slots-first laid, laid .order-to, laid .counts-to);
     }
 
     module _ {new : List ℕ} (j : JoinedIn t i kind w new) where
@@ -160,17 +168,17 @@ module _ {t : Shapes} {m kind : ℕ} {w : List ℕ} (a : AddFit t m kind w) wher
 
       slot-same : (k : ℕ) → k < m → slotIn t k new ≡ slotIn t k w
       slot-same k l = rw (j .is)
-          (getD-set-other (set w (t .counts + slotIn t i w) v) kind (t .order + k) (slotIn t i w) 0 (omega (arith, a .kind-to))
+          (getD-set-other (set w (t .counts + slotIn t i w) v) kind (t .order + k) (slotIn t i w) 0 (omega (arith, a .kind-to, slots-first laid))
           ∙ getD-set-other w (t .counts + slotIn t i w) (t .order + k) v 0 (omega (arith, laid .order-to, fits)))
 
       count-same : (s : ℕ) → s < m → (s ≡ slotIn t i w → ⊥) → getD new (t .counts + s) 0 ≡ getD w (t .counts + s) 0
       count-same s l n = rw (j .is)
-          (getD-set-other (set w (t .counts + slotIn t i w) v) kind (t .counts + s) (slotIn t i w) 0 (omega (arith, a .kind-to, laid .order-to))
+          (getD-set-other (set w (t .counts + slotIn t i w) v) kind (t .counts + s) (slotIn t i w) 0 (omega (arith, a .kind-to, slots-first laid, laid .order-to))
           ∙ getD-set-other w (t .counts + slotIn t i w) (t .counts + s) v 0 (λ e. n (omega arith)))
 
       count-more : getD new (t .counts + slotIn t i w) 0 ≡ getD w (t .counts + slotIn t i w) 0 + 1
       count-more = rw (j .is)
-          (getD-set-other (set w (t .counts + slotIn t i w) v) kind (t .counts + slotIn t i w) (slotIn t i w) 0 (omega (arith, a .kind-to, laid .order-to))
+          (getD-set-other (set w (t .counts + slotIn t i w) v) kind (t .counts + slotIn t i w) (slotIn t i w) 0 (omega (arith, a .kind-to, slots-first laid, laid .order-to))
           ∙ getD-set-same w (t .counts + slotIn t i w) v 0 (join-fit .count))
 
       kind-is : getD new kind 0 ≡ slotIn t i w
@@ -227,10 +235,10 @@ module _ {t : Shapes} {m kind : ℕ} {w : List ℕ} (a : AddFit t m kind w) wher
       pub new-fit : NewFit t m i kind w
       new-fit = record {
         most = f .most;
-        place = omega (arith, laid .order-to, laid .counts-to, laid .slots-to);
-        count = omega (arith, laid .counts-to, laid .slots-to);
+        place = omega (arith, slots-first laid, laid .order-to, laid .counts-to);
+        count = omega (arith, laid .counts-to);
         few = omega (arith, laid .few);
-        kind-in = omega (arith, a .kind-to, laid .order-to, laid .counts-to, laid .slots-to);
+        kind-in = omega (arith, a .kind-to, slots-first laid, laid .order-to, laid .counts-to);
       }
 
       module _ {new : List ℕ} (n : NewIn t m i kind w new) where
@@ -243,18 +251,18 @@ module _ {t : Shapes} {m kind : ℕ} {w : List ℕ} (a : AddFit t m kind w) wher
 
         order-is : (k : ℕ) → k ≤ m → slotIn t k new ≡ slotIn t k (n .between)
         order-is k l = rw (n .is)
-            (getD-set-other (set (n .between) (t .counts + m) 1) kind (t .order + k) m 0 (omega (arith, a .kind-to))
+            (getD-set-other (set (n .between) (t .counts + m) 1) kind (t .order + k) m 0 (omega (arith, a .kind-to, slots-first laid))
             ∙ getD-set-other (n .between) (t .counts + m) (t .order + k) 1 0 (omega (arith, laid .order-to)))
 
         count-old : (s : ℕ) → s < m → getD new (t .counts + s) 0 ≡ getD w (t .counts + s) 0
         count-old s l = rw (n .is)
-            (getD-set-other (set (n .between) (t .counts + m) 1) kind (t .counts + s) m 0 (omega (arith, a .kind-to, laid .order-to))
+            (getD-set-other (set (n .between) (t .counts + m) 1) kind (t .counts + s) m 0 (omega (arith, a .kind-to, slots-first laid, laid .order-to))
             ∙ getD-set-other (n .between) (t .counts + m) (t .counts + s) 1 0 (omega arith)
             ∙ n .inserted .only .kept (t .counts + s) (record { apart = λ x. omega (arith, laid .order-to) }, tt))
 
         count-new : getD new (t .counts + m) 0 ≡ 1
         count-new = rw (n .is)
-            (getD-set-other (set (n .between) (t .counts + m) 1) kind (t .counts + m) m 0 (omega (arith, a .kind-to, laid .order-to))
+            (getD-set-other (set (n .between) (t .counts + m) 1) kind (t .counts + m) m 0 (omega (arith, a .kind-to, slots-first laid, laid .order-to))
             ∙ getD-set-same (n .between) (t .counts + m) 1 0 (omega (arith, new-fit .count, n .inserted .only .long)))
 
         kind-new : getD new kind 0 ≡ m

@@ -35,7 +35,7 @@ use Rattle.groups.specs.Table.{shapeIn, slotIn, groupIn, groupsIn, Laid,
 use Rattle.sets.proofs.IdLaws.{Grows, grows-here, first-distinct, again-distinct, again-same, distinct-most, distinct-all-of, place-first}
 use Rattle.sets.proofs.HeldLaws.{Kept, kept-only, held-kept, held-stored, set-same, sets-length, sets-at}
 use Rattle.groups.proofs.GroupLaws.{shape-length, with-length, from-length, from-count, from-append}
-use Rattle.groups.proofs.AddSteps.{none, groups-length, groups-at, group-sets, groups-kept, slot-room}
+use Rattle.groups.proofs.AddSteps.{none, groups-length, groups-at, group-sets, groups-kept, slot-end, slot-room, slots-first}
 
 -- the shape of a set of few regions is narrow
 pub shape-narrow : (regions : ℕ) (s : Set) → regions ≤ 65536 → Narrow (shapeOf regions s)
@@ -59,11 +59,11 @@ module _ {t : Shapes} {index x m kind : ℕ} {w : List ℕ} (f : SetFit t index 
   slot-in = slot-room laid m (f .table .fits)
 
   pub entries-before : startOf index x w + 2 * countOf index x w ≤ t .slots + m * t .regions
-  entries-before = omega (arith, f .before, laid .order-to, laid .counts-to)
+  entries-before = omega (arith, f .before)
 
   module _ {v : List ℕ} (s : ShapedAt index x (t .slots + m * t .regions) (t .regions) w v) where
-    below-kept : (k : ℕ) → k < t .slots → getD v k 0 ≡ getD w k 0
-    below-kept k h = s .only .kept k (record { apart = λ p. absurd (omega arith) }, tt)
+    past-kept : (k : ℕ) → t .order ≤ k → getD v k 0 ≡ getD w k 0
+    past-kept k h = s .only .kept k (record { apart = λ p. omega (arith, slot-end laid m (f .table .fits)) }, tt)
 
     slot-kept : (j : ℕ) → j < m → shapeIn t j v ≡ shapeIn t j w
     unfolding shapeIn
@@ -73,10 +73,10 @@ module _ {t : Shapes} {index x m kind : ℕ} {w : List ℕ} (f : SetFit t index 
         (λ k p q. (record { apart = λ z. absurd (omega arith) }, tt))
 
     number-kept : (i : ℕ) → i < m → slotIn t i v ≡ slotIn t i w
-    number-kept i h = below-kept (t .order + i) (omega (arith, laid .order-to, laid .counts-to, f .table .fits))
+    number-kept i h = past-kept (t .order + i) (omega arith)
 
     count-kept : (j : ℕ) → j < m → getD v (t .counts + j) 0 ≡ getD w (t .counts + j) 0
-    count-kept j h = below-kept (t .counts + j) (omega (arith, laid .counts-to, f .table .fits))
+    count-kept j h = past-kept (t .counts + j) (omega (arith, laid .order-to))
 
     same-groups : groupsIn t m v ≡ groupsIn t m w
     same-groups = groups-kept t m w v number-kept (λ i h. count-kept (slotIn t i w) (f .table .below i h)) (λ i h. slot-kept (slotIn t i w) (f .table .below i h))
@@ -88,7 +88,7 @@ module _ {t : Shapes} {index x m kind : ℕ} {w : List ℕ} (f : SetFit t index 
     pub add-fit : AddFit t m kind v
     add-fit = record {
       table = record {
-        laid = record { order-to = laid .order-to; counts-to = laid .counts-to; slots-to = omega (arith, laid .slots-to, s .only .long); few = laid .few; narrow = laid .narrow };
+        laid = record { slots-to = laid .slots-to; order-to = laid .order-to; counts-to = omega (arith, laid .counts-to, s .only .long); few = laid .few; narrow = laid .narrow };
         fits = f .table .fits;
         below = λ i h. rw (number-kept i h) (f .table .below i h);
         ordered = rw same-groups (f .table .ordered);
@@ -106,7 +106,7 @@ module _ {t : Shapes} {index x m kind : ℕ} {w : List ℕ} (f : SetFit t index 
 
     pub set-one : {u : List ℕ} {r : ℕ} → AddedOne t m kind v u r → SetOne t index x m kind w u r
     set-one {u} {r} a = record {
-      only = only-trans (only-weaken (λ k o. (o .1 .1 .1 .0, tt)) all-slots) (only-weaken (λ k o. (o .0, (o .1 .0, (o .1 .1 .0, tt)))) (a .only));
+      only = only-trans (only-weaken (λ k o. (o .1 .0, tt)) all-slots) (only-weaken (λ k o. (o .0, (o .1 .1 .0, (o .1 .1 .1 .0, tt)))) (a .only));
       table = a .table;
       groups = a .groups ∙ ap₂ withShape same-groups sought-is;
       kept = λ j h. slot-kept₂ j h ∙ slot-kept j h;
@@ -116,9 +116,10 @@ module _ {t : Shapes} {index x m kind : ℕ} {w : List ℕ} (f : SetFit t index 
       where
         slot-kept₂ : (j : ℕ) → j < m → shapeIn t j u ≡ shapeIn t j v
         slot-kept₂ j h = unfold shapeIn in only-seg (a .only) (t .slots + j * t .regions) (t .regions) (omega (arith, slot-room laid j (omega (arith, f .table .fits)), s .only .long))
-            (λ k p q. (
-              record { apart = λ z. omega (arith, f .kind-to, laid .order-to, laid .counts-to) },
-              (record { apart = λ z. omega (arith, laid .order-to, laid .counts-to) }, (record { apart = λ z. omega (arith, laid .counts-to) }, tt)),
+            (λ k p q.
+            let e = slot-end laid j (omega (arith, f .table .fits)) in (
+              record { apart = λ z. omega (arith, f .kind-to) },
+              (record { apart = λ z. absurd (omega arith) }, (record { apart = λ z. absurd (omega (arith, laid .order-to)) }, tt)),
             ))
 
     pub set-none : {u : List ℕ} → AddedNone t m v u → SetNone t index x m w u
@@ -175,7 +176,7 @@ module _ {t : Shapes} {index n first kinds : ℕ} {old : List ℕ} (f : GroupFit
         omega (arith, e, b, c, d, known-most)
 
     kept : Kept (f .end) old new
-    kept = kept-only (g .only) (omega (arith, f .behind, f .first-to), (omega (arith, f .behind, f .first-to, f .kinds-to), (omega (arith, f .behind, f .first-to, f .kinds-to, f .laid .order-to), (omega (arith, f .behind, f .first-to, f .kinds-to, f .laid .order-to, f .laid .counts-to), tt))))
+    kept = kept-only (g .only) (omega (arith, f .behind, f .first-to), (omega (arith, f .behind, f .first-to, f .kinds-to), (omega (arith, f .behind, f .first-to, f .kinds-to, slots-first (f .laid)), (omega (arith, f .behind, f .first-to, f .kinds-to, slots-first (f .laid), f .laid .order-to), tt))))
 
     pub first-kept : (j : ℕ) → j < n → getD new (first + j) 0 ≡ place (getD (setsIn index n old) j []) (setsIn index n old)
     first-kept j h =
@@ -184,8 +185,8 @@ module _ {t : Shapes} {index n first kinds : ℕ} {old : List ℕ} (f : GroupFit
           (
             record { apart = λ p. absurd (omega (arith, f .first-to, f .kinds-to)) },
             (
-              record { apart = λ p. absurd (omega (arith, f .first-to, f .kinds-to, f .laid .order-to)) },
-              (record { apart = λ p. absurd (omega (arith, f .first-to, f .kinds-to, f .laid .order-to, f .laid .counts-to)) }, tt),
+              record { apart = λ p. absurd (omega (arith, f .first-to, f .kinds-to, slots-first (f .laid))) },
+              (record { apart = λ p. absurd (omega (arith, f .first-to, f .kinds-to, slots-first (f .laid), f .laid .order-to)) }, tt),
             ),
           ),
         )
@@ -247,8 +248,8 @@ module _ {t : Shapes} {index n first kinds : ℕ} {old : List ℕ} (f : GroupFit
             (
               record { apart = λ p. absurd (omega (arith, f .kinds-to)) },
               (
-                record { apart = λ p. absurd (omega (arith, f .kinds-to, f .laid .order-to)) },
-                (record { apart = λ p. absurd (omega (arith, f .kinds-to, f .laid .order-to, f .laid .counts-to)) }, tt),
+                record { apart = λ p. absurd (omega (arith, f .kinds-to, slots-first (f .laid))) },
+                (record { apart = λ p. absurd (omega (arith, f .kinds-to, slots-first (f .laid), f .laid .order-to)) }, tt),
               ),
             ),
           )
@@ -261,7 +262,7 @@ module _ {t : Shapes} {index n first kinds : ℕ} {old : List ℕ} (f : GroupFit
       pub group-full : getD new (first + k) 0 ≡ k → {next : List ℕ} → SetNone t index k m new next → GroupedAt t index n first kinds old next Full
       unfolding groupsOf
       group-full e {next} s = record {
-        only = only-trans (g .only) (only-weaken (λ j o. (o .1 .1 .1 .0, tt)) (s .only));
+        only = only-trans (g .only) (only-weaken (λ j o. (o .1 .0, tt)) (s .only));
         result =
             let w = with-first (is-first e) in
             let a = grows-here (setsIn index n old) k k-in in
@@ -291,7 +292,7 @@ module _ {t : Shapes} {index n first kinds : ℕ} {old : List ℕ} (f : GroupFit
             within = omega arith;
             only = only-trans (g .only) (only-set (grouped t n kinds) new (kinds + k) v (λ o. omega (arith, o .0 .apart (omega arith))));
             table = record {
-              laid = record { order-to = f .laid .order-to; counts-to = f .laid .counts-to; slots-to = omega (arith, g .table .laid .slots-to, length-set new (kinds + k) v); few = f .laid .few; narrow = f .laid .narrow };
+              laid = record { slots-to = f .laid .slots-to; order-to = f .laid .order-to; counts-to = omega (arith, g .table .laid .counts-to, length-set new (kinds + k) v); few = f .laid .few; narrow = f .laid .narrow };
               fits = g .table .fits;
               below = λ i p. rw (order-kept v i p) (g .table .below i p);
               ordered = rw (groups-same v) (g .table .ordered);
@@ -307,19 +308,19 @@ module _ {t : Shapes} {index n first kinds : ℕ} {old : List ℕ} (f : GroupFit
           }
         where
           room : kinds + k < length new
-          room = omega (arith, f .kinds-to, g .table .laid .order-to, g .table .laid .counts-to, g .table .laid .slots-to)
+          room = omega (arith, f .kinds-to, slots-first (f .laid), g .table .laid .order-to, g .table .laid .counts-to)
 
           order-kept : (v i : ℕ) → i < m → slotIn t i (set new (kinds + k) v) ≡ slotIn t i new
-          order-kept v i p = getD-set-other new (kinds + k) (t .order + i) v 0 (omega (arith, f .kinds-to))
+          order-kept v i p = getD-set-other new (kinds + k) (t .order + i) v 0 (omega (arith, f .kinds-to, slots-first (f .laid)))
 
           shape-same : (v s : ℕ) → s < m → shapeIn t s (set new (kinds + k) v) ≡ shapeIn t s new
           shape-same v s p = unfold shapeIn in only-seg (only-set ((kinds + k, 1) ∷ []) new (kinds + k) v (λ o. omega (arith, o .0 .apart (omega arith)))) (t .slots + s * t .regions) (t .regions)
               (slot-room (g .table .laid) s (omega (arith, g .table .fits)))
-              (λ q a b. (record { apart = λ z. omega (arith, f .kinds-to, f .laid .order-to, f .laid .counts-to) }, tt))
+              (λ q a b. (record { apart = λ z. omega (arith, f .kinds-to) }, tt))
 
           groups-same : (v : ℕ) → groupsIn t m (set new (kinds + k) v) ≡ groupsIn t m new
           groups-same v = groups-kept t m new (set new (kinds + k) v) (λ i p. order-kept v i p)
-              (λ i p. getD-set-other new (kinds + k) (t .counts + slotIn t i new) v 0 (omega (arith, f .kinds-to, f .laid .order-to)))
+              (λ i p. getD-set-other new (kinds + k) (t .counts + slotIn t i new) v 0 (omega (arith, f .kinds-to, slots-first (f .laid), f .laid .order-to)))
               (λ i p. shape-same v (slotIn t i new) (g .table .below i p))
 
     pub group-done : n ≤ k → GroupedAt t index n first kinds old new (Groups m)

@@ -69,9 +69,9 @@ pub record InsertedAt (at n i v : ℕ) (old new : List ℕ) : Type 0 where
 
 -- the parts of the table stand one behind the other
 pub record Laid (t : Shapes) (w : List ℕ) : Type 0 where
+  pub slots-to : t .slots + (t .room + 1) * t .regions ≤ t .order
   pub order-to : t .order + t .room ≤ t .counts
-  pub counts-to : t .counts + t .room ≤ t .slots
-  pub slots-to : t .slots + (t .room + 1) * t .regions ≤ length w
+  pub counts-to : t .counts + t .room ≤ length w
   pub few : t .room ≤ 65536
   pub narrow : t .regions ≤ 65536
 
@@ -111,7 +111,7 @@ pub record AddFit (t : Shapes) (m kind : ℕ) (w : List ℕ) : Type 0 where
   pub table : Table t m w
   pub small : (i : ℕ) → i < m → getD w (t .counts + slotIn t i w) 0 < 4294967295
   pub sought : Narrow (shapeIn t m w)
-  pub kind-to : kind < t .order
+  pub kind-to : kind < t .slots
 
 -- the table has r groups now, one more set counted
 pub record AddedOne (t : Shapes) (m kind : ℕ) (old new : List ℕ) (r : ℕ) : Type 0 where
@@ -134,12 +134,12 @@ AddedIn t m kind old new Full = AddedNone t m old new
 pub record SetFit (t : Shapes) (index x m kind : ℕ) (w : List ℕ) : Type 0 where
   pub table : Table t m w
   pub small : (i : ℕ) → i < m → getD w (t .counts + slotIn t i w) 0 < 4294967295
-  pub kind-to : kind < t .order
+  pub kind-to : kind < t .slots
   pub stored : Stored w index x
-  pub before : startOf index x w + 2 * countOf index x w ≤ t .order
+  pub before : startOf index x w + 2 * countOf index x w ≤ t .slots
 
 pub record SetOne (t : Shapes) (index x m kind : ℕ) (old new : List ℕ) (r : ℕ) : Type 0 where
-  pub only : Only ((kind, 1) ∷ (t .order, t .room) ∷ (t .counts, t .room) ∷ (t .slots, (t .room + 1) * t .regions) ∷ []) old new
+  pub only : Only ((kind, 1) ∷ (t .slots, (t .room + 1) * t .regions) ∷ (t .order, t .room) ∷ (t .counts, t .room) ∷ []) old new
   pub table : Table t r new
   pub groups : groupsIn t r new ≡ withShape (groupsIn t m old) (shapeOf (t .regions) (setOf index x old))
   pub kept : (s : ℕ) → s < m → shapeIn t s new ≡ shapeIn t s old
@@ -160,7 +160,7 @@ pub record GroupFit (t : Shapes) (index n first kinds : ℕ) (w : List ℕ) : Ty
   pub held : Held w index n (t .regions) end
   pub behind : end ≤ first
   pub first-to : first + n ≤ kinds
-  pub kinds-to : kinds + n ≤ t .order
+  pub kinds-to : kinds + n ≤ t .slots
   pub laid : Laid t w
   pub few : n < 4294967296
   pub firsts : (k : ℕ) → k < n → getD w (first + k) 0 ≡ place (setOf index k w) (setsIn index n w)
@@ -174,7 +174,7 @@ pub record GroupedInto (t : Shapes) (index n kinds : ℕ) (old new : List ℕ) (
 
 -- what may have changed, for either answer
 abbrev pub grouped : Shapes → ℕ → ℕ → List (ℕ × ℕ)
-grouped t n kinds = (kinds, n) ∷ (t .order, t .room) ∷ (t .counts, t .room) ∷ (t .slots, (t .room + 1) * t .regions) ∷ []
+grouped t n kinds = (kinds, n) ∷ (t .slots, (t .room + 1) * t .regions) ∷ (t .order, t .room) ∷ (t .counts, t .room) ∷ []
 
 abbrev pub Result : Shapes → ℕ → ℕ → ℕ → List ℕ → List ℕ → Added → Type 0
 Result t index n kinds old new (Groups r) = GroupedInto t index n kinds old new r

@@ -8,14 +8,14 @@ ghost use lib.ListN.{length};
 ghost use Rattle.shapes.specs.Order.{order};
 ghost use Rattle.groups.specs.Table.{shapeIn, SlotFits, Searchable, FoundIn, InsertedAt};
 
-// Where the table lies: `room` group numbers give slots from `order` on, `room` counts of sets stand by slot from `counts` on, and the
-// slots, one more than `room` of them, of `regions` words each, from `slots` on.
+// Where the table lies: the slots, one more than `room` of them, of `regions` words each, from `slots` on; the slot of each group number
+// from `order` on, and the count of sets of each slot from `counts` on, `room` words each.
 pub struct Shapes {
     pub regions: usize,
     pub room: usize,
+    pub slots: usize,
     pub order: usize,
     pub counts: usize,
-    pub slots: usize,
 }
 
 // Where a shape is in the table: at a number, or missing, with the number before which it would come.
