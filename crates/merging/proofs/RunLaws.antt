@@ -21,7 +21,7 @@ use Rattle.merging.specs.Waits.{placeOf, groupOf, heapOf, Reached, Waits
 use Rattle.merging.specs.Queue.{HeapOrdered, Popped}
 use Rattle.merging.specs.Held.{written, Held, Lives, Standing, Chosen, SomeStanding, SomeChosen, PairJoined, Decided, Turned, Ran}
 use Rattle.merging.proofs.QueueContent.{taken-best, taken-nothing}
-use Rattle.merging.proofs.Theorems.{weighed-is, weighed-most}
+use Rattle.merging.proofs.Theorems.{weighed-few}
 use Rattle.merging.proofs.Bridge.{has, run-numbered, two-intro, merged-is}
 use Rattle.merging.proofs.TableLaws.{room-is}
 use Rattle.merging.proofs.HeldLaws.{merges-few, chosen-taken, chosen-dead}
@@ -60,13 +60,9 @@ decided-joined t n m j z p w w₃ w₄ n′ m′ s x y r o = record {
 
 -- no more pairs were weighed than there is room for
 pub weighed-room : (t : Tables) (xs : List Group) (n m j z : ℕ) (w : List ℕ) → Standing t xs n m j z w → m ≤ room (t .groups)
-weighed-room t xs n m j z w s = ⊎-elim
-    (λ (e : t .groups ≡ 0).
-    let q : length xs ≡ 0 = s .many ∙ e in
-    let i = rw q at (weighed-is j xs) in
-    omega (arith, s .weighed))
-    (λ d. omega (arith, s .weighed, weighed-most j xs (t .groups - 1) (omega (arith, s .many)), room-is (t .groups)))
-    (same-or-not (t .groups) 0)
+weighed-room t xs n m j z w s =
+    let b = rw (s .many) at (weighed-few j xs) in
+    omega (arith, s .weighed, room-is (t .groups))
 
 pub standing-asks : (t : Tables) (n m j z : ℕ) (w : List ℕ) → SomeStanding t n m j z w → Laid t (length w) × ((n ≤ room (t .groups)) × HeapOrdered (heapOf t w) n)
 standing-asks t n m j z w s =

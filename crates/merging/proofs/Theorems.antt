@@ -9,6 +9,7 @@ use native.Mathlib.Omega.{arith}
 use native.Mathlib.Decide.{decLt}
 use Rattle.laws.specs.Bag.{weigh}
 use Rattle.laws.specs.Every.{All, EachTwo}
+use Rattle.laws.proofs.Cases.{same-or-not}
 use Rattle.laws.proofs.EveryLaws.{all-imp, all-and, all-append, two-imp, two-end}
 use Rattle.shapes.specs.Group.{Group, groupCost, gain, joined}
 use Rattle.shapes.specs.Shape.{Shape, join}
@@ -358,3 +359,10 @@ none-of-none k xs e =
     let a = run-count k xs in
     let b = rw e at (weighed-is k xs) in
     (omega arith, omega arith)
+
+-- (N-1)², of any number of groups
+pub weighed-few : (k : ℕ) (xs : List Group) → run k (start xs) .weighed ≤ (length xs - 1) * (length xs - 1)
+weighed-few k xs = ⊎-elim
+    (λ (e : length xs ≡ 0). let z = none-of-none k xs e .1 in omega arith)
+    (λ d. weighed-most k xs (length xs - 1) (omega arith))
+    (same-or-not (length xs) 0)
