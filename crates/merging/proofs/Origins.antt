@@ -4,20 +4,20 @@ use mathlib.Core.Path.{_≡_, refl, sym, ap, ap₂, _∙_}
 use mathlib.Core.Option.{some}
 use mathlib.Core.Logic.{⊎-elim}
 use mathlib.Core.List.{List, [], _∷_, _++_, List·Memᴰ, List·Memᴰ·head, List·Memᴰ·tail}
-use Prim.Native.Nat.{ℕ, zero, suc, _+_, _≤_, _<_}
+use Prim.Native.Nat.{ℕ, suc, _+_, _≤_, _<_}
 use lib.ListN.{length, getD}
 use lib.Dec.{eqb}
 use borrow.Author.Tests.{eq-eqb, ne-eqb}
-use native.Mathlib.Nat.{add-zero, add-suc}
+use native.Mathlib.Nat.{add-zero}
 use native.Mathlib.Omega.{arith}
 use Rattle.laws.specs.Pick.{pick}
 use Rattle.laws.specs.Bag.{weigh}
 use Rattle.laws.specs.Every.{All}
 use Rattle.laws.proofs.Cases.{same-or-not}
 use Rattle.laws.proofs.BagLaws.{weigh-append}
-use Rattle.laws.proofs.EveryLaws.{all-append, all-imp}
+use Rattle.laws.proofs.EveryLaws.{all-append}
 use Rattle.shapes.specs.Shape.{Shape, join}
-use Rattle.shapes.specs.Group.{Group, joined}
+use Rattle.shapes.specs.Group.{Group}
 use Rattle.shapes.proofs.ShapeLaws.{join-comm, join-none, join-assoc}
 use Rattle.shapes.proofs.GroupLaws.{joined-shape, joined-sets}
 use Rattle.merging.specs.Model.{Living, Pair, State, joinedAs, choice, merge, run, number, start}

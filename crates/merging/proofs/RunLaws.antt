@@ -1,25 +1,23 @@
 -- The turns of the run, and its end. Assumes nothing.
-use mathlib.Core.Path.{_≡_, refl, sym, ap, ap₂, subst, _∙_}
-use mathlib.Core.Logic.{_≢_, _⊎_, inl, inr, ⊎-elim}
-use mathlib.Core.List.{List, [], _∷_, _++_, List·Memᴰ}
-use Prim.Native.Nat.{ℕ, zero, suc, _+_, _-_, _*_, _/_, _≤_, _<_}
+use mathlib.Core.Path.{_≡_, ap₂}
+use mathlib.Core.Logic.{_⊎_, ⊎-elim}
+use mathlib.Core.List.{List, [], _∷_, List·Memᴰ}
+use Prim.Native.Nat.{ℕ, _+_, _-_, _*_, _≤_, _<_}
 use native.Mathlib.Omega.{arith}
-use lib.ListN.{length, getD}
-use Rattle.laws.specs.Every.{All, EachTwo}
-use Rattle.laws.specs.Range.{Only, Outside}
+use lib.ListN.{length}
+use Rattle.laws.specs.Range.{Only}
 use Rattle.laws.proofs.Cases.{same-or-not}
-use Rattle.laws.proofs.EveryLaws.{all-imp}
 use Rattle.laws.proofs.RangeLaws.{only-refl, only-trans, only-weaken}
 use Rattle.shapes.specs.Group.{Group, gain}
 use Rattle.merging.specs.declared.tables.Tables.{Tables}
 use Rattle.merging.specs.declared.queue.Waiting.{Waiting}
 use Rattle.merging.specs.declared.queue.Taken.{Taken}
 use Rattle.merging.specs.declared.queue.Taken.the-variants.{Best, Nothing}
-use Rattle.merging.specs.Model.{Living, gainOf, State, start, run, merged}
+use Rattle.merging.specs.Model.{Living, gainOf, start, run, merged}
 use Rattle.merging.specs.Lent.{room, Laid}
-use Rattle.merging.specs.Waits.{placeOf, groupOf, heapOf, Reached, Waits, OfferedAll, Took}
+use Rattle.merging.specs.Waits.{placeOf, groupOf, heapOf, Reached, OfferedAll, Took}
 use Rattle.merging.specs.Queue.{HeapOrdered, Popped}
-use Rattle.merging.specs.Held.{written, Held, Lives, Standing, Chosen, SomeStanding, SomeChosen, PairJoined, Decided, Turned, Ran}
+use Rattle.merging.specs.Held.{written, Lives, Standing, SomeStanding, SomeChosen, PairJoined, Decided, Turned, Ran}
 use Rattle.merging.proofs.QueueContent.{taken-best, taken-nothing}
 use Rattle.merging.proofs.Theorems.{weighed-few}
 use Rattle.merging.proofs.Bridge.{has, run-numbered, two-intro, merged-is}

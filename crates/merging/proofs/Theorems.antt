@@ -1,5 +1,5 @@
 -- The theorems of merging: demand 3 of document 01, over the definition of specs/Model.antt. Assumes nothing.
-use mathlib.Core.Path.{_≡_, refl, sym, ap, ap₂, subst, _∙_}
+use mathlib.Core.Path.{_≡_, refl, sym, ap, _∙_}
 use mathlib.Core.Logic.{_⊎_, inl, inr, ⊎-elim}
 use mathlib.Core.Option.{Option, none, some}
 use mathlib.Core.List.{List, [], _∷_, _++_, map, append-nil, append-assoc}
@@ -11,8 +11,8 @@ use Rattle.laws.specs.Bag.{weigh}
 use Rattle.laws.specs.Every.{All, EachTwo}
 use Rattle.laws.proofs.Cases.{same-or-not}
 use Rattle.laws.proofs.EveryLaws.{all-imp, all-and, all-append, two-imp, two-end}
-use Rattle.shapes.specs.Group.{Group, groupCost, gain, joined}
-use Rattle.shapes.specs.Shape.{Shape, join}
+use Rattle.shapes.specs.Group.{Group, groupCost, gain}
+use Rattle.shapes.specs.Shape.{join}
 use Rattle.shapes.proofs.ShapeLaws.{join-length}
 use Rattle.shapes.proofs.GroupLaws.{joined-shape, joined-sets, gain-comm, gain-falls, clash}
 use Rattle.merging.specs.Model.{Living, Pair, Entry, State, Ahead, gainOf, joinedAs, keepOut, outs, pairs, ifWorth, best, choice, entry, merge, follow, step, run, number, start, merged, total}

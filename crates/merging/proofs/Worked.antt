@@ -4,7 +4,7 @@ use mathlib.Core.List.{List, [], _∷_, map}
 use native.Mathlib.Decide.{decLt}
 use native.Mathlib.Omega.{arith}
 use Prim.Native.Nat.{ℕ, zero, suc, _+_, _≤_, _<_}
-use lib.ListN.{length, getD}
+use lib.ListN.{getD}
 use Rattle.laws.specs.Bag.{weigh}
 use Rattle.laws.specs.Bounded.{tabulate}
 use Rattle.laws.specs.Range.{seg}
@@ -14,7 +14,7 @@ use Rattle.shapes.specs.Lent.{Narrow}
 use Rattle.merging.specs.declared.tables.Tables.{Tables}
 use Rattle.merging.specs.Lent.{room, shapeIn, groupIn, starting}
 use Rattle.merging.specs.Optimized.{Ready}
-use Rattle.merging.specs.Model.{Entry, State, keepOut, outs, pairWith, keepPair, pairs, either, better, lead, best, worth, ifWorth, choice, entry, merge, follow, step, run, number, start, merged, total}
+use Rattle.merging.specs.Model.{Entry, keepOut, outs, pairWith, keepPair, pairs, either, better, lead, best, worth, ifWorth, choice, entry, merge, follow, step, run, number, start, merged, total}
 
 -- the log, the pairs weighed, the size before and after
 pub record Told : Type 0 where
