@@ -1,17 +1,17 @@
 -- What a program that merges leans on: the numbers ascend, a pair is known by its numbers, and the pair that is ahead of all others is the choice.
-use mathlib.Core.Path.{_≡_, refl, sym, ap, ap₂, subst, _∙_}
+use mathlib.Core.Path.{_≡_, refl, sym, ap, subst, _∙_}
 use mathlib.Core.Logic.{_≢_, _⊎_, inl, inr, ⊎-elim}
 use mathlib.Core.Option.{Option, none, some}
-use mathlib.Core.List.{List, [], _∷_, _++_, map, List·Memᴰ, List·Memᴰ·head, List·Memᴰ·tail, List·Memᴰ·append-cases, List·Memᴰ·cases-cons, List·Memᴰ·not-nil, Memᴰ·cast, Memᴰ·append-left, Memᴰ·append-right}
-use Prim.Native.Nat.{ℕ, zero, suc, _+_, _*_, _-_, _≤_, _<_}
+use mathlib.Core.List.{List, [], _∷_, map, List·Memᴰ, List·Memᴰ·head, List·Memᴰ·tail, List·Memᴰ·append-cases, List·Memᴰ·cases-cons, List·Memᴰ·not-nil, Memᴰ·cast, Memᴰ·append-left, Memᴰ·append-right}
+use Prim.Native.Nat.{ℕ, zero, suc, _+_, _≤_, _<_}
 use lib.ListN.{length}
 use native.Mathlib.Omega.{arith}
 use native.Mathlib.Decide.{ℕ-discrete}
 use Rattle.laws.specs.Every.{All, EachTwo}
 use Rattle.laws.proofs.Cases.{same-or-not}
-use Rattle.laws.proofs.EveryLaws.{all, all-imp, all-and, all-append, two-imp, two-end}
-use Rattle.shapes.specs.Group.{Group, gain}
-use Rattle.merging.specs.Model.{Living, Pair, Out, Entry, State, Ahead, gainOf, keepOut, outs, pairWith, keepPair, pairs, choice, merge, follow, step, run, number, start, merged}
+use Rattle.laws.proofs.EveryLaws.{all-imp, all-append, two-end}
+use Rattle.shapes.specs.Group.{Group}
+use Rattle.merging.specs.Model.{Living, Pair, Out, State, Ahead, gainOf, keepOut, outs, pairWith, keepPair, pairs, choice, merge, follow, step, run, number, start, merged}
 use Rattle.merging.proofs.PairLaws.{pairs-all, pairs-two, outs-all, each-pairs, chosen, not-chosen, chosen-has}
 use Rattle.merging.proofs.Theorems.{run-keeps, ahead-unique, run-idle, stops}
 

@@ -1,16 +1,16 @@
 -- The first places, and the last heirs. Assumes nothing.
-use mathlib.Core.Path.{_≡_, refl, sym, ap, ap₂, subst, _∙_}
-use mathlib.Core.Logic.{_≢_, _⊎_, inl, inr, ⊎-elim}
-use mathlib.Core.List.{List, [], _∷_, _++_}
-use Prim.Native.Nat.{ℕ, zero, suc, _+_, _-_, _*_, _≤_, _<_}
+use mathlib.Core.Path.{_≡_, refl, sym, ap, _∙_}
+use mathlib.Core.Logic.{⊎-elim}
+use mathlib.Core.List.{List, [], _∷_}
+use Prim.Native.Nat.{ℕ, _+_, _-_, _*_, _≤_, _<_}
 use native.Mathlib.Omega.{arith}
-use lib.ListN.{length, getD, set, length-set}
+use lib.ListN.{length, getD, set}
 use lib.Seq.{getD-set-same, getD-set-other}
-use Rattle.laws.specs.Range.{Only, Outside}
+use Rattle.laws.specs.Range.{Only}
 use Rattle.laws.proofs.Cases.{same-or-not}
 use Rattle.laws.proofs.RangeLaws.{only-refl, only-trans, only-set, only-weaken, apart-part}
 use Rattle.merging.specs.declared.tables.Tables.{Tables}
-use Rattle.merging.specs.Lent.{Laid, Dealt}
+use Rattle.merging.specs.Lent.{Laid}
 use Rattle.merging.specs.Waits.{placeOf}
 use Rattle.merging.specs.Held.{Reaches}
 use Rattle.merging.specs.Held.Reaches.{here, onto}

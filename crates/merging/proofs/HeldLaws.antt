@@ -1,30 +1,28 @@
 -- The state of the rule in the tables: where only the queue changes, where the best pair is taken, and where it is passed over. Assumes nothing.
-use mathlib.Core.Path.{_≡_, refl, sym, ap, ap₂, subst, _∙_}
-use mathlib.Core.Logic.{_≢_, _⊎_, inl, inr, ⊎-elim}
-use mathlib.Core.List.{List, [], _∷_, _++_, List·Memᴰ}
-use Prim.Native.Nat.{ℕ, zero, suc, _+_, _-_, _*_, _≤_, _<_}
+use mathlib.Core.Path.{_≡_, refl, sym, ap, subst, _∙_}
+use mathlib.Core.Logic.{_⊎_, ⊎-elim}
+use mathlib.Core.List.{List, [], _∷_}
+use Prim.Native.Nat.{ℕ, _+_, _-_, _*_, _≤_, _<_}
 use native.Mathlib.Omega.{arith}
 use lib.ListN.{length, getD}
-use Rattle.laws.specs.Bag.{sum, weigh}
-use Rattle.laws.specs.Every.{All, EachTwo}
-use Rattle.laws.specs.Range.{Only, Outside, seg}
+use Rattle.laws.specs.Range.{Only}
 use Rattle.laws.proofs.Cases.{same-or-not}
 use Rattle.laws.proofs.BagLaws.{sum-same}
 use Rattle.laws.proofs.EveryLaws.{all-imp}
 use Rattle.laws.proofs.RangeLaws.{only-seg}
-use Rattle.shapes.specs.Group.{Group, gain, joined}
+use Rattle.shapes.specs.Group.{Group, gain}
 use Rattle.merging.specs.declared.tables.Tables.{Tables}
 use Rattle.merging.specs.declared.queue.Waiting.{Waiting}
-use Rattle.merging.specs.Model.{Living, Entry, State, start, run, total}
-use Rattle.merging.specs.Queue.{AtLeast, HeapOrdered, Has, Popped}
-use Rattle.merging.specs.Lent.{room, Laid, groupIn, Sound}
-use Rattle.merging.specs.Waits.{placeOf, groupOf, alive, pairOf, heapOf, Placed, Reached, Fair, Waits}
-use Rattle.merging.specs.Held.{Lives, Among, words, Reaches, Held, Standing, Chosen}
+use Rattle.merging.specs.Model.{Living, State, start, run}
+use Rattle.merging.specs.Queue.{Has, Popped}
+use Rattle.merging.specs.Lent.{room, Laid}
+use Rattle.merging.specs.Waits.{placeOf, groupOf, alive, pairOf, heapOf, Reached, Fair}
+use Rattle.merging.specs.Held.{Lives, Reaches, Held, Standing, Chosen}
 use Rattle.merging.specs.Held.Reaches.{here, onto}
 use Rattle.merging.proofs.QueueContent.{take-best, take-keeps, take-only}
 use Rattle.merging.proofs.QueueOrder.{carry}
 use Rattle.merging.proofs.Theorems.{run-count}
-use Rattle.merging.proofs.WaitLaws.{Kept, heap-kept, heap-groups, heap-place, heap-sound, heap-placed, group-of-kept, pair-kept, fair-kept, alive-same}
+use Rattle.merging.proofs.WaitLaws.{heap-kept, heap-groups, heap-place, heap-sound, heap-placed, group-of-kept, pair-kept, fair-kept, alive-same}
 
 -- ---- only the queue changed
 

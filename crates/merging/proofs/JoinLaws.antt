@@ -1,18 +1,18 @@
 -- What joining a pair does to the words. Assumes nothing.
-use mathlib.Core.Path.{_≡_, refl, sym, ap, ap₂, subst, _∙_}
-use mathlib.Core.Logic.{_≢_, _⊎_, inl, inr, ⊎-elim}
-use mathlib.Core.List.{List, [], _∷_, _++_}
-use Prim.Native.Nat.{ℕ, zero, suc, _+_, _-_, _*_, _≤_, _<_}
+use mathlib.Core.Path.{_≡_, sym, ap, subst, _∙_}
+use mathlib.Core.Logic.{_≢_}
+use mathlib.Core.List.{List, [], _∷_}
+use Prim.Native.Nat.{ℕ, _+_, _-_, _*_, _≤_, _<_}
 use native.Mathlib.Omega.{arith}
 use lib.ListN.{length, getD}
 use Rattle.laws.specs.Range.{Only, Outside, Apart, seg}
 use Rattle.laws.proofs.Products.{row-fits}
 use Rattle.laws.proofs.RangeLaws.{only-trans, only-weaken, only-seg, apart-part, outside-at}
-use Rattle.shapes.specs.Group.{Group, joined}
+use Rattle.shapes.specs.Group.{joined}
 use Rattle.shapes.specs.Lent.{Narrow}
 use Rattle.merging.specs.declared.tables.Tables.{Tables}
 use Rattle.merging.specs.declared.queue.Waiting.{Waiting}
-use Rattle.merging.specs.Lent.{room, Laid, shapeIn, groupIn, Shaped, Sound, JoinedIn}
+use Rattle.merging.specs.Lent.{room, Laid, groupIn, Sound, JoinedIn}
 use Rattle.merging.specs.Waits.{placeOf, groupOf, heapOf}
 use Rattle.merging.specs.Held.{written, Retired, Noted, Joinable, PairJoined}
 use Rattle.merging.proofs.TableLaws.{slot-end}

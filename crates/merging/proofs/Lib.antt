@@ -21,3 +21,4 @@ pub mod MergeLaws
 pub mod RunLaws
 pub mod FinishLaws
 pub mod OptimizeLaws
+pub mod Unique

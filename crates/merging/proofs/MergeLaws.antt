@@ -2,13 +2,13 @@
 use mathlib.Core.Path.{_≡_, refl, sym, ap, ap₂, subst, _∙_}
 use mathlib.Core.Logic.{_≢_, _⊎_, inl, inr, ⊎-elim}
 use mathlib.Core.List.{List, [], _∷_, _++_, List·Memᴰ, List·Memᴰ·head, Memᴰ·append-left, Memᴰ·append-right}
-use Prim.Native.Nat.{ℕ, zero, suc, _+_, _-_, _*_, _≤_, _<_}
+use Prim.Native.Nat.{ℕ, suc, _+_, _-_, _*_, _≤_, _<_}
 use native.Mathlib.Numerals.{add-one}
 use native.Mathlib.Omega.{arith}
 use lib.ListN.{length, getD, length-append}
-use Rattle.laws.specs.Bag.{sum, weigh}
-use Rattle.laws.specs.Every.{All, EachTwo}
-use Rattle.laws.specs.Range.{Only, seg}
+use Rattle.laws.specs.Bag.{sum}
+use Rattle.laws.specs.Every.{All}
+use Rattle.laws.specs.Range.{seg}
 use Rattle.laws.proofs.Cases.{same-or-not, Tri, tri}
 use Rattle.laws.proofs.Cases.Tri.{below, same, above}
 use Rattle.laws.proofs.BagLaws.{sum-two}
@@ -18,14 +18,14 @@ use Rattle.shapes.specs.Group.{Group, gain, joined}
 use Rattle.merging.specs.declared.tables.Tables.{Tables}
 use Rattle.merging.specs.declared.queue.Waiting.{Waiting}
 use Rattle.merging.specs.Model.{Living, Pair, Entry, State, Ahead, gainOf, joinedAs, entry, merge, start, run, total, pairs}
-use Rattle.merging.specs.Queue.{AtLeast, HeapOrdered, Has}
-use Rattle.merging.specs.Lent.{room, Laid, groupIn, Sound}
-use Rattle.merging.specs.Waits.{placeOf, groupOf, alive, pairOf, heapOf, Placed, Reached, Fair, Waits, Asked, OfferedAll}
+use Rattle.merging.specs.Queue.{HeapOrdered, Has}
+use Rattle.merging.specs.Lent.{room, groupIn}
+use Rattle.merging.specs.Waits.{placeOf, groupOf, alive, pairOf, heapOf, Placed, Reached, Waits, Asked, OfferedAll}
 use Rattle.merging.specs.Held.{Lives, Among, words, Reaches, Held, Standing, Chosen, Joinable, PairJoined}
 use Rattle.merging.specs.Held.Reaches.{here, onto}
 use Rattle.merging.proofs.PairLaws.{pairs-sum, pairs-length}
 use Rattle.merging.proofs.Theorems.{run-sets, fewer, weighed-most, merge-total}
-use Rattle.merging.proofs.Bridge.{Rising, Numbered, run-numbered, has, pair-of, pairs-has, choice-is, without, without-all, without-mem, two-intro, step-is, run-step}
+use Rattle.merging.proofs.Bridge.{Rising, run-numbered, has, pair-of, pairs-has, choice-is, without, without-all, without-mem, two-intro, step-is, run-step}
 use Rattle.merging.proofs.TableLaws.{room-is}
 use Rattle.merging.proofs.WaitLaws.{alive-none, alive-one, alive-same, sum-next, waits-next}
 use Rattle.merging.proofs.HeldLaws.{held-kept, merges-few}

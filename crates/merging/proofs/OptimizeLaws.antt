@@ -1,25 +1,25 @@
 -- The whole of merging, from the starting groups to the living ones. Assumes nothing.
-use mathlib.Core.Path.{_≡_, refl, sym, ap, ap₂, subst, _∙_}
-use mathlib.Core.Logic.{_≢_, _⊎_, inl, inr, ⊎-elim}
-use mathlib.Core.List.{List, [], _∷_, _++_, List·Memᴰ, List·Memᴰ·head, List·Memᴰ·tail}
+use mathlib.Core.Path.{_≡_, refl, sym, ap, subst, _∙_}
+use mathlib.Core.Logic.{⊎-elim}
+use mathlib.Core.List.{List, [], _∷_, List·Memᴰ·head, List·Memᴰ·tail}
 use Prim.Native.Nat.{ℕ, zero, suc, _+_, _-_, _*_, _≤_, _<_}
 use native.Mathlib.Nat.{add-zero}
 use native.Mathlib.Omega.{arith}
 use lib.ListN.{length, getD}
-use Rattle.laws.specs.Bag.{sum, weigh}
+use Rattle.laws.specs.Bag.{weigh}
 use Rattle.laws.specs.Bounded.{tabulate}
-use Rattle.laws.specs.Every.{All, EachTwo}
-use Rattle.laws.specs.Range.{Only, Outside, seg}
+use Rattle.laws.specs.Every.{All}
+use Rattle.laws.specs.Range.{seg}
 use Rattle.laws.proofs.Cases.{same-or-not}
 use Rattle.laws.proofs.EveryLaws.{all-imp}
 use Rattle.laws.proofs.BoundedLaws.{tabulate-same, length-tabulate}
 use Rattle.laws.proofs.RangeLaws.{only-trans, only-weaken, only-seg, seg-none, apart-part}
 use Rattle.shapes.specs.Group.{Group, groupCost}
 use Rattle.merging.specs.declared.tables.Tables.{Tables}
-use Rattle.merging.specs.Model.{Living, State, number, pairs, start, run, merged, total}
-use Rattle.merging.specs.Lent.{room, Laid, Shaped, Sound, Dealt, MeasuredAll, groupIn, starting}
-use Rattle.merging.specs.Waits.{placeOf, groupOf, alive, Placed, Opening, Opened}
-use Rattle.merging.specs.Held.{Lives, Among, words, written, Reaches, Held, Standing, SomeStanding, Ran}
+use Rattle.merging.specs.Model.{Living, State, number, start, run, merged, total}
+use Rattle.merging.specs.Lent.{Laid, Sound, Dealt, MeasuredAll, groupIn, starting}
+use Rattle.merging.specs.Waits.{placeOf, groupOf, alive, Opening, Opened}
+use Rattle.merging.specs.Held.{Lives, Among, words, Held, Standing, Ran}
 use Rattle.merging.specs.Held.Reaches.{here}
 use Rattle.merging.specs.Optimized.{Ready, Optimized, Settled, Onward, Finished}
 use Rattle.merging.proofs.Theorems.{pairs-count, number-length}

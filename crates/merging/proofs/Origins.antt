@@ -3,21 +3,21 @@
 use mathlib.Core.Path.{_≡_, refl, sym, ap, ap₂, _∙_}
 use mathlib.Core.Option.{some}
 use mathlib.Core.Logic.{⊎-elim}
-use mathlib.Core.List.{List, [], _∷_, _++_}
-use Prim.Native.Nat.{ℕ, zero, suc, _+_, _≤_, _<_}
+use mathlib.Core.List.{List, [], _∷_, _++_, List·Memᴰ, List·Memᴰ·head, List·Memᴰ·tail}
+use Prim.Native.Nat.{ℕ, suc, _+_, _≤_, _<_}
 use lib.ListN.{length, getD}
 use lib.Dec.{eqb}
 use borrow.Author.Tests.{eq-eqb, ne-eqb}
-use native.Mathlib.Nat.{add-zero, add-suc}
+use native.Mathlib.Nat.{add-zero}
 use native.Mathlib.Omega.{arith}
 use Rattle.laws.specs.Pick.{pick}
 use Rattle.laws.specs.Bag.{weigh}
 use Rattle.laws.specs.Every.{All}
 use Rattle.laws.proofs.Cases.{same-or-not}
 use Rattle.laws.proofs.BagLaws.{weigh-append}
-use Rattle.laws.proofs.EveryLaws.{all-append, all-imp}
+use Rattle.laws.proofs.EveryLaws.{all-append}
 use Rattle.shapes.specs.Shape.{Shape, join}
-use Rattle.shapes.specs.Group.{Group, joined}
+use Rattle.shapes.specs.Group.{Group}
 use Rattle.shapes.proofs.ShapeLaws.{join-comm, join-none, join-assoc}
 use Rattle.shapes.proofs.GroupLaws.{joined-shape, joined-sets}
 use Rattle.merging.specs.Model.{Living, Pair, State, joinedAs, choice, merge, run, number, start}
@@ -132,3 +132,31 @@ made k xs =
     go s c e h =
         let p = chosen-has _ (s .living) c e (pairs-all (Made xs) (s .living) h) in
         unfold merge in all-append _ (c .rest) _ (p .2) (made-joined xs (s .next) (c .first) (c .second) (p .0) (p .1), tt)
+
+-- ---- the one living group that a starting group is in
+
+pub record Home (l : List Living) (i : ℕ) : Type 0 where
+  pub group : Living
+  pub here : List·Memᴰ group l
+  pub origin : List·Memᴰ i (group .origins)
+
+times-mem : (i : ℕ) (l : List ℕ) → 0 < times i l → List·Memᴰ i l
+unfolding times weigh
+times-mem i [] h = absurd (omega arith)
+times-mem i (j ∷ l) h = ⊎-elim
+    (λ (e : i ≡ j). List·Memᴰ·head e)
+    (λ d. let r = rw (ne-eqb i j d) at h in List·Memᴰ·tail (times-mem i l (omega (arith, r))))
+    (same-or-not i j)
+
+homes-mem : (i : ℕ) (l : List Living) → 0 < homes i l → Home l i
+unfolding homes weigh
+homes-mem i [] h = absurd (omega arith)
+homes-mem i (g ∷ l) h = ⊎-elim
+    (λ (e : times i (g .origins) ≡ 0).
+    let r = homes-mem i l (omega arith) in
+    record { group = r .group; here = List·Memᴰ·tail (r .here); origin = r .origin })
+    (λ d. record { group = g; here = List·Memᴰ·head refl; origin = times-mem i (g .origins) (omega arith) })
+    (same-or-not (times i (g .origins)) 0)
+
+pub home : (k : ℕ) (xs : List Group) (i : ℕ) → i < length xs → Home (run k (start xs) .living) i
+home k xs i h = homes-mem i (run k (start xs) .living) (omega (arith, one-home k xs i h))

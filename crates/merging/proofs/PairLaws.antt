@@ -1,15 +1,15 @@
 -- What is true of each pair of a list of living groups, and of the pair that is chosen. Assumes nothing.
-use mathlib.Core.Path.{_≡_, refl, sym, ap, ap₂, subst, _∙_}
+use mathlib.Core.Path.{_≡_, refl, ap, subst}
 use mathlib.Core.Logic.{_⊎_, inl, inr, ⊎-elim}
 use mathlib.Core.Option.{Option, none, some}
 use mathlib.Core.List.{List, [], _∷_, _++_, map}
-use Prim.Native.Nat.{ℕ, zero, suc, _+_, _*_, _-_, _/_, _≤_, _<_}
-use lib.ListN.{length, length-append, length-map}
+use Prim.Native.Nat.{ℕ, zero, suc, _+_, _<_}
+use lib.ListN.{length}
 use native.Mathlib.Omega.{arith}
 use Rattle.laws.specs.Bag.{weigh}
 use Rattle.laws.specs.Every.{All, EachTwo}
 use Rattle.laws.proofs.EveryLaws.{all-imp, all-and, all-append, all-left, all-right, two-imp, all-map, all-unmap}
-use Rattle.merging.specs.Model.{Living, Pair, Out, Ahead, gainOf, keepOut, outs, pairWith, keepPair, pairs, either, better, lead, best, worth, ifWorth, choice}
+use Rattle.merging.specs.Model.{Living, Pair, Ahead, gainOf, keepOut, outs, pairWith, keepPair, pairs, either, better, lead, best, worth, ifWorth, choice}
 
 -- ---- what is true of each pair of a list
 

@@ -1,27 +1,25 @@
 -- The turns of the run, and its end. Assumes nothing.
-use mathlib.Core.Path.{_≡_, refl, sym, ap, ap₂, subst, _∙_}
-use mathlib.Core.Logic.{_≢_, _⊎_, inl, inr, ⊎-elim}
-use mathlib.Core.List.{List, [], _∷_, _++_, List·Memᴰ}
-use Prim.Native.Nat.{ℕ, zero, suc, _+_, _-_, _*_, _/_, _≤_, _<_}
+use mathlib.Core.Path.{_≡_, ap₂}
+use mathlib.Core.Logic.{_⊎_, ⊎-elim}
+use mathlib.Core.List.{List, [], _∷_, List·Memᴰ}
+use Prim.Native.Nat.{ℕ, _+_, _-_, _*_, _≤_, _<_}
 use native.Mathlib.Omega.{arith}
-use lib.ListN.{length, getD}
-use Rattle.laws.specs.Every.{All, EachTwo}
-use Rattle.laws.specs.Range.{Only, Outside}
+use lib.ListN.{length}
+use Rattle.laws.specs.Range.{Only}
 use Rattle.laws.proofs.Cases.{same-or-not}
-use Rattle.laws.proofs.EveryLaws.{all-imp}
 use Rattle.laws.proofs.RangeLaws.{only-refl, only-trans, only-weaken}
 use Rattle.shapes.specs.Group.{Group, gain}
 use Rattle.merging.specs.declared.tables.Tables.{Tables}
 use Rattle.merging.specs.declared.queue.Waiting.{Waiting}
 use Rattle.merging.specs.declared.queue.Taken.{Taken}
 use Rattle.merging.specs.declared.queue.Taken.the-variants.{Best, Nothing}
-use Rattle.merging.specs.Model.{Living, gainOf, State, start, run, merged}
+use Rattle.merging.specs.Model.{Living, gainOf, start, run, merged}
 use Rattle.merging.specs.Lent.{room, Laid}
-use Rattle.merging.specs.Waits.{placeOf, groupOf, heapOf, Reached, Waits, OfferedAll, Took}
+use Rattle.merging.specs.Waits.{placeOf, groupOf, heapOf, Reached, OfferedAll, Took}
 use Rattle.merging.specs.Queue.{HeapOrdered, Popped}
-use Rattle.merging.specs.Held.{written, Held, Lives, Standing, Chosen, SomeStanding, SomeChosen, PairJoined, Decided, Turned, Ran}
+use Rattle.merging.specs.Held.{written, Lives, Standing, SomeStanding, SomeChosen, PairJoined, Decided, Turned, Ran}
 use Rattle.merging.proofs.QueueContent.{taken-best, taken-nothing}
-use Rattle.merging.proofs.Theorems.{weighed-is, weighed-most}
+use Rattle.merging.proofs.Theorems.{weighed-few}
 use Rattle.merging.proofs.Bridge.{has, run-numbered, two-intro, merged-is}
 use Rattle.merging.proofs.TableLaws.{room-is}
 use Rattle.merging.proofs.HeldLaws.{merges-few, chosen-taken, chosen-dead}
@@ -60,13 +58,9 @@ decided-joined t n m j z p w w₃ w₄ n′ m′ s x y r o = record {
 
 -- no more pairs were weighed than there is room for
 pub weighed-room : (t : Tables) (xs : List Group) (n m j z : ℕ) (w : List ℕ) → Standing t xs n m j z w → m ≤ room (t .groups)
-weighed-room t xs n m j z w s = ⊎-elim
-    (λ (e : t .groups ≡ 0).
-    let q : length xs ≡ 0 = s .many ∙ e in
-    let i = rw q at (weighed-is j xs) in
-    omega (arith, s .weighed))
-    (λ d. omega (arith, s .weighed, weighed-most j xs (t .groups - 1) (omega (arith, s .many)), room-is (t .groups)))
-    (same-or-not (t .groups) 0)
+weighed-room t xs n m j z w s =
+    let b = rw (s .many) at (weighed-few j xs) in
+    omega (arith, s .weighed, room-is (t .groups))
 
 pub standing-asks : (t : Tables) (n m j z : ℕ) (w : List ℕ) → SomeStanding t n m j z w → Laid t (length w) × ((n ≤ room (t .groups)) × HeapOrdered (heapOf t w) n)
 standing-asks t n m j z w s =

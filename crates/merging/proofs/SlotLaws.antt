@@ -1,28 +1,28 @@
 -- What the functions over slots do: measuring, joining, adding up what the starting groups cost. Assumes nothing.
 use mathlib.Core.Path.{_≡_, refl, sym, ap, ap₂, subst, _∙_}
-use mathlib.Core.Logic.{_≢_, _⊎_, inl, inr, ⊎-elim}
-use mathlib.Core.List.{List, [], _∷_, _++_}
-use Prim.Native.Nat.{ℕ, zero, suc, _+_, _-_, _*_, _≤_, _<_}
+use mathlib.Core.Logic.{_≢_, ⊎-elim}
+use mathlib.Core.List.{List, [], _∷_}
+use Prim.Native.Nat.{ℕ, _+_, _-_, _*_, _≤_, _<_}
 use native.Mathlib.Nat.{add-zero}
 use native.Mathlib.Omega.{arith}
 use lib.ListN.{length, take, drop, getD, set, length-set}
 use lib.Seq.{getD-set-same, getD-set-other}
 use Rattle.laws.specs.Bag.{weigh}
 use Rattle.laws.specs.Bounded.{tabulate}
-use Rattle.laws.specs.Range.{Only, Outside, Apart, seg}
+use Rattle.laws.specs.Range.{Only, Outside, Apart}
 use Rattle.laws.proofs.Cases.{same-or-not, Tri, tri}
 use Rattle.laws.proofs.Cases.Tri.{below, same, above}
 use Rattle.laws.proofs.BagLaws.{weigh-append}
 use Rattle.laws.proofs.BoundedLaws.{tabulate-snoc}
-use Rattle.laws.proofs.RangeLaws.{only-refl, only-trans, only-set, only-seg, only-weaken, apart-part, outside-at, apart-sym}
+use Rattle.laws.proofs.RangeLaws.{only-refl, only-trans, only-set, only-seg, only-weaken, apart-part, outside-at}
 use Rattle.laws.proofs.Products.{product, row-fits}
 use Rattle.shapes.specs.Shape.{join}
-use Rattle.shapes.specs.Group.{Group, groupCost, joined}
+use Rattle.shapes.specs.Group.{Group, groupCost}
 use Rattle.shapes.specs.Lent.{Narrow, Measured, Small, costOf, JoinedAt}
 use Rattle.shapes.proofs.GroupLaws.{joined-shape, joined-sets, cost-measured}
-use Rattle.shapes.proofs.LentLaws.{narrow-small, narrow-join}
+use Rattle.shapes.proofs.LentLaws.{narrow-join}
 use Rattle.merging.specs.declared.tables.Tables.{Tables}
-use Rattle.merging.specs.Lent.{room, Laid, shapeIn, groupIn, starting, Shaped, Sound, Dealt, CostsAs, MeasuredIn, MeasuredAll, JoinedIn}
+use Rattle.merging.specs.Lent.{Laid, shapeIn, groupIn, starting, Shaped, Sound, CostsAs, MeasuredIn, MeasuredAll, JoinedIn}
 use Rattle.merging.proofs.TableLaws.{slot-end, slot-room, shape-length, part-is, costs-measured, costs-small}
 
 -- ---- frames

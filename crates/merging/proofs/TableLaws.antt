@@ -1,10 +1,10 @@
 -- Laws of the tables of a merge. Assumes nothing.
-use mathlib.Core.Path.{_≡_, refl, sym, ap, ap₂, subst, _∙_}
-use mathlib.Core.List.{List, [], _∷_}
-use Prim.Native.Nat.{ℕ, zero, suc, _+_, _-_, _*_, _≤_, _<_}
+use mathlib.Core.Path.{_≡_, refl, sym, ap, subst, _∙_}
+use mathlib.Core.List.{List}
+use Prim.Native.Nat.{ℕ, _+_, _-_, _*_, _≤_, _<_}
 use native.Mathlib.Omega.{arith}
-use lib.ListN.{length, take, drop, getD}
-use Rattle.laws.specs.Range.{Only, seg}
+use lib.ListN.{length, take, drop}
+use Rattle.laws.specs.Range.{seg}
 use Rattle.laws.proofs.RangeLaws.{length-seg}
 use Rattle.laws.proofs.Products.{product, row-fits}
 use Rattle.shapes.specs.Shape.{join}

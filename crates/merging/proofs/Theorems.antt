@@ -1,17 +1,18 @@
 -- The theorems of merging: demand 3 of document 01, over the definition of specs/Model.antt. Assumes nothing.
-use mathlib.Core.Path.{_≡_, refl, sym, ap, ap₂, subst, _∙_}
+use mathlib.Core.Path.{_≡_, refl, sym, ap, _∙_}
 use mathlib.Core.Logic.{_⊎_, inl, inr, ⊎-elim}
 use mathlib.Core.Option.{Option, none, some}
-use mathlib.Core.List.{List, [], _∷_, _++_, map}
+use mathlib.Core.List.{List, [], _∷_, _++_, map, append-nil, append-assoc}
 use Prim.Native.Nat.{ℕ, zero, suc, _+_, _*_, _-_, _/_, _≤_, _<_}
 use lib.ListN.{length, length-append, length-map}
 use native.Mathlib.Omega.{arith}
 use native.Mathlib.Decide.{decLt}
 use Rattle.laws.specs.Bag.{weigh}
 use Rattle.laws.specs.Every.{All, EachTwo}
+use Rattle.laws.proofs.Cases.{same-or-not}
 use Rattle.laws.proofs.EveryLaws.{all-imp, all-and, all-append, two-imp, two-end}
-use Rattle.shapes.specs.Group.{Group, groupCost, gain, joined}
-use Rattle.shapes.specs.Shape.{Shape, join}
+use Rattle.shapes.specs.Group.{Group, groupCost, gain}
+use Rattle.shapes.specs.Shape.{join}
 use Rattle.shapes.proofs.ShapeLaws.{join-length}
 use Rattle.shapes.proofs.GroupLaws.{joined-shape, joined-sets, gain-comm, gain-falls, clash}
 use Rattle.merging.specs.Model.{Living, Pair, Entry, State, Ahead, gainOf, joinedAs, keepOut, outs, pairs, ifWorth, best, choice, entry, merge, follow, step, run, number, start, merged, total}
@@ -299,3 +300,69 @@ run-sets k xs =
         let b = sum-end f (c .rest) (joinedAs (s .next) (c .first) (c .second)) in
         let n = joined-sets (c .first .group) (c .second .group) in
         unfold merge in omega (arith, a, b, n)
+
+-- ---- the merges, one by one
+
+-- What one merge is: its pair gains at least 1 and is ahead of every two living groups, the log gets its numbers and its gain, and the total falls
+-- by just that.
+pub record Merge (s s′ : State) (c : Pair) : Type 0 where
+  pub gains : 1 ≤ gainOf (c .first) (c .second)
+  pub ahead : EachTwo (Ahead (c .first) (c .second)) (s .living)
+  pub logged : s′ .log ≡ s .log ++ (record { first = c .first .num; second = c .second .num; gain = gainOf (c .first) (c .second) } ∷ [])
+  pub falls : total (s .living) ≡ total (s′ .living) + gainOf (c .first) (c .second)
+
+pub each-merge : (s : State) (c : Pair) → choice (s .living) ≡ some c → Merge s (merge s c) c
+unfolding entry
+each-merge s c e =
+    let v = chosen (s .living) c e in
+    record { gains = omega (arith, v .0); ahead = v .1; logged = go; falls = merge-total s c e }
+  where
+    go : merge s c .log ≡ s .log ++ (entry c ∷ [])
+    go = unfold merge in refl
+
+-- a chain of such merges, from s to s′, and their pairs
+pub data Chain : State → List Pair → State → Type 0 where
+  stop : {s : State} → Chain s [] s
+  next : {s s′ : State} {c : Pair} {l : List Pair} → Merge s (merge s c) c → Chain (merge s c) l s′ → Chain s (c ∷ l) s′
+
+pub record Merges (s s′ : State) : Type 0 where
+  pub pairs : List Pair
+  pub chain : Chain s pairs s′
+  pub log-is : s′ .log ≡ s .log ++ map entry pairs
+
+-- the run is such a chain, and the log has its merges and no others
+pub run-merges : (k : ℕ) (s : State) → Merges s (run k s)
+unfolding run step follow
+run-merges zero s = record { pairs = []; chain = stop; log-is = sym (append-nil (s .log)) }
+run-merges (suc k) s = go (λ t. run-merges k t) (choice (s .living)) refl
+  where
+    logged : (c : Pair) → merge s c .log ≡ s .log ++ (entry c ∷ [])
+    logged c = unfold merge in refl
+
+    go : ((t : State) → Merges t (run k t)) → (o : Option Pair) → choice (s .living) ≡ o → Merges s (run k (follow s o))
+    go ih none e = ih s
+    go ih (some c) e =
+        let r = ih (merge s c) in
+        record {
+          pairs = c ∷ r .pairs;
+          chain = next (each-merge s c e) (r .chain);
+          log-is = r .log-is ∙ ap (λ (l : List Entry). l ++ map entry (r .pairs)) (logged c) ∙ append-assoc (s .log) (entry c ∷ []) (map entry (r .pairs));
+        }
+
+pub merged-merges : (xs : List Group) → Merges (start xs) (merged xs)
+unfolding merged
+merged-merges xs = run-merges (length xs) (start xs)
+
+-- no groups, no merges and no pairs weighed
+pub none-of-none : (k : ℕ) (xs : List Group) → length xs ≡ 0 → (length (run k (start xs) .log) ≡ 0) × (run k (start xs) .weighed ≡ 0)
+none-of-none k xs e =
+    let a = run-count k xs in
+    let b = rw e at (weighed-is k xs) in
+    (omega arith, omega arith)
+
+-- (N-1)², of any number of groups
+pub weighed-few : (k : ℕ) (xs : List Group) → run k (start xs) .weighed ≤ (length xs - 1) * (length xs - 1)
+weighed-few k xs = ⊎-elim
+    (λ (e : length xs ≡ 0). let z = none-of-none k xs e .1 in omega arith)
+    (λ d. weighed-most k xs (length xs - 1) (omega arith))
+    (same-or-not (length xs) 0)

@@ -1,33 +1,29 @@
 -- What weighing does to the pairs that wait. Assumes nothing.
 use mathlib.Core.Path.{_≡_, refl, sym, ap, ap₂, subst, _∙_}
-use mathlib.Core.Bool.{Bool, true, false}
-use mathlib.Core.Logic.{_≢_, _⊎_, inl, inr, ⊎-elim}
-use mathlib.Core.List.{List, [], _∷_, _++_}
+use mathlib.Core.Logic.{⊎-elim}
+use mathlib.Core.List.{List, [], _∷_}
 use Prim.Native.Nat.{ℕ, zero, suc, _+_, _-_, _*_, _≤_, _<_}
 use native.Mathlib.Numerals.{add-one}
 use native.Mathlib.Omega.{arith}
-use lib.Dec.{eqb}
-use lib.ListN.{length, take, drop, getD, set, length-set}
+use lib.ListN.{length, take, drop}
 use borrow.Author.Tests.{eq-eqb, ne-eqb}
-use borrow.Rule.Slice.PartMut.{putMid, midOf, mid-len}
-use Rattle.laws.specs.Pick.{pick}
+use borrow.Rule.Slice.PartMut.{putMid}
 use Rattle.laws.specs.Bag.{sum}
-use Rattle.laws.specs.Range.{Only, Outside, Apart, seg}
+use Rattle.laws.specs.Range.{Only, Outside, seg}
 use Rattle.laws.proofs.Cases.{same-or-not, lt-or-ge}
-use Rattle.laws.proofs.BagLaws.{sum-same}
 use Rattle.laws.proofs.Products.{product}
 use Rattle.laws.proofs.PartLaws.{only-mid, seg-mid}
-use Rattle.laws.proofs.RangeLaws.{only-refl, only-trans, only-seg, only-weaken, length-seg}
-use Rattle.shapes.specs.Group.{Group, gain}
+use Rattle.laws.proofs.RangeLaws.{only-refl, only-trans, length-seg}
+use Rattle.shapes.specs.Group.{gain}
 use Rattle.shapes.specs.Lent.{Narrow}
 use Rattle.merging.specs.declared.tables.Tables.{Tables}
 use Rattle.merging.specs.declared.queue.Waiting.{Waiting}
 use Rattle.merging.specs.declared.queue.Taken.{Taken}
-use Rattle.merging.specs.Lent.{room, Laid, shapeIn, groupIn, Shaped, Sound}
+use Rattle.merging.specs.Lent.{room, Laid, shapeIn, groupIn, Sound}
 use Rattle.merging.specs.Queue.{HeapOrdered, Has, Pushed, TakenFrom}
 use Rattle.merging.specs.Waits.{placeOf, groupOf, alive, pairOf, heapOf, Placed, Reached, Fair, Waits, Asked, Offered, OfferedAll, Opening, Opened, Took}
 use Rattle.merging.proofs.QueueContent.{push-has, push-keeps, push-only}
-use Rattle.merging.proofs.TableLaws.{room-most, room-is, slot-end}
+use Rattle.merging.proofs.TableLaws.{slot-end}
 use Rattle.merging.proofs.SlotLaws.{shape-kept, laid-kept, group-is}
 
 -- ---- living or dead

@@ -2,17 +2,17 @@
 use mathlib.Core.Path.{_≡_}
 use mathlib.Core.Logic.{_≢_, _⊎_}
 use mathlib.Core.List.{List, [], _∷_, List·Memᴰ}
-use Prim.Native.Nat.{ℕ, suc, _+_, _-_, _*_, _≤_, _<_}
+use Prim.Native.Nat.{ℕ, _+_, _-_, _*_, _≤_, _<_}
 use lib.ListN.{length, getD}
 use Rattle.laws.specs.Bag.{sum, weigh}
-use Rattle.laws.specs.Every.{All, EachTwo}
+use Rattle.laws.specs.Every.{All}
 use Rattle.laws.specs.Range.{Only, seg}
 use Rattle.shapes.specs.Group.{Group, gain, joined}
 use Rattle.merging.specs.declared.tables.Tables.{Tables}
 use Rattle.merging.specs.declared.queue.Waiting.{Waiting}
-use Rattle.merging.specs.Model.{Living, Entry, State, start, run, merged, total}
+use Rattle.merging.specs.Model.{Living, Entry, State, start, run, total}
 use Rattle.merging.specs.Queue.{AtLeast, HeapOrdered, Has}
-use Rattle.merging.specs.Lent.{room, Laid, Shaped, Sound, Dealt, groupIn, starting}
+use Rattle.merging.specs.Lent.{room, Sound, groupIn}
 use Rattle.merging.specs.Waits.{placeOf, groupOf, alive, pairOf, heapOf, Placed, Reached, Fair, Waits}
 
 -- the group lies in the slot of its number

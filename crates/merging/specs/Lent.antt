@@ -1,11 +1,11 @@
 -- What the lent words of a merge hold: the tables, a group in its slot, a group by its number. Assumes nothing.
 use mathlib.Core.Path.{_≡_}
-use mathlib.Core.List.{List, [], _∷_, _++_}
-use Prim.Native.Nat.{ℕ, zero, suc, _+_, _-_, _*_, _≤_, _<_}
+use mathlib.Core.List.{List, [], _∷_}
+use Prim.Native.Nat.{ℕ, _+_, _-_, _*_, _≤_, _<_}
 use lib.ListN.{length, getD}
 use Rattle.laws.specs.Range.{Only, seg}
 use Rattle.laws.specs.Bounded.{tabulate}
-use Rattle.shapes.specs.Group.{Group, gain, joined}
+use Rattle.shapes.specs.Group.{Group, joined}
 use Rattle.shapes.specs.Lent.{Narrow, Measured}
 use Rattle.merging.specs.declared.tables.Tables.{Tables}
 

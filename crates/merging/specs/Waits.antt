@@ -1,9 +1,9 @@
 -- What waits in the queue of a merge, in lent words. Assumes nothing.
 use mathlib.Core.Path.{_≡_}
 use mathlib.Core.List.{List, [], _∷_}
-use Prim.Native.Nat.{ℕ, suc, _+_, _-_, _*_, _≤_, _<_}
+use Prim.Native.Nat.{ℕ, _+_, _-_, _*_, _≤_, _<_}
 use lib.Dec.{eqb}
-use lib.ListN.{length, getD}
+use lib.ListN.{getD}
 use Rattle.laws.specs.Pick.{pick}
 use Rattle.laws.specs.Bag.{sum}
 use Rattle.laws.specs.Range.{Only, seg}
@@ -11,7 +11,7 @@ use Rattle.shapes.specs.Group.{Group, gain}
 use Rattle.merging.specs.declared.tables.Tables.{Tables}
 use Rattle.merging.specs.declared.queue.Waiting.{Waiting}
 use Rattle.merging.specs.declared.queue.Taken.{Taken}
-use Rattle.merging.specs.Lent.{room, Laid, groupIn, Sound}
+use Rattle.merging.specs.Lent.{room, groupIn, Sound}
 use Rattle.merging.specs.Queue.{HeapOrdered, Has, TakenFrom}
 
 -- number c lives in a slot, one less than its place; 0 where it is dead

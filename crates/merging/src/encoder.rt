@@ -5,7 +5,7 @@ use crate::run::Progress;
 use crate::tables::Tables;
 use crate::waits;
 ghost use mathlib.Core.Path.{_≡_};
-ghost use Prim.Native.Nat.{ℕ, _+_, _*_, _≤_, _<_};
+ghost use Prim.Native.Nat.{_+_, _*_, _<_};
 ghost use lib.ListN.{length, getD};
 ghost use Rattle.merging.specs.Lent.{Laid, Dealt};
 ghost use Rattle.merging.specs.Waits.{placeOf};

@@ -9,6 +9,4 @@ mod waits;
 
 pub use encoder::Merged;
 pub use encoder::optimize;
-pub use queue::Taken;
-pub use queue::Waiting;
 pub use tables::Tables;

@@ -2,10 +2,8 @@
 use crate::groups;
 use crate::queue::Waiting;
 use crate::tables::Tables;
-ghost use mathlib.Core.Path.{_≡_};
-ghost use mathlib.Core.Logic.{_≢_};
-ghost use Prim.Native.Nat.{ℕ, _+_, _*_, _≤_, _<_};
-ghost use lib.ListN.{length, getD};
+ghost use Prim.Native.Nat.{_+_, _*_, _<_};
+ghost use lib.ListN.{length};
 ghost use Rattle.merging.specs.Lent.{Laid};
 ghost use Rattle.merging.specs.Held.{Retired, Noted, Joinable, PairJoined};
 

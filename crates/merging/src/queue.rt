@@ -2,7 +2,7 @@
 // Waiting k is the words 3k, 3k+1 and 3k+2: its gain, its first and its second.
 ghost use mathlib.Core.Path.{_≡_};
 ghost use mathlib.Core.Bool.{true, false};
-ghost use Prim.Native.Nat.{ℕ, _+_, _*_, _≤_, _<_};
+ghost use Prim.Native.Nat.{_+_, _*_, _≤_, _<_};
 ghost use lib.ListN.{length};
 ghost use Rattle.merging.specs.Queue.{pairAt, AtLeast, HeapOrdered, Pushed, TakenFrom, Put, Swapped, RaisedAt, LoweredAt, Settled, BestChild};
 

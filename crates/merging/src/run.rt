@@ -5,9 +5,7 @@ use crate::queue::Waiting;
 use crate::tables::Tables;
 use crate::waits;
 use crate::waits::Tally;
-ghost use mathlib.Core.Path.{_≡_};
-ghost use Prim.Native.Nat.{ℕ, _+_, _*_, _≤_, _<_};
-ghost use lib.ListN.{length, getD};
+ghost use Prim.Native.Nat.{_+_, _<_};
 ghost use Rattle.merging.specs.Waits.{placeOf};
 ghost use Rattle.merging.specs.Held.{SomeChosen, Decided, SomeStanding, Turned, Ran};
 

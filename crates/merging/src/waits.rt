@@ -3,11 +3,10 @@ use crate::groups;
 use crate::queue;
 use crate::queue::Taken;
 use crate::tables::Tables;
-ghost use mathlib.Core.Path.{_≡_};
-ghost use Prim.Native.Nat.{ℕ, _+_, _*_, _≤_, _<_};
-ghost use lib.ListN.{length, getD};
+ghost use Prim.Native.Nat.{_+_, _*_, _≤_, _<_};
+ghost use lib.ListN.{length};
 ghost use Rattle.laws.specs.Bag.{sum};
-ghost use Rattle.merging.specs.Lent.{Laid, Sound, room};
+ghost use Rattle.merging.specs.Lent.{Laid, room};
 ghost use Rattle.merging.specs.Queue.{HeapOrdered};
 ghost use Rattle.merging.specs.Waits.{heapOf, alive, Asked, Offered, OfferedAll, Opening, Opened, Took};
 

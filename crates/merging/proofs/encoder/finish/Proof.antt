@@ -1,11 +1,7 @@
 use Rattle.merging.proofs.FinishLaws.{Finishing, finishing-start, finishing-asks, finishing-more, finishing-done}
-use borrow.Author.Needs.{needs}
 use native.Mathlib.Omega.{arith}
 use Rattle.merging.proofs.encoder.finish.Statement.{statement}
 use Rattle.merging.proofs.encoder.finish.Tie as tie
-use Rattle.merging.proofs.encoder.finish.Reads as reads
-use Rattle.merging.proofs.encoder.finish.Lts as lts
-use Rattle.merging.proofs.encoder.resolve.Reads as resolve-reads
 
 abbrev Inv-loop : tie.InvT-loop
 Inv-loop work₀ t k c₀ work c = Finishing t k work₀ work c

@@ -1,19 +1,9 @@
 use mathlib.Core.Path.{_∙_}
-use Rattle.merging.proofs.SlotLaws.{laid-kept}
 use Rattle.merging.proofs.HeldLaws.{merges-few}
 use Rattle.merging.proofs.OptimizeLaws.{dealt₁, opening, begun, onward, optimized}
 use native.Mathlib.Omega.{arith}
-use borrow.Author.Needs.{needs}
 use Rattle.merging.proofs.encoder.optimize.Statement.{statement}
 use Rattle.merging.proofs.encoder.optimize.Tie as tie
-use Rattle.merging.proofs.encoder.optimize.Reads as reads
-use Rattle.merging.proofs.encoder.optimize.Lts as lts
-use Rattle.merging.proofs.encoder.finish.Reads as finish-reads
-use Rattle.merging.proofs.encoder.settle.Reads as settle-reads
-use Rattle.merging.proofs.groups.measure_all.Reads as measure-all-reads
-use Rattle.merging.proofs.groups.size.Reads as size-reads
-use Rattle.merging.proofs.run.run.Reads as run-reads
-use Rattle.merging.proofs.waits.weigh_each.Reads as weigh-each-reads
 
 measure-all-requires : tie.Need-measure-all-requires
 measure-all-requires c κs = c .before .before .pre .shaped

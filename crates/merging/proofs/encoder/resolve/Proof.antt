@@ -3,8 +3,6 @@ use native.Mathlib.Omega.{arith}
 use borrow.Author.Needs.{needs}
 use Rattle.merging.proofs.encoder.resolve.Statement.{statement}
 use Rattle.merging.proofs.encoder.resolve.Tie as tie
-use Rattle.merging.proofs.encoder.resolve.Reads as reads
-use Rattle.merging.proofs.encoder.resolve.Lts as lts
 
 add-if1 : tie.Need-add-if1
 add-if1 c = search needs

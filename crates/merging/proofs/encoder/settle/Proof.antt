@@ -1,11 +1,8 @@
 use Prim.Native.Nat.{_-_}
 use Rattle.merging.proofs.FinishLaws.{Settling, settling-start, settling-reads, settling-more, settled}
-use borrow.Author.Needs.{needs}
 use native.Mathlib.Omega.{arith}
 use Rattle.merging.proofs.encoder.settle.Statement.{statement}
 use Rattle.merging.proofs.encoder.settle.Tie as tie
-use Rattle.merging.proofs.encoder.settle.Reads as reads
-use Rattle.merging.proofs.encoder.settle.Lts as lts
 
 abbrev Inv-loop : tie.InvT-loop
 Inv-loop work₀ groups place order i₀ work i = Settling groups place order work₀ work i

@@ -4,8 +4,6 @@ use native.Mathlib.Omega.{arith}
 use borrow.Author.Needs.{needs}
 use Rattle.merging.proofs.groups.costs.Statement.{statement}
 use Rattle.merging.proofs.groups.costs.Tie as tie
-use Rattle.merging.proofs.groups.costs.Reads as reads
-use Rattle.merging.proofs.groups.costs.Lts as lts
 
 add-t8 : tie.Need-add-t8
 add-t8 c = search needs

@@ -1,15 +1,9 @@
 use mathlib.Core.Path.{_∙_}
 use lib.ListN.{length-set}
 use Rattle.merging.proofs.SlotLaws.{join-asks, sum-fits, join-shaped, join-done}
-use native.Mathlib.Omega.{arith}
 use borrow.Author.Needs.{needs}
 use Rattle.merging.proofs.groups.join_slots.Statement.{statement}
 use Rattle.merging.proofs.groups.join_slots.Tie as tie
-use Rattle.merging.proofs.groups.join_slots.Reads as reads
-use Rattle.merging.proofs.groups.join_slots.Lts as lts
-use Rattle.merging.proofs.groups.measure.Reads as measure-reads
-use Rattle.merging.proofs.tables.Tables.slot.Reads as slot-reads
-use Rattle.shapes.proofs.shape.RowShape.join.Reads as join-reads
 
 slot-requires : tie.Need-slot-requires
 slot-requires c κs = search needs

@@ -5,10 +5,6 @@ use native.Mathlib.Omega.{arith}
 use borrow.Author.Needs.{needs}
 use Rattle.merging.proofs.groups.measure.Statement.{statement}
 use Rattle.merging.proofs.groups.measure.Tie as tie
-use Rattle.merging.proofs.groups.measure.Reads as reads
-use Rattle.merging.proofs.groups.measure.Lts as lts
-use Rattle.merging.proofs.tables.Tables.slot.Reads as slot-reads
-use Rattle.shapes.proofs.shape.RowShape.of.Reads as of-reads
 
 slot-requires : tie.Need-slot-requires
 slot-requires c κs = search needs

@@ -1,12 +1,8 @@
 use Prim.Native.Nat.{_-_}
 use Rattle.merging.proofs.SlotLaws.{Measuring, measuring-start, measuring-shaped, measuring-more, measuring-done}
-use borrow.Author.Needs.{needs}
 use native.Mathlib.Omega.{arith}
 use Rattle.merging.proofs.groups.measure_all.Statement.{statement}
 use Rattle.merging.proofs.groups.measure_all.Tie as tie
-use Rattle.merging.proofs.groups.measure_all.Reads as reads
-use Rattle.merging.proofs.groups.measure_all.Lts as lts
-use Rattle.merging.proofs.groups.measure.Reads as measure-reads
 
 abbrev Inv-loop : tie.InvT-loop
 Inv-loop work₀ t groups s₀ work s = Measuring t work₀ work s

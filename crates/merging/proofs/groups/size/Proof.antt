@@ -1,14 +1,9 @@
-use Prim.Native.Nat.{_-_, _+_}
+use Prim.Native.Nat.{_-_}
 use Rattle.merging.proofs.SlotLaws.{Adding, adding-start, adding-cost, adding-more, adding-done}
 use Rattle.merging.proofs.TableLaws.{costs-small}
-use borrow.Author.Needs.{needs}
 use native.Mathlib.Omega.{arith}
 use Rattle.merging.proofs.groups.size.Statement.{statement}
 use Rattle.merging.proofs.groups.size.Tie as tie
-use Rattle.merging.proofs.groups.size.Reads as reads
-use Rattle.merging.proofs.groups.size.Lts as lts
-use Rattle.merging.proofs.groups.costs.Reads as costs-reads
-use Rattle.shapes.proofs.group.Encoding.cost.Reads as cost-reads
 
 abbrev Inv-loop : tie.InvT-loop
 Inv-loop work t groups order total₀ i₀ total i = Adding t work total i

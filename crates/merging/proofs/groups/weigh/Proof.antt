@@ -4,12 +4,6 @@ use native.Mathlib.Omega.{arith}
 use borrow.Author.Needs.{needs}
 use Rattle.merging.proofs.groups.weigh.Statement.{statement}
 use Rattle.merging.proofs.groups.weigh.Tie as tie
-use Rattle.merging.proofs.groups.weigh.Reads as reads
-use Rattle.merging.proofs.groups.weigh.Lts as lts
-use Rattle.merging.proofs.groups.costs.Reads as costs-reads
-use Rattle.merging.proofs.tables.Tables.slot.Reads as slot-reads
-use Rattle.shapes.proofs.group.Encoding.gain.Reads as gain-reads
-use Rattle.shapes.proofs.shape.RowShape.joined.Reads as joined-reads
 
 slot-requires : tie.Need-slot-requires
 slot-requires c κs = search needs

@@ -4,11 +4,6 @@ use native.Mathlib.Omega.{arith}
 use borrow.Author.Needs.{needs}
 use Rattle.merging.proofs.pairs.join_pair.Statement.{statement}
 use Rattle.merging.proofs.pairs.join_pair.Tie as tie
-use Rattle.merging.proofs.pairs.join_pair.Reads as reads
-use Rattle.merging.proofs.pairs.join_pair.Lts as lts
-use Rattle.merging.proofs.groups.join_slots.Reads as join-slots-reads
-use Rattle.merging.proofs.pairs.note.Reads as note-reads
-use Rattle.merging.proofs.pairs.retire.Reads as retire-reads
 
 cast-a : tie.Need-cast-a
 cast-a c = search needs

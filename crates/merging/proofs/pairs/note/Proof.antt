@@ -4,8 +4,6 @@ use native.Mathlib.Omega.{arith}
 use borrow.Author.Needs.{needs}
 use Rattle.merging.proofs.pairs.note.Statement.{statement}
 use Rattle.merging.proofs.pairs.note.Tie as tie
-use Rattle.merging.proofs.pairs.note.Reads as reads
-use Rattle.merging.proofs.pairs.note.Lts as lts
 
 mul-at : tie.Need-mul-at
 mul-at c = search needs

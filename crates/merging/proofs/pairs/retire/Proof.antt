@@ -4,8 +4,6 @@ use native.Mathlib.Omega.{arith}
 use borrow.Author.Needs.{needs}
 use Rattle.merging.proofs.pairs.retire.Statement.{statement}
 use Rattle.merging.proofs.pairs.retire.Tie as tie
-use Rattle.merging.proofs.pairs.retire.Reads as reads
-use Rattle.merging.proofs.pairs.retire.Lts as lts
 
 add-work : tie.Need-add-work
 add-work c = search needs

@@ -5,10 +5,6 @@ use Rattle.merging.proofs.QueueOrder.{carry}
 use Rattle.merging.proofs.QueueHeap.{child-left, child-right}
 use Rattle.merging.proofs.queue.best_child.Statement.{statement}
 use Rattle.merging.proofs.queue.best_child.Tie as tie
-use Rattle.merging.proofs.queue.best_child.Reads as reads
-use Rattle.merging.proofs.queue.best_child.Lts as lts
-use Rattle.merging.proofs.queue.better.Reads as better-reads
-use Rattle.merging.proofs.queue.read.Reads as read-reads
 
 mul-left : tie.Need-mul-left
 mul-left c = search needs

@@ -4,10 +4,6 @@ use native.Mathlib.Omega.{arith}
 use Rattle.merging.proofs.QueueHeap.{raised-put, pushed}
 use Rattle.merging.proofs.queue.push.Statement.{statement}
 use Rattle.merging.proofs.queue.push.Tie as tie
-use Rattle.merging.proofs.queue.push.Reads as reads
-use Rattle.merging.proofs.queue.push.Lts as lts
-use Rattle.merging.proofs.queue.sift_up.Reads as sift-up-reads
-use Rattle.merging.proofs.queue.write.Reads as write-reads
 
 write-requires : tie.Need-write-requires
 write-requires c κs = search needs

@@ -3,8 +3,6 @@ use mathlib.Core.Path.{refl}
 use Rattle.merging.specs.Queue.{pairAt}
 use Rattle.merging.proofs.queue.read.Statement.{statement}
 use Rattle.merging.proofs.queue.read.Tie as tie
-use Rattle.merging.proofs.queue.read.Reads as reads
-use Rattle.merging.proofs.queue.read.Lts as lts
 
 mul-at : tie.Need-mul-at
 mul-at c = search needs

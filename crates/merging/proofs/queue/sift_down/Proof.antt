@@ -1,5 +1,5 @@
-use mathlib.Core.Path.{_≡_, sym}
-use Prim.Native.Nat.{ℕ, _-_, _<_}
+use mathlib.Core.Path.{sym}
+use Prim.Native.Nat.{_-_}
 use native.Mathlib.Omega.{arith}
 use borrow.Author.Needs.{needs}
 use Rattle.merging.specs.Queue.{LoweredAt}
@@ -7,12 +7,6 @@ use Rattle.merging.proofs.QueueOrder.{carry}
 use Rattle.merging.proofs.QueueHeap.{Moved, moved-none, moved-swap, lower, lowered-leaf, lowered-stop, settled}
 use Rattle.merging.proofs.queue.sift_down.Statement.{statement}
 use Rattle.merging.proofs.queue.sift_down.Tie as tie
-use Rattle.merging.proofs.queue.sift_down.Reads as reads
-use Rattle.merging.proofs.queue.sift_down.Lts as lts
-use Rattle.merging.proofs.queue.best_child.Reads as best-child-reads
-use Rattle.merging.proofs.queue.better.Reads as better-reads
-use Rattle.merging.proofs.queue.read.Reads as read-reads
-use Rattle.merging.proofs.queue.swap.Reads as swap-reads
 
 abbrev Inv-loop : tie.InvT-loop
 Inv-loop heap₀ count i₀ heap i = LoweredAt heap count i × Moved heap₀ count heap

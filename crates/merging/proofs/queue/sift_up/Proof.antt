@@ -1,6 +1,6 @@
 -- `queue::sift_up` meets its contract. The invariant of its loop: pair i may be better than its parent, no other pair is, and the pairs are those
 -- at entry in another order. The measure is i. Assumes nothing.
-use Prim.Native.Nat.{ℕ, _<_}
+use Prim.Native.Nat.{_<_}
 use mathlib.Core.Path.{_≡_, sym}
 use native.Mathlib.Omega.{arith}
 use borrow.Author.Needs.{needs}
@@ -9,11 +9,6 @@ use Rattle.merging.proofs.QueueOrder.{carry}
 use Rattle.merging.proofs.QueueHeap.{Moved, moved-none, moved-swap, raise, raised-top, raised-stop, settled}
 use Rattle.merging.proofs.queue.sift_up.Statement.{statement}
 use Rattle.merging.proofs.queue.sift_up.Tie as tie
-use Rattle.merging.proofs.queue.sift_up.Reads as reads
-use Rattle.merging.proofs.queue.sift_up.Lts as lts
-use Rattle.merging.proofs.queue.better.Reads as better-reads
-use Rattle.merging.proofs.queue.read.Reads as read-reads
-use Rattle.merging.proofs.queue.swap.Reads as swap-reads
 
 abbrev Inv-loop : tie.InvT-loop
 Inv-loop heap₀ count start i₀ heap i = (i < count) × RaisedAt heap count i × Moved heap₀ count heap

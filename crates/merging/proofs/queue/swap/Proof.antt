@@ -2,10 +2,6 @@ use borrow.Author.Needs.{needs}
 use Rattle.merging.proofs.QueueWords.{puts-swap}
 use Rattle.merging.proofs.queue.swap.Statement.{statement}
 use Rattle.merging.proofs.queue.swap.Tie as tie
-use Rattle.merging.proofs.queue.swap.Reads as reads
-use Rattle.merging.proofs.queue.swap.Lts as lts
-use Rattle.merging.proofs.queue.read.Reads as read-reads
-use Rattle.merging.proofs.queue.write.Reads as write-reads
 
 read-requires : tie.Need-read-requires
 read-requires c κs = search needs

@@ -1,14 +1,7 @@
 use borrow.Author.Needs.{needs}
-use mathlib.Core.Path.{refl}
-use native.Mathlib.Omega.{arith}
 use Rattle.merging.proofs.QueueHeap.{lowered-swap, popped}
 use Rattle.merging.proofs.queue.take.Statement.{statement}
 use Rattle.merging.proofs.queue.take.Tie as tie
-use Rattle.merging.proofs.queue.take.Reads as reads
-use Rattle.merging.proofs.queue.take.Lts as lts
-use Rattle.merging.proofs.queue.read.Reads as read-reads
-use Rattle.merging.proofs.queue.sift_down.Reads as sift-down-reads
-use Rattle.merging.proofs.queue.swap.Reads as swap-reads
 
 returns : tie.Need-returns
 returns c = search needs

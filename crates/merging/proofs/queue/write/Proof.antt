@@ -4,8 +4,6 @@ use lib.ListN.{length-set}
 use Rattle.merging.proofs.QueueWords.{put-words}
 use Rattle.merging.proofs.queue.write.Statement.{statement}
 use Rattle.merging.proofs.queue.write.Tie as tie
-use Rattle.merging.proofs.queue.write.Reads as reads
-use Rattle.merging.proofs.queue.write.Lts as lts
 
 mul-at : tie.Need-mul-at
 mul-at c = search needs

@@ -4,9 +4,6 @@ use native.Mathlib.Omega.{arith}
 use borrow.Author.Needs.{needs}
 use Rattle.merging.proofs.run.decide.Statement.{statement}
 use Rattle.merging.proofs.run.decide.Tie as tie
-use Rattle.merging.proofs.run.decide.Reads as reads
-use Rattle.merging.proofs.run.decide.Lts as lts
-use Rattle.merging.proofs.run.join.Reads as join-reads
 
 cast-first : tie.Need-cast-first
 cast-first c = search needs

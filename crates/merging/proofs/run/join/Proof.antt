@@ -4,10 +4,6 @@ use native.Mathlib.Omega.{arith}
 use borrow.Author.Needs.{needs}
 use Rattle.merging.proofs.run.join.Statement.{statement}
 use Rattle.merging.proofs.run.join.Tie as tie
-use Rattle.merging.proofs.run.join.Reads as reads
-use Rattle.merging.proofs.run.join.Lts as lts
-use Rattle.merging.proofs.pairs.join_pair.Reads as join-pair-reads
-use Rattle.merging.proofs.waits.offer_all.Reads as offer-all-reads
 
 join-pair-requires : tie.Need-join-pair-requires
 join-pair-requires c κs = let h = c .before .before .pre in joinable _ _ _ _ _ _ _ _ (h .0 .chosen) (h .1 .0) (h .1 .1)

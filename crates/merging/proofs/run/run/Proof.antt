@@ -1,13 +1,9 @@
 use Prim.Native.Nat.{_-_, _+_}
 use Rattle.merging.specs.Lent.{room}
 use Rattle.merging.proofs.RunLaws.{Running, running-start, running-more, running-less, running-done}
-use borrow.Author.Needs.{needs}
 use native.Mathlib.Omega.{arith}
 use Rattle.merging.proofs.run.run.Statement.{statement}
 use Rattle.merging.proofs.run.run.Tie as tie
-use Rattle.merging.proofs.run.run.Reads as reads
-use Rattle.merging.proofs.run.run.Lts as lts
-use Rattle.merging.proofs.run.turn.Reads as turn-reads
 
 abbrev Inv-loop : tie.InvT-loop
 Inv-loop work₀ t s₀ work s = Running t (s₀ .waiting) (s₀ .weighed) (s₀ .merges) (s₀ .size) (s .waiting) (s .weighed) (s .merges) (s .size) work₀ work

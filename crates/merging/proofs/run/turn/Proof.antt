@@ -1,12 +1,7 @@
 use Rattle.merging.proofs.RunLaws.{standing-asks, turn-none, turn-chosen, turned}
-use native.Mathlib.Omega.{arith}
 use borrow.Author.Needs.{needs}
 use Rattle.merging.proofs.run.turn.Statement.{statement}
 use Rattle.merging.proofs.run.turn.Tie as tie
-use Rattle.merging.proofs.run.turn.Reads as reads
-use Rattle.merging.proofs.run.turn.Lts as lts
-use Rattle.merging.proofs.run.decide.Reads as decide-reads
-use Rattle.merging.proofs.waits.take.Reads as take-reads
 
 take-requires : tie.Need-take-requires
 take-requires c κs = standing-asks _ _ _ _ _ _ (c .before .before .pre .0)

@@ -1,21 +1,14 @@
-use mathlib.Core.Path.{_≡_, sym, ap, subst, _∙_}
+use mathlib.Core.Path.{sym, subst}
 use mathlib.Core.List.{List}
-use Prim.Native.Nat.{_+_, _*_, _≤_, _<_, ℕ}
-use lib.ListN.{length}
-use Rattle.merging.specs.Queue.{HeapOrdered, Pushed}
+use Prim.Native.Nat.{ℕ}
+use Rattle.merging.specs.Queue.{HeapOrdered}
 use Rattle.merging.specs.Lent.{room}
-use Rattle.merging.specs.Waits.{alive}
 use Rattle.merging.proofs.TableLaws.{room-most}
-use Rattle.merging.proofs.WaitLaws.{alive-one, offer-dead, offer-flat, offer-push, heap-lent, heap-long, heap-back, heap-only, lend-pushed}
+use Rattle.merging.proofs.WaitLaws.{alive-one, offer-dead, offer-flat, offer-push, heap-lent, heap-long, heap-only, lend-pushed}
 use native.Mathlib.Omega.{arith}
 use borrow.Author.Needs.{needs}
 use Rattle.merging.proofs.waits.offer.Statement.{statement}
 use Rattle.merging.proofs.waits.offer.Tie as tie
-use Rattle.merging.proofs.waits.offer.Reads as reads
-use Rattle.merging.proofs.waits.offer.Lts as lts
-use Rattle.merging.proofs.groups.weigh.Reads as weigh-reads
-use Rattle.merging.proofs.queue.push.Reads as push-reads
-use Rattle.merging.proofs.tables.Tables.room.Reads as room-reads
 
 add-x : tie.Need-add-x
 add-x c = search needs

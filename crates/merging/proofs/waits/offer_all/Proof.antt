@@ -1,12 +1,8 @@
 use Prim.Native.Nat.{_-_}
 use Rattle.merging.proofs.WaitLaws.{Offering, offering-start, offering-asks, offering-room, offering-more, offering-done}
-use borrow.Author.Needs.{needs}
 use native.Mathlib.Omega.{arith}
 use Rattle.merging.proofs.waits.offer_all.Statement.{statement}
 use Rattle.merging.proofs.waits.offer_all.Tie as tie
-use Rattle.merging.proofs.waits.offer_all.Reads as reads
-use Rattle.merging.proofs.waits.offer_all.Lts as lts
-use Rattle.merging.proofs.waits.offer.Reads as offer-reads
 
 abbrev Inv-loop : tie.InvT-loop
 Inv-loop work₀ t k now₀ c₀ work now c = Offering t k (now₀ .waiting) (now₀ .weighed) work₀ work (now .waiting) (now .weighed) c

@@ -1,6 +1,6 @@
-use mathlib.Core.Path.{_≡_, sym, ap, subst, _∙_}
+use mathlib.Core.Path.{sym, subst}
 use mathlib.Core.List.{List}
-use Prim.Native.Nat.{_+_, _*_, _≤_, _<_, ℕ}
+use Prim.Native.Nat.{ℕ}
 use Rattle.merging.specs.Queue.{HeapOrdered}
 use Rattle.merging.proofs.TableLaws.{room-most}
 use Rattle.merging.proofs.WaitLaws.{heap-lent, heap-long, lend-taken}
@@ -8,10 +8,6 @@ use native.Mathlib.Omega.{arith}
 use borrow.Author.Needs.{needs}
 use Rattle.merging.proofs.waits.take.Statement.{statement}
 use Rattle.merging.proofs.waits.take.Tie as tie
-use Rattle.merging.proofs.waits.take.Reads as reads
-use Rattle.merging.proofs.waits.take.Lts as lts
-use Rattle.merging.proofs.queue.take.Reads as take-reads
-use Rattle.merging.proofs.tables.Tables.room.Reads as room-reads
 
 room-requires : tie.Need-room-requires
 room-requires c κs = search needs

@@ -1,12 +1,8 @@
 use Prim.Native.Nat.{_-_}
 use Rattle.merging.proofs.WaitLaws.{Opens, opens-start, opens-asks, opens-room, opens-more, opens-done}
-use borrow.Author.Needs.{needs}
 use native.Mathlib.Omega.{arith}
 use Rattle.merging.proofs.waits.weigh_each.Statement.{statement}
 use Rattle.merging.proofs.waits.weigh_each.Tie as tie
-use Rattle.merging.proofs.waits.weigh_each.Reads as reads
-use Rattle.merging.proofs.waits.weigh_each.Lts as lts
-use Rattle.merging.proofs.waits.offer_all.Reads as offer-all-reads
 
 abbrev Inv-loop : tie.InvT-loop
 Inv-loop work₀ t groups now₀ k₀ work now k = Opens t work₀ work (now .waiting) (now .weighed) k

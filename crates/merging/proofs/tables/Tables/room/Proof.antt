@@ -3,8 +3,6 @@ use native.Mathlib.Omega.{arith}
 use borrow.Author.Needs.{needs}
 use Rattle.merging.proofs.tables.Tables.room.Statement.{statement}
 use Rattle.merging.proofs.tables.Tables.room.Tie as tie
-use Rattle.merging.proofs.tables.Tables.room.Reads as reads
-use Rattle.merging.proofs.tables.Tables.room.Lts as lts
 
 returns : tie.Need-returns
 returns c = room-none _ (c .if1 .taken)

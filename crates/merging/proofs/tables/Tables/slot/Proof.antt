@@ -3,8 +3,6 @@ use native.Mathlib.Omega.{arith}
 use borrow.Author.Needs.{needs}
 use Rattle.merging.proofs.tables.Tables.slot.Statement.{statement}
 use Rattle.merging.proofs.tables.Tables.slot.Tie as tie
-use Rattle.merging.proofs.tables.Tables.slot.Reads as reads
-use Rattle.merging.proofs.tables.Tables.slot.Lts as lts
 
 mul-result : tie.Need-mul-result
 mul-result c = omega (arith, row-fits (c .before .args .self .regions) (c .before .args .self .groups) (c .before .args .s) (c .before .pre .0))
