@@ -2,3 +2,4 @@ pub mod RowLaws
 pub mod CountSteps
 pub mod DealSteps
 pub mod DealAll
+pub mod LivingSteps

@@ -6,4 +6,7 @@ mod table;
 pub use grouping::Added;
 pub use grouping::group;
 pub use shaping::shape_of;
+pub use table::Found;
 pub use table::Shapes;
+pub use table::find_shape;
+pub use table::insert_at;
