@@ -3,3 +3,4 @@ pub mod CountSteps
 pub mod DealSteps
 pub mod DealAll
 pub mod LivingSteps
+pub mod HomeSteps
