@@ -3,3 +3,4 @@ pub mod ShapeSteps
 pub mod TableSteps
 pub mod AddSteps
 pub mod GroupSteps
+pub mod CoverSteps

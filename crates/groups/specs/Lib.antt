@@ -1,3 +1,4 @@
 pub mod Groups
+pub mod Cover
 pub mod Lent
 pub mod Table

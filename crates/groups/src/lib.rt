@@ -1,8 +1,10 @@
 // Sets grouped by shape: the shape of a set, the table of distinct shapes in the order of the rules, and how many sets each has.
+mod covering;
 mod grouping;
 mod shaping;
 mod table;
 
+pub use covering::cover;
 pub use grouping::Added;
 pub use grouping::group;
 pub use shaping::shape_of;
