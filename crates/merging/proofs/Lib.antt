@@ -22,3 +22,4 @@ pub mod RunLaws
 pub mod FinishLaws
 pub mod OptimizeLaws
 pub mod Unique
+pub mod Demand

@@ -226,7 +226,7 @@ module _ (t : Tables) (xs : List Group) (n m j z : ℕ) (p : Waiting) (w : List 
     }
 
     pub joined-asked : Asked t k 0 n w₃
-    joined-asked = record { sound = r .sound; placed = placed₃; living = new-lives; known = omega (arith, merge-room); waits = waits₃ }
+    joined-asked = record { weighable = record { sound = r .sound; placed = placed₃; living = new-lives; known = omega (arith, merge-room) }; waits = waits₃ }
 
     -- as many are weighed as are left
     left-count : sum (alive t w₃) k ≡ length left

@@ -203,6 +203,16 @@ module _ (t : Tables) (xs : List Group) (n m j z : ℕ) (w : List ℕ) (s : Stan
     end-dead : (c : ℕ) → c < t .groups + j → 0 < placeOf t w′ c → Among (run j (start xs) .living) c
     end-dead c l a = s .held .found c l (omega (arith, end-place c (omega (arith, merges-few t xs j w (s .many) (s .held)))))
 
+    end-apart : (c d : ℕ) → c < d → d < t .groups + j → 0 < placeOf t w′ c → placeOf t w′ c ≡ placeOf t w′ d → ⊥
+    end-apart c d l k a e =
+        let m = merges-few t xs j w (s .many) (s .held) in
+        let ec = end-place c (omega arith) in
+        let ed = end-place d (omega arith) in
+        s .held .apart c d l k (omega arith) (sym ec ∙ e ∙ ed)
+
+    end-sound : Sound t w′
+    end-sound = frame-sound t w w′ sits (f .only) (λ k a b. omega (arith, sits)) (λ k a b. omega (arith, sits)) (λ k a b. omega (arith, sits)) (s .held .sound)
+
     end-log : seg (t .log) (3 * j) w′ ≡ words (run j (start xs) .log)
     end-log =
         only-seg (f .only) (t .log) (3 * j) (omega (arith, sits, merges-few t xs j w (s .many) (s .held))) (λ k a b. omega (arith, sits)) ∙ s .held .log-is
@@ -230,5 +240,7 @@ optimized t w w₁ w₂ w₃ w₄ w₅ z n m n′ m′ j z′ h q e s o r f =
       log-is = end-log t xs n′ m′ j z′ w₄ b w₅ f ∙ ap (λ (i : State). words (i .log)) d;
       lives = subst (λ (i : State). All (Lives t w₅) (i .living)) d (end-lives t xs n′ m′ j z′ w₄ b w₅ f);
       others-dead = subst (λ (i : State). (c : ℕ) → c < t .groups + j → 0 < placeOf t w₅ c → Among (i .living) c) d (end-dead t xs n′ m′ j z′ w₄ b w₅ f);
+      apart = end-apart t xs n′ m′ j z′ w₄ b w₅ f;
+      sound = end-sound t xs n′ m′ j z′ w₄ b w₅ f;
       homes = subst (λ (i : State). All (λ g. All (λ i. getD w₅ (t .into + i) 0 ≡ g .num) (g .origins)) (i .living)) d (end-homes t xs n′ m′ j z′ w₄ b w₅ f);
     }

@@ -21,7 +21,7 @@ use Rattle.merging.specs.declared.queue.Waiting.{Waiting}
 use Rattle.merging.specs.declared.queue.Taken.{Taken}
 use Rattle.merging.specs.Lent.{room, Laid, shapeIn, groupIn, Sound}
 use Rattle.merging.specs.Queue.{HeapOrdered, Has, Pushed, TakenFrom}
-use Rattle.merging.specs.Waits.{placeOf, groupOf, alive, pairOf, heapOf, Placed, Reached, Fair, Waits, Asked, Offered, OfferedAll, Opening, Opened, Took}
+use Rattle.merging.specs.Waits.{placeOf, groupOf, alive, pairOf, heapOf, Placed, Reached, Fair, Waits, Considered, PushedIn, Asked, Offered, OfferedAll, Opening, Opened, Took}
 use Rattle.merging.proofs.QueueContent.{push-has, push-keeps, push-only}
 use Rattle.merging.proofs.TableLaws.{slot-end}
 use Rattle.merging.proofs.SlotLaws.{shape-kept, laid-kept, group-is}
@@ -143,72 +143,75 @@ reached-more k c a b r = record { order = r .order; below = r .below; last = λ 
 fair-more : (t : Tables) (w : List ℕ) (k c : ℕ) (q : Waiting) → Fair t k c w q → Fair t k (c + 1) w q
 fair-more t w k c q f = record { reached = reached-more k c (q .first) (q .second) (f .reached); some = f .some; is = f .is }
 
-module _ (t : Tables) (w : List ℕ) (k c n m : ℕ) (h : Asked t k c n w) (l : c < k) where
-  -- c is dead
-  pub offer-dead : placeOf t w c ≡ 0 → Offered t k c n m n m w w
-  offer-dead e =
-      let z = alive-none t w c e in
-      record {
-        only = only-refl ((t .heap, 3 * room (t .groups)) ∷ []) w;
-        waits = record {
-          ordered = h .waits .ordered;
-          all = λ a b r x y g. h .waits .all a b (reached-less k c a b r (λ p q. omega (arith, ap (placeOf t w) q))) x y g;
-          fair = λ q u. fair-more t w k c q (h .waits .fair q u);
-        };
-        weighed = omega arith;
-        few = omega arith;
-      }
+pub considered-dead : (t : Tables) (w : List ℕ) (c k : ℕ) → placeOf t w c ≡ 0 → Considered t c k 0 0 w
+considered-dead t w c k e = record { weighed = sym (alive-none t w c e); dead = λ _. refl; gain-is = λ l. absurd (omega arith) }
 
-  -- it lives, and the two gain nothing
-  pub offer-flat : (g : ℕ) → (placeOf t w c ≡ 0 → ⊥) → g ≡ gain (groupIn t w (placeOf t w c - 1)) (groupIn t w (placeOf t w k - 1)) → g ≡ 0 → Offered t k c n m n (m + 1) w w
-  unfolding groupOf
-  offer-flat g d e z =
-      let o = alive-one t w c d in
-      record {
-        only = only-refl ((t .heap, 3 * room (t .groups)) ∷ []) w;
-        waits = record {
-          ordered = h .waits .ordered;
-          all = λ a b r x y u.
-              h .waits .all a b
-              (reached-less k c a b r (λ p q. omega (arith, e, ap₂ (λ (i j : ℕ). gain (groupOf t w i) (groupOf t w j)) q p)))
-              x y u;
-          fair = λ q u. fair-more t w k c q (h .waits .fair q u);
-        };
-        weighed = omega arith;
-        few = omega arith;
-      }
+pub considered : (t : Tables) (w : List ℕ) (c k g : ℕ) → (placeOf t w c ≡ 0 → ⊥) → g ≡ gain (groupIn t w (placeOf t w c - 1)) (groupIn t w (placeOf t w k - 1)) → Considered t c k 1 g w
+unfolding groupOf
+considered t w c k g d e = record { weighed = sym (alive-one t w c d); dead = λ z. absurd (d z); gain-is = λ _. e }
 
-  -- it lives, and they gain
-  pub offer-push : (w′ : List ℕ) (g n′ : ℕ) → (placeOf t w c ≡ 0 → ⊥) → g ≡ gain (groupIn t w (placeOf t w c - 1)) (groupIn t w (placeOf t w k - 1)) → (g ≡ 0 → ⊥)
-      → Only ((t .heap, 3 * room (t .groups)) ∷ []) w w′ → n′ ≡ n + 1 → Pushed (heapOf t w) n (record { gain = g; first = c; second = k }) (heapOf t w′) → Offered t k c n m n′ (m + 1) w w′
-  offer-push w′ g n′ d e z p en s =
-      let o = alive-one t w c d in
-      let same : pairOf t w c k ≡ record { gain = g; first = c; second = k } = unfold groupOf in λ i. record { gain = sym e i; first = c; second = k } in
-      let s′ : Pushed (heapOf t w) n (pairOf t w c k) (heapOf t w′) = subst (λ (x : Waiting). Pushed (heapOf t w) n x (heapOf t w′)) (sym same) s in
-      record {
-        only = p;
-        waits = rw en (waits-move t w w′ k (c + 1) (n + 1) (heap-kept t w w′ (h .sound .shaped .laid) p (k + 1) (omega (arith, h .known)) (h .placed)) (s .ordered)
-            (λ a b r x y u. ⊎-elim
-            (λ (q : b ≡ k). ⊎-elim
-            (λ (v : a ≡ c). subst (Has (heapOf t w′) (n + 1)) (sym (ap₂ (pairOf t w) v q)) (push-has s′))
-            (λ v. push-keeps s′ (h .waits .all a b (reached-less k c a b r (λ i j. v j)) x y u))
-            (same-or-not a c))
-            (λ v. push-keeps s′ (h .waits .all a b (reached-less k c a b r (λ i j. v i)) x y u))
-            (same-or-not b k))
-            (λ q u. ⊎-elim
-            (λ (v : q ≡ pairOf t w c k). subst (Fair t k (c + 1) w) (sym v) (own same))
-            (λ v. fair-more t w k c q (h .waits .fair q v))
-            (push-only s′ u)));
-        weighed = omega arith;
-        few = omega arith;
-      }
-    where
-      own : pairOf t w c k ≡ record { gain = g; first = c; second = k } → Fair t k (c + 1) w (pairOf t w c k)
-      own same = record {
-        reached = record { order = l; below = omega arith; last = λ e. omega arith };
-        some = omega (arith, ap (λ (x : Waiting). x .gain) same);
-        is = λ x y. refl;
-      }
+module _ (t : Tables) (w : List ℕ) (k c n m v g : ℕ) (h : Asked t k c n w) (l : c < k) (q : Considered t c k v g w) where
+  -- they gain nothing, or c is dead
+  pub offer-none : g ≡ 0 → Offered t k c n m n (m + v) w w
+  offer-none z = record {
+    only = only-refl ((t .heap, 3 * room (t .groups)) ∷ []) w;
+    waits = record {
+      ordered = h .waits .ordered;
+      all = λ a b r x y u.
+          h .waits .all a b
+          (reached-less k c a b r
+          (λ i j.
+          let o : 0 < placeOf t w c = omega (arith, ap (placeOf t w) j) in
+          omega (arith, q .gain-is o, ap₂ (λ (i j : ℕ). gain (groupOf t w i) (groupOf t w j)) j i)))
+          x y u;
+      fair = λ f u. fair-more t w k c f (h .waits .fair f u);
+    };
+    weighed = ap (λ (i : ℕ). m + i) (q .weighed);
+    few = omega arith;
+  }
+
+  -- they gain
+  module _ (d : g ≡ 0 → ⊥) where
+    lives : 0 < placeOf t w c
+    lives = ⊎-elim (λ (e : placeOf t w c ≡ 0). absurd (d (q .dead e))) (λ e. omega arith) (same-or-not (placeOf t w c) 0)
+
+    pub offer-one : alive t w c ≡ 1
+    offer-one = alive-one t w c (λ e. omega (arith, lives))
+
+    abbrev p : Waiting
+    p = record { gain = g; first = c; second = k }
+
+    pair-same : pairOf t w c k ≡ p
+    pair-same = λ i. record { gain = sym (q .gain-is lives) i; first = c; second = k }
+
+    own : Fair t k (c + 1) w p
+    own = record {
+      reached = record { order = l; below = omega arith; last = λ e. omega arith };
+      some = omega arith;
+      is = λ x y. sym pair-same;
+    }
+
+    pub offer-push : (w′ : List ℕ) (n′ : ℕ) → PushedIn t n n′ p w w′ → Offered t k c n m n′ (m + v) w w′
+    offer-push w′ n′ s =
+        let u = offer-one in
+        let kept = heap-kept t w w′ (h .weighable .sound .shaped .laid) (s .only) (k + 1) (omega (arith, h .weighable .known)) (h .weighable .placed) in
+        record {
+          only = s .only;
+          waits = rw (s .count) (waits-move t w w′ k (c + 1) (n + 1) kept (s .pushed .ordered)
+              (λ a b r x y z. ⊎-elim
+              (λ (i : b ≡ k). ⊎-elim
+              (λ (j : a ≡ c). subst (Has (heapOf t w′) (n + 1)) (sym (ap₂ (pairOf t w) j i ∙ pair-same)) (push-has (s .pushed)))
+              (λ j. push-keeps (s .pushed) (h .waits .all a b (reached-less k c a b r (λ _ f. j f)) x y z))
+              (same-or-not a c))
+              (λ i. push-keeps (s .pushed) (h .waits .all a b (reached-less k c a b r (λ f _. i f)) x y z))
+              (same-or-not b k))
+              (λ f z. ⊎-elim
+              (λ (e : f ≡ p). subst (Fair t k (c + 1) w) (sym e) own)
+              (λ e. fair-more t w k c f (h .waits .fair f e))
+              (push-only (s .pushed) z)));
+          weighed = ap (λ (i : ℕ). m + i) (q .weighed);
+          few = omega (arith, s .count);
+        }
 
 -- ---- the queue, lent as a part
 
@@ -238,9 +241,9 @@ module _ (t : Tables) (w : List ℕ) (r : ℕ) (h : Laid t (length w)) (e : r �
     pub heap-only : Only ((t .heap, 3 * room (t .groups)) ∷ []) w (putMid (t .heap) (t .heap + 3 * r - t .heap) w s)
     heap-only = rw (← e) (only-mid (t .heap) (3 * r) w s (omega (arith, h .heap-end)) fits)
 
-    pub lend-pushed : (n : ℕ) (p : Waiting) → Pushed (take (t .heap + 3 * r - t .heap) (drop (t .heap) w)) n p s
-        → Pushed (heapOf t w) n p (heapOf t (putMid (t .heap) (t .heap + 3 * r - t .heap) w s))
-    lend-pushed n p u = rw heap-back (rw heap-lent at u)
+    pub lend-pushed : (n n′ : ℕ) (p : Waiting) → n′ ≡ n + 1 → Pushed (take (t .heap + 3 * r - t .heap) (drop (t .heap) w)) n p s
+        → PushedIn t n n′ p w (putMid (t .heap) (t .heap + 3 * r - t .heap) w s)
+    lend-pushed n n′ p e u = record { only = heap-only; count = e; pushed = rw heap-back (rw heap-lent at u) }
 
     pub lend-taken : (n : ℕ) (a : Taken) → TakenFrom (take (t .heap + 3 * r - t .heap) (drop (t .heap) w)) n a s
         → Took t n a w (putMid (t .heap) (t .heap + 3 * r - t .heap) w s)
@@ -267,22 +270,24 @@ module _ (t : Tables) (k n m : ℕ) (w₀ : List ℕ) (h : Asked t k 0 n w₀) w
 
   module _ (w : List ℕ) (n′ m′ c : ℕ) (o : Offering t k n m w₀ w n′ m′ c) where
     laid : Laid t (length w₀)
-    laid = h .sound .shaped .laid
+    laid = h .weighable .sound .shaped .laid
 
     same : (i : ℕ) → i < 2 * t .groups → placeOf t w i ≡ placeOf t w₀ i
     same = heap-place t w₀ w laid (o .only)
 
     pub offering-asks : Asked t k c n′ w
     offering-asks = record {
-      sound = heap-sound t w₀ w laid (o .only) (h .sound);
-      placed = heap-placed t w₀ w laid (o .only) (k + 1) (omega (arith, h .known)) (h .placed);
-      living = rw (same k (h .known)) (h .living);
-      known = h .known;
+      weighable = record {
+        sound = heap-sound t w₀ w laid (o .only) (h .weighable .sound);
+        placed = heap-placed t w₀ w laid (o .only) (k + 1) (omega (arith, h .weighable .known)) (h .weighable .placed);
+        living = rw (same k (h .weighable .known)) (h .weighable .living);
+        known = h .weighable .known;
+      };
       waits = o .waits;
     }
 
     alive-here : c < k → alive t w c ≡ alive t w₀ c
-    alive-here l = alive-same t w₀ w c (same c (omega (arith, h .known)))
+    alive-here l = alive-same t w₀ w c (same c (omega (arith, h .weighable .known)))
 
     below : c < k → sum (alive t w₀) c + alive t w₀ c ≤ sum (alive t w₀) k
     below l = omega (arith, sum-next (alive t w₀) c, sum-mono (alive t w₀) (c + 1) k (omega arith))
@@ -365,10 +370,12 @@ module _ (t : Tables) (w₀ : List ℕ) (h : Opening t w₀) where
 
     pub opens-asks : k < t .groups → Asked t k 0 n w
     opens-asks l = record {
-      sound = heap-sound t w₀ w lies (o .only) (h .sound);
-      placed = record { within = λ c q. omega (arith, place-here c (omega arith), h .living c (omega arith)) };
-      living = omega (arith, place-here k l, h .living k l);
-      known = omega arith;
+      weighable = record {
+        sound = heap-sound t w₀ w lies (o .only) (h .sound);
+        placed = record { within = λ c q. omega (arith, place-here c (omega arith), h .living c (omega arith)) };
+        living = omega (arith, place-here k l, h .living k l);
+        known = omega arith;
+      };
       waits = o .waits;
     }
 

@@ -1,5 +1,6 @@
 -- A state of the rule (specs/Model.antt) in lent words. Assumes nothing.
 use mathlib.Core.Path.{_≡_}
+use mathlib.Core.Bool.{Bool, true, false}
 use mathlib.Core.Logic.{_≢_, _⊎_}
 use mathlib.Core.List.{List, [], _∷_, List·Memᴰ}
 use Prim.Native.Nat.{ℕ, _+_, _-_, _*_, _≤_, _<_}
@@ -146,6 +147,11 @@ pub record SomeStanding (t : Tables) (n m j z : ℕ) (w : List ℕ) : Type 0 whe
 pub record SomeChosen (t : Tables) (n m j z : ℕ) (p : Waiting) (w : List ℕ) : Type 0 where
   pub groups : List Group
   pub chosen : Chosen t groups n m j z p w
+
+-- whether the two of p live
+pub record BothLive (t : Tables) (p : Waiting) (r : Bool) (w : List ℕ) : Type 0 where
+  pub yes-live : r ≡ true → (0 < placeOf t w (p .first)) × (0 < placeOf t w (p .second))
+  pub one-dead : r ≡ false → (placeOf t w (p .first) ≡ 0) ⊎ (placeOf t w (p .second) ≡ 0)
 
 -- the pair p was joined or passed over
 pub record Decided (t : Tables) (n m j z : ℕ) (p : Waiting) (n′ m′ j′ z′ : ℕ) (w w′ : List ℕ) : Type 0 where

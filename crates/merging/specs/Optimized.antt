@@ -9,7 +9,7 @@ use Rattle.laws.specs.Every.{All}
 use Rattle.laws.specs.Range.{Only, seg}
 use Rattle.merging.specs.declared.tables.Tables.{Tables}
 use Rattle.merging.specs.Model.{start, merged, total}
-use Rattle.merging.specs.Lent.{Laid, Shaped, Dealt, starting}
+use Rattle.merging.specs.Lent.{Laid, Shaped, Sound, Dealt, starting}
 use Rattle.merging.specs.Waits.{placeOf}
 use Rattle.merging.specs.Held.{Lives, Among, Reaches, words, written}
 
@@ -19,8 +19,8 @@ pub record Ready (t : Tables) (w : List ℕ) : Type 0 where
   pub dealt : Dealt t w
   pub sets-few : weigh (λ x. x .sets) (starting t w) < 4294967296
 
--- Only the tables changed. The log, the counts and the living groups are the rule's, each living group stands in its slot, no other number lives,
--- and for each starting group the number of the living group that it went into is noted.
+-- Only the tables changed. The log, the counts and the living groups are the rule's, each living group stands in a slot of its own, no other number
+-- lives, and for each starting group the number of the living group that it went into is noted.
 pub record Optimized (t : Tables) (merges weighed before after : ℕ) (w w′ : List ℕ) : Type 0 where
   pub only : Only (written t) w w′
   pub merges-are : merges ≡ length (merged (starting t w) .log)
@@ -30,6 +30,8 @@ pub record Optimized (t : Tables) (merges weighed before after : ℕ) (w w′ : 
   pub log-is : seg (t .log) (3 * merges) w′ ≡ words (merged (starting t w) .log)
   pub lives : All (Lives t w′) (merged (starting t w) .living)
   pub others-dead : (c : ℕ) → c < t .groups + merges → 0 < placeOf t w′ c → Among (merged (starting t w) .living) c
+  pub apart : (c d : ℕ) → c < d → d < t .groups + merges → 0 < placeOf t w′ c → placeOf t w′ c ≡ placeOf t w′ d → ⊥
+  pub sound : Sound t w′
   pub homes : All (λ g. All (λ i. getD w′ (t .into + i) 0 ≡ g .num) (g .origins)) (merged (starting t w) .living)
 
 -- ---- of the private functions

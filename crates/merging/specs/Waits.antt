@@ -12,7 +12,7 @@ use Rattle.merging.specs.declared.tables.Tables.{Tables}
 use Rattle.merging.specs.declared.queue.Waiting.{Waiting}
 use Rattle.merging.specs.declared.queue.Taken.{Taken}
 use Rattle.merging.specs.Lent.{room, groupIn, Sound}
-use Rattle.merging.specs.Queue.{HeapOrdered, Has, TakenFrom}
+use Rattle.merging.specs.Queue.{HeapOrdered, Has, Pushed, TakenFrom}
 
 -- number c lives in a slot, one less than its place; 0 where it is dead
 abbrev pub placeOf : Tables → List ℕ → ℕ → ℕ
@@ -55,12 +55,28 @@ pub record Waits (t : Tables) (k c n : ℕ) (w : List ℕ) : Type 0 where
   pub all : (a b : ℕ) → Reached k c a b → 0 < placeOf t w a → 0 < placeOf t w b → 0 < gain (groupOf t w a) (groupOf t w b) → Has (heapOf t w) n (pairOf t w a b)
   pub fair : (q : Waiting) → Has (heapOf t w) n q → Fair t k c w q
 
--- what weighing number k with number c asks and does: n pairs wait and m were weighed before it, n′ and m′ after it
-pub record Asked (t : Tables) (k c n : ℕ) (w : List ℕ) : Type 0 where
+-- number k can be weighed with those below it
+pub record Weighable (t : Tables) (k : ℕ) (w : List ℕ) : Type 0 where
   pub sound : Sound t w
   pub placed : Placed t (k + 1) w
   pub living : 0 < placeOf t w k
   pub known : k < 2 * t .groups
+
+-- it was, with number c: a pair was weighed where c lives, and gains g; where c is dead nothing gains
+pub record Considered (t : Tables) (c k v g : ℕ) (w : List ℕ) : Type 0 where
+  pub weighed : v ≡ alive t w c
+  pub dead : placeOf t w c ≡ 0 → g ≡ 0
+  pub gain-is : 0 < placeOf t w c → g ≡ gain (groupOf t w c) (groupOf t w k)
+
+-- one more pair waits
+pub record PushedIn (t : Tables) (n n′ : ℕ) (p : Waiting) (w w′ : List ℕ) : Type 0 where
+  pub only : Only ((t .heap, 3 * room (t .groups)) ∷ []) w w′
+  pub count : n′ ≡ n + 1
+  pub pushed : Pushed (heapOf t w) n p (heapOf t w′)
+
+-- what weighing number k with number c asks and does: n pairs wait and m were weighed before it, n′ and m′ after it
+pub record Asked (t : Tables) (k c n : ℕ) (w : List ℕ) : Type 0 where
+  pub weighable : Weighable t k w
   pub waits : Waits t k c n w
 
 pub record Offered (t : Tables) (k c n m n′ m′ : ℕ) (w w′ : List ℕ) : Type 0 where

@@ -5,9 +5,11 @@ use crate::queue::Waiting;
 use crate::tables::Tables;
 use crate::waits;
 use crate::waits::Tally;
-ghost use Prim.Native.Nat.{_+_, _<_};
+ghost use Prim.Native.Nat.{_*_, _<_};
+ghost use lib.ListN.{length};
+ghost use Rattle.merging.specs.Lent.{Laid};
 ghost use Rattle.merging.specs.Waits.{placeOf};
-ghost use Rattle.merging.specs.Held.{SomeChosen, Decided, SomeStanding, Turned, Ran};
+ghost use Rattle.merging.specs.Held.{BothLive, SomeChosen, Decided, SomeStanding, Turned, Ran};
 
 // How many pairs wait, were weighed and were joined, and what the groups cost together.
 pub struct Progress {
@@ -39,21 +41,34 @@ fn join(work: &mut [u32], t: Tables, s: Progress, p: Waiting) -> Progress
     }
 }
 
-// Joins the pair p, or passes it over where one of its two is dead.
-fn decide(work: &mut [u32], t: Tables, s: Progress, p: Waiting) -> Progress
-    requires { ⌜ SomeChosen t (s .waiting) (s .weighed) (s .merges) (s .size) p (now work) ⌝ }
-    ensures { λ r. ⌜ Decided t (s .waiting) (s .weighed) (s .merges) (s .size) p (r .waiting) (r .weighed) (r .merges) (r .size) (now (work .entry)) (now (work .exit)) ⌝ }
+// Whether both groups of the pair p live.
+fn living(work: &[u32], t: Tables, p: Waiting) -> bool
+    requires { ⌜ Laid t (length (now work)) ⌝ }
+    requires { ⌜ p .first < 2 * t .groups ⌝ }
+    requires { ⌜ p .second < 2 * t .groups ⌝ }
+    ensures { λ r. ⌜ BothLive t p r (now (work .entry)) ⌝ }
 {
     let place = t.place;
     let first = p.first as usize;
     let second = p.second as usize;
     if work[place + first] == 0 {
-        return s;
+        return false;
     }
     if work[place + second] == 0 {
-        return s;
+        return false;
     }
-    join(work, t, s, p)
+    true
+}
+
+// Joins the pair p, or passes it over where one of its two is dead.
+fn decide(work: &mut [u32], t: Tables, s: Progress, p: Waiting) -> Progress
+    requires { ⌜ SomeChosen t (s .waiting) (s .weighed) (s .merges) (s .size) p (now work) ⌝ }
+    ensures { λ r. ⌜ Decided t (s .waiting) (s .weighed) (s .merges) (s .size) p (r .waiting) (r .weighed) (r .merges) (r .size) (now (work .entry)) (now (work .exit)) ⌝ }
+{
+    if living(work, t, p) {
+        return join(work, t, s, p);
+    }
+    s
 }
 
 // Takes the best pair, and decides on it.

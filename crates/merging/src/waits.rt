@@ -8,12 +8,51 @@ ghost use lib.ListN.{length};
 ghost use Rattle.laws.specs.Bag.{sum};
 ghost use Rattle.merging.specs.Lent.{Laid, room};
 ghost use Rattle.merging.specs.Queue.{HeapOrdered};
-ghost use Rattle.merging.specs.Waits.{heapOf, alive, Asked, Offered, OfferedAll, Opening, Opened, Took};
+ghost use Rattle.merging.specs.Waits.{heapOf, alive, Weighable, Considered, PushedIn, Asked, Offered, OfferedAll, Opening, Opened, Took};
 
 // How many pairs wait, and how many were weighed.
 pub struct Tally {
     pub waiting: usize,
     pub weighed: usize,
+}
+
+// What weighing two numbers found: how many pairs that was, and what they gain.
+pub struct Found {
+    pub weighed: usize,
+    pub gain: u32,
+}
+
+// Weighs numbers c and k, if c lives.
+fn consider(work: &[u32], t: Tables, c: usize, k: usize) -> Found
+    requires { ⌜ Weighable t k (now work) ⌝ }
+    requires { ⌜ c < k ⌝ }
+    ensures { λ r. ⌜ Considered t c k (r .weighed) (r .gain) (now (work .entry)) ⌝ }
+{
+    let place = t.place;
+    let x = work[place + c] as usize;
+    if x == 0 {
+        return Found {
+            weighed: 0,
+            gain: 0,
+        };
+    }
+    let y = work[place + k] as usize;
+    Found {
+        weighed: 1,
+        gain: groups::weigh(work, t, x - 1, y - 1),
+    }
+}
+
+// One more pair waits.
+fn push(work: &mut [u32], t: Tables, n: usize, gain: u32, first: u32, second: u32) -> usize
+    requires { ⌜ Laid t (length (now work)) ⌝ }
+    requires { ⌜ n < room (t .groups) ⌝ }
+    requires { ⌜ HeapOrdered (heapOf t (now work)) n ⌝ }
+    ensures { λ r. ⌜ PushedIn t n r (record { gain = gain; first = first; second = second }) (now (work .entry)) (now (work .exit)) ⌝ }
+{
+    let heap = t.heap;
+    let end = heap + 3 * t.room();
+    queue::push(&mut work[heap..end], n, gain, first, second)
 }
 
 // Weighs numbers c and k, if c lives; where they gain, they wait.
@@ -24,23 +63,15 @@ fn offer(work: &mut [u32], t: Tables, c: usize, k: usize, at: Tally) -> Tally
     requires { ⌜ at .weighed + alive t (now work) c ≤ room (t .groups) ⌝ }
     ensures { λ r. ⌜ Offered t k c (at .waiting) (at .weighed) (r .waiting) (r .weighed) (now (work .entry)) (now (work .exit)) ⌝ }
 {
-    let place = t.place;
-    let x = work[place + c] as usize;
-    if x == 0 {
-        return at;
-    }
-    let y = work[place + k] as usize;
-    let gain = groups::weigh(work, t, x - 1, y - 1);
-    let weighed = at.weighed + 1;
-    if gain == 0 {
+    let found = consider(work, t, c, k);
+    let weighed = at.weighed + found.weighed;
+    if found.gain == 0 {
         return Tally {
             waiting: at.waiting,
             weighed,
         };
     }
-    let heap = t.heap;
-    let end = heap + 3 * t.room();
-    let waiting = queue::push(&mut work[heap..end], at.waiting, gain, c as u32, k as u32);
+    let waiting = push(work, t, at.waiting, found.gain, c as u32, k as u32);
     Tally { waiting, weighed }
 }
 

@@ -1,0 +1,66 @@
+-- Demand 3 of document 01, of what `optimize` answers and leaves: each sentence a field. (That a living group never has the joined shape is
+-- `no-fold` of Theorems.antt, for shapes that differ at the start.) Assumes nothing.
+use mathlib.Core.Path.{_≡_, _∙_}
+use mathlib.Core.List.{List}
+use Prim.Native.Nat.{ℕ, _+_, _-_, _*_, _/_, _≤_, _<_}
+use native.Mathlib.Omega.{arith}
+use lib.ListN.{length}
+use Rattle.laws.specs.Every.{All, EachTwo}
+use Rattle.shapes.specs.Group.{Group}
+use Rattle.merging.specs.declared.tables.Tables.{Tables}
+use Rattle.merging.specs.Model.{gainOf, start, merged}
+use Rattle.merging.specs.Lent.{starting}
+use Rattle.merging.specs.Optimized.{Optimized}
+use Rattle.merging.proofs.Theorems.{Merges, saved, merged-merges, run-total, all-gains-zero, fewer, none-of-none, weighed-is, weighed-few}
+use Rattle.merging.proofs.Origins.{homes, one-home, Made, made}
+use Rattle.merging.proofs.Unique.{starting-length}
+
+pub record Demand (t : Tables) (merges weighed before after : ℕ) (w : List ℕ) : Type 0 where
+  -- "each merge's pair is ahead of every living pair and gains at least 1", the log has these merges and no others
+  pub each : Merges (start (starting t w)) (merged (starting t w))
+  -- "the total falls by exactly the gain"
+  pub falls : after + saved (merged (starting t w) .log) ≡ before
+  -- "at the end every two living groups gain 0"
+  pub done : EachTwo (λ g h. gainOf g h ≡ 0) (merged (starting t w) .living)
+  -- "merges < N, none for N = 0"
+  pub fewer-merges : 0 < t .groups → merges < t .groups
+  pub none-of-none : t .groups ≡ 0 → merges ≡ 0
+  -- "pairs weighed = N(N-1)/2 + M(N-1) - M(M+1)/2 after M merges and at most (N-1)²"
+  pub pairs-weighed : weighed ≡ t .groups * (t .groups - 1) / 2 + merges * (t .groups - 1) - merges * (merges + 1) / 2
+  pub pairs-most : weighed ≤ (t .groups - 1) * (t .groups - 1)
+  -- "each starting group is in exactly one living group, whose shape is the join of its starting shapes and whose count is their sum"
+  pub one-group : (i : ℕ) → i < t .groups → homes i (merged (starting t w) .living) ≡ 1
+  pub made-of : All (Made (starting t w)) (merged (starting t w) .living)
+
+merged-few : (xs : List Group) → merged xs .weighed ≤ (length xs - 1) * (length xs - 1)
+unfolding merged
+merged-few xs = weighed-few (length xs) xs
+
+few : (t : Tables) (w : List ℕ) (m : ℕ) → m ≡ merged (starting t w) .weighed → m ≤ (t .groups - 1) * (t .groups - 1)
+few t w m e = let f = rw (starting-length t w) at (merged-few (starting t w)) in omega arith
+
+merged-weighed : (xs : List Group) → let n = length xs in let j = length (merged xs .log) in merged xs .weighed ≡ n * (n - 1) / 2 + j * (n - 1) - j * (j + 1) / 2
+unfolding merged
+merged-weighed xs = weighed-is (length xs) xs
+
+weighed-by : (n j m : ℕ) (xs : List Group) → length xs ≡ n → j ≡ length (merged xs .log) → m ≡ merged xs .weighed → m ≡ n * (n - 1) / 2 + j * (n - 1) - j * (j + 1) / 2
+weighed-by n j m xs e f g = rw (← e, f) (g ∙ merged-weighed xs)
+
+pub demand : (t : Tables) (j m b a : ℕ) (w w′ : List ℕ) → Optimized t j m b a w w′ → Demand t j m b a w
+unfolding merged
+demand t j m b a w w′ o =
+    let xs = starting t w in
+    let n : length xs ≡ t .groups = starting-length t w in
+    let k = length xs in
+    let e = o .merges-are in
+    record {
+      each = merged-merges xs;
+      falls = omega (arith, run-total k xs, o .before-is, o .after-is);
+      done = all-gains-zero xs;
+      fewer-merges = λ l. omega (arith, fewer k xs (omega arith));
+      none-of-none = λ z. omega (arith, none-of-none k xs (n ∙ z) .0);
+      pairs-weighed = weighed-by (t .groups) j m xs n e (o .weighed-are);
+      pairs-most = few t w m (o .weighed-are);
+      one-group = λ i l. one-home k xs i (omega arith);
+      made-of = made k xs;
+    }
