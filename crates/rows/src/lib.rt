@@ -4,4 +4,5 @@ mod column;
 mod reader;
 
 pub use column::Column;
-pub use reader::{read, Reading};
+pub use reader::Reading;
+pub use reader::read;

@@ -1,6 +1,8 @@
 // Reads one value of an item variation store, whatever its bytes are.
 use crate::bytes::be;
-use crate::column::{Column, column_at, column_bytes};
+use crate::column::Column;
+use crate::column::column_at;
+use crate::column::column_bytes;
 ghost use mathlib.Core.Path.{_≡_};
 ghost use mathlib.Core.Bool.{true};
 ghost use Prim.Native.Nat.{_+_, _*_, _≤_, _<_, _^_};
