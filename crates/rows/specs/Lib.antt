@@ -1,1 +1,4 @@
 pub mod Store
+pub mod Columns
+pub mod Row
+pub mod Placing
