@@ -1,3 +1,4 @@
 pub mod StoreLaws
 pub mod Worked
 pub mod WorkedBytes
+pub mod RowLaws

@@ -110,8 +110,24 @@ find-below x i (y ∷ ys) j h = go (eqb y x) (find-below x (i + 1) ys j) h
     go true r h = let e : i ≡ j = cc in omega arith
     go false r h = omega (arith, r h)
 
+-- and x stands there
+pub find-at : (x i : ℕ) (ys : List ℕ) (j : ℕ) → find x i ys ≡ At j → (i ≤ j) × (getD ys (j - i) 0 ≡ x)
+unfolding find
+find-at x i [] j h = let z : _≡_ {A = ℕ} 0 1 = cc in (absurd (omega arith), absurd (omega arith))
+find-at x i (y ∷ ys) j h = go (which (eqb y x)) (find-at x (i + 1) ys j)
+  where
+    go : Which (eqb y x) → (find x (i + 1) ys ≡ At j → (i + 1 ≤ j) × (getD ys (j - (i + 1)) 0 ≡ x)) → (i ≤ j) × (getD (y ∷ ys) (j - i) 0 ≡ x)
+    go (holds t) r =
+        let e : i ≡ j = (let g : At i ≡ At j = (rw t at h) in cc) in
+        let z : j - i ≡ 0 = omega arith in
+        (omega arith, rw z (eqb-true y x t))
+    go (fails t) r =
+        let g = r (rw t at h) in
+        let z : j - i ≡ suc (j - (i + 1)) = omega (arith, g .0) in
+        (omega (arith, g .0), rw z (g .1))
+
 -- what is missing stands nowhere
-absent-at : (x i : ℕ) (ys : List ℕ) → absent (find x i ys) ≡ true → (k : ℕ) → k < length ys → getD ys k 0 ≡ x → ⊥
+pub absent-at : (x i : ℕ) (ys : List ℕ) → absent (find x i ys) ≡ true → (k : ℕ) → k < length ys → getD ys k 0 ≡ x → ⊥
 unfolding find
 absent-at x i [] h k l e = omega arith
 absent-at x i (y ∷ ys) h k l e = go (which (eqb y x)) (absent-at x (i + 1) ys) k l e
@@ -122,7 +138,7 @@ absent-at x i (y ∷ ys) h k l e = go (which (eqb y x)) (absent-at x (i + 1) ys)
     go (fails t) r zero l e = eqb-false y x t e
     go (fails t) r (suc k) l e = r (rw t at h) k (omega arith) e
 
-absent-intro : (x i : ℕ) (ys : List ℕ) → ((k : ℕ) → k < length ys → getD ys k 0 ≡ x → ⊥) → absent (find x i ys) ≡ true
+pub absent-intro : (x i : ℕ) (ys : List ℕ) → ((k : ℕ) → k < length ys → getD ys k 0 ≡ x → ⊥) → absent (find x i ys) ≡ true
 unfolding find
 absent-intro x i [] h = refl
 absent-intro x i (y ∷ ys) h = rw (ne-eqb y x (h 0 (omega arith))) (absent-intro x (i + 1) ys (λ k l. h (suc k) (omega arith)))
@@ -137,12 +153,12 @@ ok-head r x l h =
     let b = and-true (absent (find x 0 l)) (columnsOk r l) (a .1) in
     (ltb-true x r (a .0), b .0, b .1)
 
-ok-below : (r : ℕ) (l : List ℕ) → columnsOk r l ≡ true → (k : ℕ) → k < length l → getD l k 0 < r
+pub ok-below : (r : ℕ) (l : List ℕ) → columnsOk r l ≡ true → (k : ℕ) → k < length l → getD l k 0 < r
 ok-below r [] h k p = absurd (omega arith)
 ok-below r (x ∷ l) h zero p = ok-head r x l h .0
 ok-below r (x ∷ l) h (suc k) p = ok-below r l (ok-head r x l h .2) k (omega arith)
 
-ok-once : (r : ℕ) (l : List ℕ) → columnsOk r l ≡ true → (i j : ℕ) → i < j → j < length l → getD l j 0 ≡ getD l i 0 → ⊥
+pub ok-once : (r : ℕ) (l : List ℕ) → columnsOk r l ≡ true → (i j : ℕ) → i < j → j < length l → getD l j 0 ≡ getD l i 0 → ⊥
 ok-once r [] h i j p q e = omega arith
 ok-once r (x ∷ l) h i zero p q e = omega arith
 ok-once r (x ∷ l) h zero (suc j) p q e = absent-at x 0 l (ok-head r x l h .1) j (omega arith) e

@@ -2,3 +2,4 @@ pub mod Store
 pub mod Columns
 pub mod Row
 pub mod Placing
+pub mod Lent

@@ -1,7 +1,10 @@
 // Columns of a row: which one a region has, where it begins, and how many bytes it has.
 ghost use mathlib.Core.Path.{_≡_};
-ghost use Prim.Native.Nat.{_≤_, _<_};
-ghost use Rattle.rows.specs.Store.{columnAt, columnBytes};
+ghost use mathlib.Core.List.{List};
+ghost use Prim.Native.Nat.{ℕ, _≤_, _<_};
+ghost use lib.ListN.{length};
+ghost use Rattle.rows.specs.Store.{columnAt, columnBytes, find};
+ghost use Rattle.rows.specs.Lent.{Placed};
 
 // The column of a region, counted from 0.
 pub enum Column {
@@ -45,4 +48,18 @@ pub fn column_bytes(word: usize, j: usize) -> usize
         return 4;
     }
     2
+}
+
+// The column of a region, by the table that has 0 for a region without one, else one more than its number.
+pub fn column_of(places: &[u32], region: usize) -> Column
+    ensures { λ r. ⌜ ((cols : List ℕ) → Placed cols (now (places .entry)) → r ≡ find region 0 cols) ⌝ }
+{
+    if places.len() <= region {
+        return Column::Missing;
+    }
+    let place = places[region] as usize;
+    if place == 0 {
+        return Column::Missing;
+    }
+    Column::At(place - 1)
 }

@@ -2,6 +2,7 @@
 mod bytes;
 mod column;
 mod reader;
+mod row;
 
 pub use column::Column;
 pub use reader::Reading;

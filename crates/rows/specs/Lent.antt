@@ -1,0 +1,36 @@
+-- What the clauses of `src/` say of lent words and bytes. Assumes nothing.
+use mathlib.Core.Path.{_≡_}
+use mathlib.Core.Bool.{Bool, true, false}
+use mathlib.Core.List.{List, [], _∷_, _++_, map}
+use Prim.Native.Nat.{ℕ, zero, suc, _+_, _*_, _≤_, _<_}
+use lib.ListN.{length, getD}
+use Rattle.laws.specs.Bytes.{bytesOf}
+use Rattle.laws.specs.Signed.{twos}
+use Rattle.rows.specs.declared.column.Column.{Column}
+use Rattle.rows.specs.declared.column.Column.the-variants.{At, Missing}
+use Rattle.rows.specs.Store.{columnBytes, columnsOk, find}
+use Rattle.rows.specs.Row.{Set, valueIn}
+
+-- n entries that stand in w from index a on, two words each
+unfoldable pub entriesAt : ℕ → ℕ → List ℕ → Set
+entriesAt a zero w = []
+entriesAt a (suc n) w = (getD w a 0, getD w (a + 1) 0) ∷ entriesAt (a + 2) n w
+
+-- the n words from column j on, each at its column's width
+unfoldable pub rowBytes : ℕ → ℕ → List ℕ → List ℕ
+rowBytes word j [] = []
+rowBytes word j (v ∷ vs) = bytesOf (columnBytes word j) v ++ rowBytes word (j + 1) vs
+
+-- the two's complement word of each column
+abbrev pub cellWords : Set → List ℕ → List ℕ
+cellWords set cols = map (λ r. twos 4 (valueIn set r)) cols
+
+-- 0 for no column, else one more than its number
+unfoldable pub placeNo : Column → ℕ
+placeNo (At j) = suc j
+placeNo Missing = 0
+
+-- the table says the column of each region
+pub record Placed (cols places : List ℕ) : Type 0 where
+  pub ok : columnsOk (length places) cols ≡ true
+  pub at : (r : ℕ) → r < length places → getD places r 0 ≡ placeNo (find r 0 cols)
