@@ -2,3 +2,4 @@ pub mod StoreLaws
 pub mod Worked
 pub mod WorkedBytes
 pub mod RowLaws
+pub mod ColumnsLaws
