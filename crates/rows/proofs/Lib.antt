@@ -3,3 +3,4 @@ pub mod Worked
 pub mod WorkedBytes
 pub mod RowLaws
 pub mod ColumnsLaws
+pub mod BackLaws

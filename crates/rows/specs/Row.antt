@@ -1,6 +1,7 @@
 -- The bytes of one row. Document 01: "When a set is laid into its row, a region with no column in the row is skipped."
+use mathlib.Core.Path.{_≡_}
 use mathlib.Core.List.{List, [], _∷_, _++_}
-use Prim.Native.Nat.{ℕ}
+use Prim.Native.Nat.{ℕ, _^_, _≤_, _<_}
 use lib.Dec.{eqb}
 use lib.IntN.{ℤ}
 use lib.ListN.{getD}
@@ -8,6 +9,7 @@ use Rattle.laws.specs.Pick.{pick}
 use Rattle.laws.specs.Bytes.{bytesOf}
 use Rattle.laws.specs.Signed.{twos, zeroWord, value}
 use Rattle.shapes.specs.Shape.{Shape}
+use Rattle.shapes.specs.Width.{widthOf, costOf}
 use Rattle.rows.specs.Columns.{columnsOf, bytesFor}
 
 -- a set: (region, word) for each region that it names; a word stands for a value (`value`)
@@ -30,3 +32,13 @@ cellsOf s set (r ∷ rs) = bytesOf (bytesFor s (getD s r 0)) (twos 4 (valueIn se
 
 unfoldable pub rowOf : Shape → Set → List ℕ
 rowOf s set = cellsOf s set (columnsOf s)
+
+-- each width of the shape is that of None, One, Two or Four
+pub record Widths (s : Shape) : Type 0 where
+  pub most : (r : ℕ) → getD s r 0 ≤ 4
+  pub one-of : (r : ℕ) → getD s r 0 ≡ 3 → ⊥
+
+-- the shape's widths hold the set's values, each of 32 bits
+pub record Covers (s : Shape) (set : Set) : Type 0 where
+  pub word : (r : ℕ) → wordIn set r < 256 ^ 4
+  pub holds : (r : ℕ) → costOf (widthOf (valueIn set r)) ≤ getD s r 0
