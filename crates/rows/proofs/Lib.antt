@@ -4,3 +4,5 @@ pub mod WorkedBytes
 pub mod RowLaws
 pub mod ColumnsLaws
 pub mod BackLaws
+pub mod OverLaws
+pub mod CollectLaws

@@ -3,12 +3,14 @@ use mathlib.Core.Path.{_≡_}
 use mathlib.Core.Bool.{Bool, true, false}
 use mathlib.Core.List.{List, [], _∷_, _++_, map}
 use Prim.Native.Nat.{ℕ, zero, suc, _+_, _*_, _≤_, _<_}
-use lib.ListN.{length, getD}
-use Rattle.laws.specs.Bytes.{bytesOf}
+use lib.ListN.{length, getD, drop}
+use Rattle.laws.specs.Bytes.{bytesOf, over}
+use Rattle.shapes.specs.Shape.{Shape}
 use Rattle.laws.specs.Signed.{twos}
 use Rattle.rows.specs.declared.column.Column.{Column}
 use Rattle.rows.specs.declared.column.Column.the-variants.{At, Missing}
 use Rattle.rows.specs.Store.{columnBytes, columnsOk, find}
+use Rattle.rows.specs.Columns.{columnsOf, wordCount}
 use Rattle.rows.specs.Row.{Set, valueIn}
 
 -- n entries that stand in w from index a on, two words each
@@ -34,3 +36,14 @@ placeNo Missing = 0
 pub record Placed (cols places : List ℕ) : Type 0 where
   pub ok : columnsOk (length places) cols ≡ true
   pub at : (r : ℕ) → r < length places → getD places r 0 ≡ placeNo (find r 0 cols)
+
+-- bs was put over the words from at on, and ends at r
+pub record Put (at : ℕ) (bs old new : List ℕ) (r : ℕ) : Type 0 where
+  pub end : r ≡ at + length bs
+  pub is : new ≡ over old at (length bs) bs
+
+-- the shape's columns stand at the front, and the numbers are its word count and how many there are
+pub record Formed (s : Shape) (old new : List ℕ) (word count : ℕ) : Type 0 where
+  pub word-is : word ≡ wordCount s
+  pub count-is : count ≡ length (columnsOf s)
+  pub is : new ≡ columnsOf s ++ drop (length (columnsOf s)) old
