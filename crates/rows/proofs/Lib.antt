@@ -6,3 +6,4 @@ pub mod ColumnsLaws
 pub mod BackLaws
 pub mod OverLaws
 pub mod CollectLaws
+pub mod PutLaws

@@ -12,6 +12,7 @@ use Rattle.rows.specs.declared.column.Column.the-variants.{At, Missing}
 use Rattle.rows.specs.Store.{columnBytes, columnsOk, find}
 use Rattle.rows.specs.Columns.{columnsOf, wordCount}
 use Rattle.rows.specs.Row.{Set, valueIn}
+use Rattle.rows.specs.Placing.{indexBytes}
 
 -- n entries that stand in w from index a on, two words each
 unfoldable pub entriesAt : ℕ → ℕ → List ℕ → Set
@@ -47,3 +48,31 @@ pub record Formed (s : Shape) (old new : List ℕ) (word count : ℕ) : Type 0 w
   pub word-is : word ≡ wordCount s
   pub count-is : count ≡ length (columnsOf s)
   pub is : new ≡ columnsOf s ++ drop (length (columnsOf s)) old
+
+-- the set of id x: an index of two words a set says where its entries start and how many there are
+unfoldable pub setAt : ℕ → List ℕ → ℕ → Set
+setAt index w x = entriesAt (getD w (index + 2 * x) 0) (getD w (index + 2 * x + 1) 0) w
+
+-- that set lies in w
+pub record Stored (index : ℕ) (w : List ℕ) (x : ℕ) : Type 0 where
+  pub row : index + 2 * x + 2 ≤ length w
+  pub body : getD w (index + 2 * x) 0 + 2 * getD w (index + 2 * x + 1) 0 ≤ length w
+
+-- a row for each of the ids
+unfoldable pub rowsBytes : ℕ → List ℕ → (ℕ → Set) → List ℕ → List ℕ
+rowsBytes word cols set [] = []
+rowsBytes word cols set (x ∷ xs) = rowBytes word 0 (cellWords (set x) cols) ++ rowsBytes word cols set xs
+
+-- region r's new number
+abbrev pub numberIn : List ℕ → ℕ → ℕ
+numberIn numbers r = getD numbers r 0
+
+-- what stands before the rows
+abbrev pub headBytes : ℕ → ℕ → ℕ → List ℕ
+headBytes items word count = bytesOf 2 items ++ (bytesOf 2 word ++ bytesOf 2 count)
+
+-- a subtable of the columns cols; one of no rows is null
+unfoldable pub tableBytes : (ℕ → ℕ) → ℕ → List ℕ → (ℕ → Set) → List ℕ → List ℕ
+tableBytes number word cols set [] = []
+tableBytes number word cols set (x ∷ xs) =
+    headBytes (length (x ∷ xs)) word (length cols) ++ (indexBytes number cols ++ rowsBytes word cols set (x ∷ xs))

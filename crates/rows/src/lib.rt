@@ -3,6 +3,7 @@ mod bytes;
 mod column;
 mod reader;
 mod row;
+mod subtable;
 
 pub use column::Column;
 pub use reader::Reading;
