@@ -7,3 +7,4 @@ pub mod BackLaws
 pub mod OverLaws
 pub mod CollectLaws
 pub mod PutLaws
+pub mod RunLaws

@@ -3,7 +3,7 @@ use mathlib.Core.Path.{_≡_}
 use mathlib.Core.Bool.{Bool, true, false}
 use mathlib.Core.List.{List, [], _∷_, _++_, map}
 use Prim.Native.Nat.{ℕ, zero, suc, _+_, _*_, _≤_, _<_}
-use lib.ListN.{length, getD, drop}
+use lib.ListN.{length, getD, take, drop}
 use Rattle.laws.specs.Bytes.{bytesOf, over}
 use Rattle.shapes.specs.Shape.{Shape}
 use Rattle.laws.specs.Signed.{twos}
@@ -12,7 +12,9 @@ use Rattle.rows.specs.declared.column.Column.the-variants.{At, Missing}
 use Rattle.rows.specs.Store.{columnBytes, columnsOk, find}
 use Rattle.rows.specs.Columns.{columnsOf, wordCount}
 use Rattle.rows.specs.Row.{Set, valueIn}
-use Rattle.rows.specs.Placing.{indexBytes}
+use Rattle.laws.specs.Bounded.{tabulate}
+use Rattle.shapes.specs.Group.{maxItems}
+use Rattle.rows.specs.Placing.{indexBytes, runCount, joinAll}
 
 -- n entries that stand in w from index a on, two words each
 unfoldable pub entriesAt : ℕ → ℕ → List ℕ → Set
@@ -76,3 +78,10 @@ unfoldable pub tableBytes : (ℕ → ℕ) → ℕ → List ℕ → (ℕ → Set)
 tableBytes number word cols set [] = []
 tableBytes number word cols set (x ∷ xs) =
     headBytes (length (x ∷ xs)) word (length cols) ++ (indexBytes number cols ++ rowsBytes word cols set (x ∷ xs))
+
+-- what f gives for each run of the ids, one after the other
+abbrev pub runAt : List ℕ → ℕ → List ℕ
+runAt ids k = take maxItems (drop (maxItems * k) ids)
+
+unfoldable pub runsBytes : (List ℕ → List ℕ) → List ℕ → List ℕ
+runsBytes f ids = joinAll (tabulate 0 (runCount (length ids)) (λ k. f (runAt ids k)))

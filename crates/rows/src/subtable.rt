@@ -3,16 +3,18 @@
 use crate::bytes::put;
 use crate::column::column_at;
 use crate::row::write_row;
+use shapes::Encoding;
 ghost use mathlib.Core.Path.{_≡_};
 ghost use mathlib.Core.Bool.{true};
-ghost use Prim.Native.Nat.{_+_, _*_, _≤_, _<_};
+ghost use Prim.Native.Nat.{_+_, _-_, _*_, _≤_, _<_, min};
 ghost use mathlib.Core.List.{_++_};
 ghost use lib.ListN.{length, drop};
 ghost use Rattle.laws.specs.Range.{seg};
 ghost use Rattle.laws.specs.Every.{All};
 ghost use Rattle.rows.specs.Store.{columnAt, columnsOk};
-ghost use Rattle.rows.specs.Placing.{indexBytes};
-ghost use Rattle.rows.specs.Lent.{Placed, Put, Stored, cellWords, headBytes, numberIn, rowBytes, rowsBytes, setAt, tableBytes};
+ghost use Rattle.shapes.specs.Group.{maxItems};
+ghost use Rattle.rows.specs.Placing.{indexBytes, runCount};
+ghost use Rattle.rows.specs.Lent.{Placed, Put, Stored, cellWords, headBytes, numberIn, rowBytes, rowsBytes, runsBytes, setAt, tableBytes};
 
 fn write_head(out: &mut [u8], at: usize, items: usize, word: usize, count: usize) -> usize
     requires { ⌜ at + 6 ≤ length (now out) ⌝ }
@@ -93,6 +95,107 @@ fn write_rows(
         write_set(&mut out[a..], word, cols, places, work, index, x);
         a += n;
         i += 1;
+    }
+    a
+}
+
+// One subtable of count rows. One of no rows is null, and has no bytes.
+fn write_table(
+    out: &mut [u8],
+    at: usize,
+    word: usize,
+    cols: &[u32],
+    places: &[u32],
+    numbers: &[u32],
+    work: &[u32],
+    index: usize,
+    ids: usize,
+    count: usize,
+) -> usize
+    requires { ⌜ word < 65536 ⌝ }
+    requires { ⌜ length (now cols) < 65536 ⌝ }
+    requires { ⌜ Placed (now cols) (now places) ⌝ }
+    requires { ⌜ columnsOk (length (now numbers)) (now cols) ≡ true ⌝ }
+    requires { ⌜ count < 65536 ⌝ }
+    requires { ⌜ ids + count ≤ length (now work) ⌝ }
+    requires { ⌜ All (Stored index (now work)) (seg ids count (now work)) ⌝ }
+    requires { ⌜ at + length (tableBytes (numberIn (now numbers)) word (now cols) (setAt index (now work)) (seg ids count (now work))) ≤ length (now out) ⌝ }
+    ensures { λ r. ⌜ Put at (tableBytes (numberIn (now (numbers .entry))) word (now (cols .entry)) (setAt index (now (work .entry))) (seg ids count (now (work .entry)))) (now (out .entry)) (now (out .exit)) r ⌝ }
+{
+    if count == 0 {
+        return at;
+    }
+    let a = write_head(out, at, count, word, cols.len());
+    let b = write_indexes(out, a, cols, numbers);
+    write_rows(out, b, word, cols, places, work, index, ids, count)
+}
+
+// How many runs a group of count sets is cut into; one of none is one null subtable.
+pub fn run_count(count: usize) -> usize
+    requires { ⌜ count < 4294967296 ⌝ }
+    ensures { λ r. ⌜ r ≡ runCount count ⌝ }
+{
+    if count == 0 {
+        return 1;
+    }
+    (count + (Encoding::MAX_ITEMS - 1)) / Encoding::MAX_ITEMS
+}
+
+// How many sets run k has.
+pub fn run_items(count: usize, k: usize) -> usize
+    requires { ⌜ k < runCount count ⌝ }
+    requires { ⌜ count < 4294967296 ⌝ }
+    ensures { λ r. ⌜ r ≡ min maxItems (count - maxItems * k) ⌝ }
+{
+    let left = count - Encoding::MAX_ITEMS * k;
+    if Encoding::MAX_ITEMS < left {
+        return Encoding::MAX_ITEMS;
+    }
+    left
+}
+
+// The subtables of a group of count sets, cut into runs.
+fn write_runs(
+    out: &mut [u8],
+    at: usize,
+    word: usize,
+    cols: &[u32],
+    places: &[u32],
+    numbers: &[u32],
+    work: &[u32],
+    index: usize,
+    ids: usize,
+    count: usize,
+) -> usize
+    requires { ⌜ word < 65536 ⌝ }
+    requires { ⌜ length (now cols) < 65536 ⌝ }
+    requires { ⌜ Placed (now cols) (now places) ⌝ }
+    requires { ⌜ columnsOk (length (now numbers)) (now cols) ≡ true ⌝ }
+    requires { ⌜ count < 4294967296 ⌝ }
+    requires { ⌜ ids + count ≤ length (now work) ⌝ }
+    requires { ⌜ All (Stored index (now work)) (seg ids count (now work)) ⌝ }
+    requires { ⌜ at + length (runsBytes (tableBytes (numberIn (now numbers)) word (now cols) (setAt index (now work))) (seg ids count (now work))) ≤ length (now out) ⌝ }
+    ensures { λ r. ⌜ Put at (runsBytes (tableBytes (numberIn (now (numbers .entry))) word (now (cols .entry)) (setAt index (now (work .entry)))) (seg ids count (now (work .entry)))) (now (out .entry)) (now (out .exit)) r ⌝ }
+{
+    let runs = run_count(count);
+    let mut a = at;
+    let mut k: usize = 0;
+    while k < runs {
+        let from = ids + Encoding::MAX_ITEMS * k;
+        let items = run_items(count, k);
+        a = write_table(
+            out,
+            a,
+            word,
+            cols,
+            places,
+            numbers,
+            work,
+            index,
+            from,
+            items,
+        );
+        k += 1;
     }
     a
 }
