@@ -8,3 +8,4 @@ pub mod OverLaws
 pub mod CollectLaws
 pub mod PutLaws
 pub mod RunLaws
+pub mod GroupLaws

@@ -1,6 +1,7 @@
 // Rows and bytes of an item variation store: the reader of one value. A value in work is a word, the value plus 2^31.
 mod bytes;
 mod column;
+mod groups;
 mod reader;
 mod row;
 mod subtable;

@@ -155,7 +155,7 @@ pub fn run_items(count: usize, k: usize) -> usize
 }
 
 // The subtables of a group of count sets, cut into runs.
-fn write_runs(
+pub fn write_runs(
     out: &mut [u8],
     at: usize,
     word: usize,
