@@ -14,7 +14,9 @@ use Rattle.rows.specs.Columns.{columnsOf, wordCount}
 use Rattle.rows.specs.Row.{Set, valueIn}
 use Rattle.laws.specs.Bounded.{tabulate}
 use Rattle.shapes.specs.Group.{maxItems}
-use Rattle.rows.specs.Placing.{indexBytes, runCount, joinAll}
+use Rattle.laws.specs.Range.{seg}
+use Rattle.laws.specs.Every.{All}
+use Rattle.rows.specs.Placing.{Final, indexBytes, runCount, joinAll, subtableOf}
 
 -- n entries that stand in w from index a on, two words each
 unfoldable pub entriesAt : ℕ → ℕ → List ℕ → Set
@@ -85,3 +87,25 @@ runAt ids k = take maxItems (drop (maxItems * k) ids)
 
 unfoldable pub runsBytes : (List ℕ → List ℕ) → List ℕ → List ℕ
 runsBytes f ids = joinAll (tabulate 0 (runCount (length ids)) (λ k. f (runAt ids k)))
+
+-- f at each number below n, one after the other
+unfoldable pub chain : (ℕ → List ℕ) → ℕ → List ℕ
+chain f n = joinAll (tabulate 0 n f)
+
+-- the group whose three words stand at group: where its shape is, where its ids are, how many there are
+unfoldable pub finalAt : ℕ → List ℕ → ℕ → Final
+finalAt regions w group = record {
+  shape = seg (getD w group 0) regions w;
+  ids = seg (getD w (group + 1) 0) (getD w (group + 2) 0) w;
+}
+
+-- all of that group lies in w
+pub record Handed (regions index : ℕ) (w : List ℕ) (group : ℕ) : Type 0 where
+  pub row : group + 3 ≤ length w
+  pub shape : getD w group 0 + regions ≤ length w
+  pub ids : getD w (group + 1) 0 + getD w (group + 2) 0 ≤ length w
+  pub sets : All (Stored index w) (seg (getD w (group + 1) 0) (getD w (group + 2) 0) w)
+
+-- the subtables of one group
+unfoldable pub groupBytes : (ℕ → ℕ) → (ℕ → Set) → Final → List ℕ
+groupBytes number set g = runsBytes (subtableOf number set (g .shape)) (g .ids)
