@@ -9,3 +9,4 @@ pub mod CollectLaws
 pub mod PutLaws
 pub mod RunLaws
 pub mod GroupLaws
+pub mod RegionLaws

@@ -1,6 +1,7 @@
 -- What the clauses of `src/` say of lent words and bytes. Assumes nothing.
 use mathlib.Core.Path.{_≡_}
-use mathlib.Core.Bool.{Bool, true, false}
+use mathlib.Core.Bool.{Bool, true, false, not}
+use lib.Dec.{eqb}
 use mathlib.Core.List.{List, [], _∷_, _++_, map}
 use Prim.Native.Nat.{ℕ, zero, suc, _+_, _*_, _≤_, _<_}
 use lib.ListN.{length, getD, take, drop}
@@ -16,7 +17,9 @@ use Rattle.laws.specs.Bounded.{tabulate}
 use Rattle.shapes.specs.Group.{maxItems}
 use Rattle.laws.specs.Range.{seg}
 use Rattle.laws.specs.Every.{All}
-use Rattle.rows.specs.Placing.{Final, indexBytes, runCount, joinAll, subtableOf}
+use Rattle.laws.specs.Bounded.{upTo}
+use Rattle.laws.specs.Sorting.{keep}
+use Rattle.rows.specs.Placing.{Final, indexBytes, names, runCount, joinAll, subtableOf}
 
 -- n entries that stand in w from index a on, two words each
 unfoldable pub entriesAt : ℕ → ℕ → List ℕ → Set
@@ -109,3 +112,26 @@ pub record Handed (regions index : ℕ) (w : List ℕ) (group : ℕ) : Type 0 wh
 -- the subtables of one group
 unfoldable pub groupBytes : (ℕ → ℕ) → (ℕ → Set) → Final → List ℕ
 groupBytes number set g = runsBytes (subtableOf number set (g .shape)) (g .ids)
+
+-- the groups whose words stand from groups on
+unfoldable pub finalsAt : ℕ → ℕ → ℕ → List ℕ → List Final
+finalsAt regions groups n w = tabulate 0 n (λ g. finalAt regions w (groups + 3 * g))
+
+-- a region is marked
+abbrev pub markedIn : List ℕ → ℕ → Bool
+markedIn marks r = not (eqb (getD marks r 0) 0)
+
+-- the regions that have a width in the shape were marked, and no others
+pub record Named (s old new : List ℕ) : Type 0 where
+  pub long : length new ≡ length old
+  pub some : (r : ℕ) → r < length s → (getD s r 0 ≡ 0 → ⊥) → getD new r 0 ≡ 1
+  pub none : (r : ℕ) → getD s r 0 ≡ 0 → getD new r 0 ≡ getD old r 0
+
+-- the regions that the groups name are marked, and no others
+pub record Marks (gs : List Final) (marks : List ℕ) : Type 0 where
+  pub is : (r : ℕ) → markedIn marks r ≡ names r gs
+
+-- each region's new number is how many marked ones stand before it
+pub record Numbered (marks : List ℕ) (regions : ℕ) (numbers : List ℕ) (kept : ℕ) : Type 0 where
+  pub at : (r : ℕ) → r < regions → getD numbers r 0 ≡ length (keep (markedIn marks) (upTo r))
+  pub all : kept ≡ length (keep (markedIn marks) (upTo regions))

@@ -3,6 +3,7 @@ mod bytes;
 mod column;
 mod groups;
 mod reader;
+mod regions;
 mod row;
 mod subtable;
 
