@@ -10,3 +10,4 @@ pub mod PutLaws
 pub mod RunLaws
 pub mod GroupLaws
 pub mod RegionLaws
+pub mod ListLaws

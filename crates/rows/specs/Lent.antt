@@ -135,3 +135,18 @@ pub record Marks (gs : List Final) (marks : List ℕ) : Type 0 where
 pub record Numbered (marks : List ℕ) (regions : ℕ) (numbers : List ℕ) (kept : ℕ) : Type 0 where
   pub at : (r : ℕ) → r < regions → getD numbers r 0 ≡ length (keep (markedIn marks) (upTo r))
   pub all : kept ≡ length (keep (markedIn marks) (upTo regions))
+
+-- the coordinates of a region's axes, six bytes each, that stand in a source 12 bytes apart from a place on
+unfoldable pub coordsAt : List ℕ → ℕ → ℕ → List ℕ
+coordsAt src axes from = chain (λ a. seg (from + 12 * a) 6 src) axes
+
+-- they lie in the source
+pub record Sourced (axes : ℕ) (src : List ℕ) (from : ℕ) : Type 0 where
+  pub inside : (a : ℕ) → a < axes → from + 12 * a + 6 ≤ length src
+
+-- those of some regions, whose places stand in w from starts on
+unfoldable pub keptBytes : List ℕ → ℕ → List ℕ → ℕ → List ℕ → List ℕ
+keptBytes src axes w starts rs = joinAll (map (λ r. coordsAt src axes (getD w (starts + r) 0)) rs)
+
+abbrev pub listBytes : ℕ → ℕ → List ℕ → List ℕ
+listBytes axes kept coords = bytesOf 2 axes ++ (bytesOf 2 kept ++ coords)

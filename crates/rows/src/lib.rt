@@ -2,6 +2,7 @@
 mod bytes;
 mod column;
 mod groups;
+mod list;
 mod reader;
 mod regions;
 mod row;
