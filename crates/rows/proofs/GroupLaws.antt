@@ -56,10 +56,10 @@ module _ (s : Shape) (old new : List ℕ) (word count : ℕ) (f : Formed s old n
 -- ---- pieces one after another
 
 module _ (f : ℕ → List ℕ) (n : ℕ) where
-  abbrev left : ℕ → List ℕ
+  abbrev pub left : ℕ → List ℕ
   left k = joinAll (tabulate k (n - k) f)
 
-  left-step : (k : ℕ) → k < n → left k ≡ f k ++ left (k + 1)
+  pub left-step : (k : ℕ) → k < n → left k ≡ f k ++ left (k + 1)
   unfolding joinAll tabulate
   left-step k h =
       let e : n - k ≡ suc (n - (k + 1)) = omega arith in

@@ -11,3 +11,4 @@ pub mod RunLaws
 pub mod GroupLaws
 pub mod RegionLaws
 pub mod ListLaws
+pub mod SizeLaws

@@ -3,14 +3,16 @@ use mathlib.Core.Path.{_≡_}
 use mathlib.Core.Bool.{Bool, true, false, not}
 use lib.Dec.{eqb}
 use mathlib.Core.List.{List, [], _∷_, _++_, map}
-use Prim.Native.Nat.{ℕ, zero, suc, _+_, _*_, _≤_, _<_}
+use Prim.Native.Nat.{ℕ, zero, suc, _+_, _-_, _*_, _≤_, _<_, min}
+use Rattle.laws.specs.Pick.{pick}
+use Rattle.laws.specs.Bag.{weigh}
 use lib.ListN.{length, getD, take, drop}
 use Rattle.laws.specs.Bytes.{bytesOf, over}
 use Rattle.shapes.specs.Shape.{Shape}
 use Rattle.laws.specs.Signed.{twos}
 use Rattle.rows.specs.declared.column.Column.{Column}
 use Rattle.rows.specs.declared.column.Column.the-variants.{At, Missing}
-use Rattle.rows.specs.Store.{columnBytes, columnsOk, find}
+use Rattle.rows.specs.Store.{columnAt, columnBytes, columnsOk, find}
 use Rattle.rows.specs.Columns.{columnsOf, wordCount}
 use Rattle.rows.specs.Row.{Set, valueIn}
 use Rattle.laws.specs.Bounded.{tabulate}
@@ -150,3 +152,53 @@ keptBytes src axes w starts rs = joinAll (map (λ r. coordsAt src axes (getD w (
 
 abbrev pub listBytes : ℕ → ℕ → List ℕ → List ℕ
 listBytes axes kept coords = bytesOf 2 axes ++ (bytesOf 2 kept ++ coords)
+
+-- ---- sizes
+
+-- the bytes of a subtable of n columns and rows of `row` bytes
+unfoldable pub tableSize : ℕ → ℕ → ℕ → ℕ
+tableSize n row items = pick (eqb items 0) 0 (6 + 2 * n + items * row)
+
+-- of each run of a group of so many sets
+unfoldable pub runSizes : ℕ → ℕ → ℕ → List ℕ
+runSizes n row count = tabulate 0 (runCount count) (λ k. tableSize n row (min maxItems (count - maxItems * k)))
+
+unfoldable pub groupSizes : Final → List ℕ
+groupSizes g = runSizes (length (columnsOf (g .shape))) (columnAt (wordCount (g .shape)) (length (columnsOf (g .shape)))) (length (g .ids))
+
+-- of each subtable of the groups
+unfoldable pub sizesAt : ℕ → ℕ → ℕ → List ℕ → List ℕ
+sizesAt regions groups n w = chain (λ g. groupSizes (finalAt regions w (groups + 3 * g))) n
+
+abbrev pub total : List ℕ → ℕ
+total l = weigh (λ (x : ℕ). x) l
+
+-- how much they are together, and how many
+pub record Summed (sizes : List ℕ) (bytes runs : ℕ) : Type 0 where
+  pub bytes-is : bytes ≡ total sizes
+  pub runs-is : runs ≡ length sizes
+
+-- the numbers are those of the group's rows
+pub record FormOf (g : Final) (word count : ℕ) : Type 0 where
+  pub word-is : word ≡ wordCount (g .shape)
+  pub count-is : count ≡ length (columnsOf (g .shape))
+  pub word-below : word < 65536
+  pub count-most : count ≤ 256
+
+-- the group whose words stand at group has no more sets than a job has records
+pub record Small (w : List ℕ) (group : ℕ) : Type 0 where
+  pub few : getD w (group + 2) 0 ≤ 1048576
+
+-- the offset that is written for a subtable of a size: 0 for a null one
+unfoldable pub spotOf : ℕ → ℕ → ℕ
+spotOf at size = pick (eqb size 0) 0 at
+
+-- the offsets of subtables of these sizes, the first one's being at
+unfoldable pub spotsOf : ℕ → List ℕ → List ℕ
+spotsOf at [] = []
+spotsOf at (l ∷ ls) = bytesOf 4 (spotOf at l) ++ spotsOf (at + l) ls
+
+-- offsets were put, and the next subtable would begin at next
+pub record Spotted (at first : ℕ) (sizes old new : List ℕ) (r next : ℕ) : Type 0 where
+  pub put : Put at (spotsOf first sizes) old new r
+  pub next-is : next ≡ first + total sizes

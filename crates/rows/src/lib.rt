@@ -6,6 +6,7 @@ mod list;
 mod reader;
 mod regions;
 mod row;
+mod size;
 mod subtable;
 
 pub use column::Column;

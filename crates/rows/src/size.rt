@@ -1,0 +1,99 @@
+// How many bytes the subtables take, worked out without writing, and where each begins.
+use crate::bytes::put;
+use crate::column::Form;
+use crate::column::column_at;
+use crate::column::columns;
+use crate::subtable::run_count;
+use crate::subtable::run_items;
+ghost use mathlib.Core.Path.{_≡_};
+ghost use Prim.Native.Nat.{ℕ, _+_, _-_, _*_, _≤_, _<_, min};
+ghost use lib.ListN.{length};
+ghost use Rattle.shapes.specs.Group.{maxItems};
+ghost use Rattle.rows.specs.Placing.{runCount};
+ghost use Rattle.rows.specs.Lent.{FormOf, Handed, Small, Spotted, Summed, finalAt, groupSizes, runSizes, sizesAt, spotOf, tableSize};
+
+// The bytes of a subtable of n columns and rows of so many bytes; one of no rows has none.
+fn table_size(n: usize, row: usize, items: usize) -> usize
+    requires { ⌜ n < 65536 ⌝ }
+    requires { ⌜ row < 262144 ⌝ }
+    requires { ⌜ items ≤ 65535 ⌝ }
+    ensures { λ r. ⌜ r ≡ tableSize n row items ⌝ }
+    ensures { λ r. ⌜ r ≤ 34359738368 ⌝ }
+{
+    if items == 0 {
+        return 0;
+    }
+    6 + 2 * n + items * row
+}
+
+// How many bytes, and in how many subtables.
+pub struct Sum {
+    pub bytes: usize,
+    pub runs: usize,
+}
+
+// Of a group of count sets.
+fn size_runs(n: usize, row: usize, count: usize) -> Sum
+    requires { ⌜ n < 65536 ⌝ }
+    requires { ⌜ row < 262144 ⌝ }
+    requires { ⌜ count ≤ 1048576 ⌝ }
+    ensures { λ r. ⌜ Summed (runSizes n row count) (r .bytes) (r .runs) ⌝ }
+    ensures { λ r. ⌜ (r .bytes ≤ 584115552256) × (r .runs ≤ 17) ⌝ }
+{
+    let runs = run_count(count);
+    let mut bytes: usize = 0;
+    let mut k: usize = 0;
+    while k < runs {
+        bytes = bytes + table_size(n, row, run_items(count, k));
+        k += 1;
+    }
+    Sum { bytes, runs }
+}
+
+// The form of a group's rows.
+fn form_of(work: &[u32], regions: usize, group: usize, index: usize) -> Form
+    requires { ⌜ regions ≤ 256 ⌝ }
+    requires { ⌜ Handed regions index (now work) group ⌝ }
+    ensures { λ r. ⌜ FormOf (finalAt regions (now (work .entry)) group) (r .word) (r .count) ⌝ }
+{
+    let shape = work[group] as usize;
+    let mut cols = [0u32; 256];
+    columns(&work[shape..shape + regions], &mut cols)
+}
+
+// Of one group.
+fn size_group(work: &[u32], regions: usize, group: usize, index: usize) -> Sum
+    requires { ⌜ regions ≤ 256 ⌝ }
+    requires { ⌜ Handed regions index (now work) group ⌝ }
+    requires { ⌜ Small (now work) group ⌝ }
+    ensures { λ r. ⌜ Summed (groupSizes (finalAt regions (now (work .entry)) group)) (r .bytes) (r .runs) ⌝ }
+    ensures { λ r. ⌜ (r .bytes ≤ 584115552256) × (r .runs ≤ 17) ⌝ }
+{
+    let form = form_of(work, regions, group, index);
+    let n = form.count;
+    let row = column_at(form.word, n);
+    let count = work[group + 2] as usize;
+    size_runs(n, row, count)
+}
+
+// Of count groups.
+pub fn size_groups(work: &[u32], regions: usize, groups: usize, count: usize, index: usize) -> Sum
+    requires { ⌜ regions ≤ 256 ⌝ }
+    requires { ⌜ count ≤ 1024 ⌝ }
+    requires { ⌜ groups + 3 * count ≤ length (now work) ⌝ }
+    requires { ⌜ ((g : ℕ) → g < count → Handed regions index (now work) (groups + 3 * g)) ⌝ }
+    requires { ⌜ ((g : ℕ) → g < count → Small (now work) (groups + 3 * g)) ⌝ }
+    ensures { λ r. ⌜ Summed (sizesAt regions groups count (now (work .entry))) (r .bytes) (r .runs) ⌝ }
+    ensures { λ r. ⌜ (r .bytes ≤ 598134325510144) × (r .runs ≤ 17408) ⌝ }
+{
+    let mut bytes: usize = 0;
+    let mut runs: usize = 0;
+    let mut g: usize = 0;
+    while g < count {
+        let s = size_group(work, regions, groups + 3 * g, index);
+        bytes = bytes + s.bytes;
+        runs = runs + s.runs;
+        g += 1;
+    }
+    Sum { bytes, runs }
+}
