@@ -12,3 +12,4 @@ pub mod GroupLaws
 pub mod RegionLaws
 pub mod ListLaws
 pub mod SizeLaws
+pub mod SpotLaws
