@@ -13,3 +13,4 @@ pub mod RegionLaws
 pub mod ListLaws
 pub mod SizeLaws
 pub mod SpotLaws
+pub mod PlacedLaws

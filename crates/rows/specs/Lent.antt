@@ -202,3 +202,7 @@ spotsOf at (l ∷ ls) = bytesOf 4 (spotOf at l) ++ spotsOf (at + l) ls
 pub record Spotted (at first : ℕ) (sizes old new : List ℕ) (r next : ℕ) : Type 0 where
   pub put : Put at (spotsOf first sizes) old new r
   pub next-is : next ≡ first + total sizes
+
+-- the coordinates of all regions
+unfoldable pub coordsOf : List ℕ → ℕ → List ℕ → ℕ → ℕ → List (List ℕ)
+coordsOf src axes w starts regions = tabulate 0 regions (λ r. coordsAt src axes (getD w (starts + r) 0))
