@@ -4,7 +4,7 @@ use mathlib.Core.Bool.{Bool, true, false}
 use mathlib.Core.List.{List, [], _∷_, _++_, append-assoc, map}
 use mathlib.Core.Logic.{⊎-elim}
 use Prim.Native.Nat.{ℕ, zero, suc, _+_, _-_, _*_, _≤_, _<_, min}
-use native.Mathlib.Nat.{add-zero}
+use native.Mathlib.Nat.{add-zero, suc-mul, zero-mul, mul-comm}
 use native.Mathlib.Omega.{arith}
 use lib.Dec.{eqb}
 use lib.ListN.{length, getD, take, drop, length-append, length-map, length-take, length-drop}
@@ -26,8 +26,13 @@ use Rattle.rows.specs.Store.{columnAt}
 use Rattle.rows.specs.Columns.{columnsOf, wordCount}
 use Rattle.rows.specs.Row.{Set}
 use Rattle.rows.specs.Placing.{Final, joinAll, runCount, runsOf, allRuns, names, keptOf, newIndex, indexBytes, subtableOf, offsetsOf, listOf, placed, storeOf}
-use Rattle.rows.specs.Lent.{Marks, Numbered, chain, coordsAt, coordsOf, finalAt, finalsAt, groupBytes, groupSizes, keptBytes, listBytes, markedIn, numberIn, runAt, runSizes, runsBytes, sizesAt, spotOf, spotsOf, tableSize, total}
+use Rattle.rows.specs.Lent.{Marks, Numbered, Planned, Put, Ready, Sourced, Spotted, headerBytes, setAt, chain, coordsAt, coordsOf, finalAt, finalsAt, groupBytes, groupSizes, keptBytes, listBytes, markedIn, numberIn, runAt, runSizes, runsBytes, sizesAt, spotOf, spotsOf, tableSize, total}
 use Rattle.rows.proofs.ColumnsLaws.{columns-in}
+use Rattle.laws.proofs.RangeLaws.{length-seg}
+use Rattle.rows.proofs.RegionLaws.{kept-most}
+use Rattle.rows.proofs.SpotLaws.{spots-length}
+use Rattle.rows.proofs.ListLaws.{list-length}
+use Rattle.rows.proofs.PutLaws.{put-join, put-long}
 use Rattle.rows.proofs.RunLaws.{table-is, table-none, table-length}
 
 -- ---- lists of lists
@@ -206,3 +211,139 @@ module _ (src : List ℕ) (axes : ℕ) (w : List ℕ) (starts regions : ℕ) (gs
       (map-same (λ r. getD coords r []) f kept
       (keep-all (markedIn marks) (λ r. getD coords r [] ≡ f r) (upTo regions)
       (all-imp (λ r h. coord-at r (omega arith)) (upTo regions) (up-below 0 regions)))))
+
+-- ---- how long the list is
+
+join-length : (f : ℕ → List ℕ) (c : ℕ) (l : List ℕ) → All (λ r. length (f r) ≡ c) l → length (joinAll (map f l)) ≡ length l * c
+unfolding joinAll
+join-length f c [] h = rw zero-mul
+join-length f c (x ∷ l) h = length-append (f x) (joinAll (map f l)) ∙ omega (arith, h .0, join-length f c l (h .1), suc-mul (length l) c)
+
+pieces-length : (src : List ℕ) (from n k : ℕ) → ((a : ℕ) → k ≤ a → a < k + n → from + 12 * a + 6 ≤ length src)
+    → length (joinAll (tabulate k n (λ a. seg (from + 12 * a) 6 src))) ≡ 6 * n
+unfolding joinAll tabulate
+pieces-length src from zero k h = refl
+pieces-length src from (suc n) k h =
+    length-append (seg (from + 12 * k) 6 src) (joinAll (tabulate (suc k) n (λ a. seg (from + 12 * a) 6 src)))
+    ∙ omega (arith, length-seg (from + 12 * k) 6 src (h k (omega arith) (omega arith)), pieces-length src from n (suc k) (λ a p q. h a (omega arith) (omega arith)))
+
+coords-length : (src : List ℕ) (axes from : ℕ) → Sourced axes src from → length (coordsAt src axes from) ≡ 6 * axes
+unfolding coordsAt chain
+coords-length src axes from s = pieces-length src from axes 0 (λ a p q. s .inside a (omega arith))
+
+pub kept-length : (src : List ℕ) (axes : ℕ) (w : List ℕ) (starts regions : ℕ) (p : ℕ → Bool) → ((r : ℕ) → r < regions → Sourced axes src (getD w (starts + r) 0))
+    → length (keptBytes src axes w starts (keep p (upTo regions))) ≡ 6 * axes * length (keep p (upTo regions))
+unfolding keptBytes
+kept-length src axes w starts regions p s =
+    join-length (λ r. coordsAt src axes (getD w (starts + r) 0)) (6 * axes) (keep p (upTo regions))
+    (keep-all p (λ r. length (coordsAt src axes (getD w (starts + r) 0)) ≡ 6 * axes) (upTo regions)
+    (all-imp (λ r h. coords-length src axes (getD w (starts + r) 0) (s r (omega arith))) (upTo regions) (up-below 0 regions)))
+    ∙ mul-comm (length (keep p (upTo regions))) (6 * axes)
+
+-- ---- the whole store
+
+shape-few : (regions : ℕ) (w : List ℕ) (group : ℕ) → regions ≤ 256 → length (finalAt regions w group .shape) ≤ 256
+unfolding finalAt seg
+shape-few regions w group h = omega (arith, length-take regions (drop (getD w group 0) w))
+
+shape-within : (regions : ℕ) (w : List ℕ) (group : ℕ) → length (finalAt regions w group .shape) ≤ regions
+unfolding finalAt seg
+shape-within regions w group = omega (arith, length-take regions (drop (getD w group 0) w))
+
+module _ (src : List ℕ) (axes starts : ℕ) (w : List ℕ) (regions groups count index : ℕ) (marks numbers : List ℕ) (runs kept : ℕ)
+    (ready : Ready src axes starts w regions groups count index) (plan : Planned axes w regions groups count marks numbers runs kept) where
+  abbrev pub store : List ℕ
+  store = storeOf axes (coordsOf src axes w starts regions) (setAt index w) (finalsAt regions groups count w)
+
+  abbrev pub list : List ℕ
+  list = listBytes axes kept (keptBytes src axes w starts (keep (markedIn marks) (upTo regions)))
+
+  abbrev pub sizes : List ℕ
+  sizes = sizesAt regions groups count w
+
+  abbrev pub body : List ℕ
+  body = chain (λ g. groupBytes (numberIn numbers) (setAt index w) (finalAt regions w (groups + 3 * g))) count
+
+  number-is : (r : ℕ) → r < regions → numberIn numbers r ≡ newIndex (finalsAt regions groups count w) r
+  number-is r h =
+      plan .numbered .at r h
+      ∙ sym (ap length (keep-same (λ q. names q (finalsAt regions groups count w)) (markedIn marks) (upTo r) (λ q. sym (plan .marked .is q))))
+
+  pub list-long : length list ≡ 4 + 6 * axes * kept
+  list-long =
+      let k = kept-length src axes w starts regions (markedIn marks) (ready .sourced) in
+      let e = ap (λ (n : ℕ). 6 * axes * n) (plan .numbered .all) in
+      omega (arith, list-length axes kept (keptBytes src axes w starts (keep (markedIn marks) (upTo regions))))
+
+  pub kept-few : kept ≤ 256
+  kept-few = omega (arith, plan .numbered .all, kept-most (markedIn marks) regions, ready .regions-most)
+
+  body-is : joinAll (tables (newIndex (finalsAt regions groups count w)) (setAt index w) (λ g. finalAt regions w (groups + 3 * g)) count) ≡ body
+  unfolding chain
+  body-is =
+      let gs = finalsAt regions groups count w in
+      let f : ℕ → Final = (λ g. finalAt regions w (groups + 3 * g)) in
+      tables-joined (newIndex gs) (setAt index w) f count
+      ∙ ap joinAll (tabulate-same 0 count (λ g. groupBytes (newIndex gs) (setAt index w) (f g)) (λ g. groupBytes (numberIn numbers) (setAt index w) (f g))
+      (λ g p q. group-same (newIndex gs) (numberIn numbers) (setAt index w) (f g) (λ r h. sym (number-is r (omega (arith, shape-within regions w (groups + 3 * g)))))))
+
+  pub store-is : store ≡ headerBytes runs ++ (spotsOf (8 + 4 * runs + (4 + 6 * axes * kept)) sizes ++ (list ++ body))
+  unfolding storeOf placed finalsAt sizesAt
+  store-is =
+      let gs = tabulate 0 count (λ g. finalAt regions w (groups + 3 * g)) in
+      let f : ℕ → Final = (λ g. finalAt regions w (groups + 3 * g)) in
+      let number = newIndex gs in
+      let few : (g : ℕ) → g < count → length (f g .shape) < 32768 = (λ g h. omega (arith, shape-few regions w (groups + 3 * g) (ready .regions-most))) in
+      let n = tables-count number (setAt index w) f count few ∙ sym (plan .runs-is) in
+      let l = list-is src axes w starts regions gs marks (plan .marked) ∙ ap (λ (k : ℕ). listBytes axes k (keptBytes src axes w starts (keep (markedIn marks) (upTo regions)))) (sym (plan .numbered .all)) in
+      rw (l, n, list-long, tables-offsets number (setAt index w) f count few (8 + 4 * runs + (4 + 6 * axes * kept)), body-is)
+      (regroup (bytesOf 2 1) (bytesOf 4 (8 + 4 * runs)) (bytesOf 2 runs) (spotsOf (8 + 4 * runs + (4 + 6 * axes * kept)) (chain (λ g. groupSizes (f g)) count) ++ (list ++ body)))
+    where
+      regroup : (a b c d : List ℕ) → a ++ (b ++ (c ++ d)) ≡ (a ++ (b ++ c)) ++ d
+      regroup a b c d = simp append-assoc
+
+  header-long : length (headerBytes runs) ≡ 8
+  header-long = length-append (bytesOf 2 1) (bytesOf 4 (8 + 4 * runs) ++ bytesOf 2 runs)
+      ∙ omega (arith, length-append (bytesOf 4 (8 + 4 * runs)) (bytesOf 2 runs), bytes-length 2 1, bytes-length 4 (8 + 4 * runs), bytes-length 2 runs)
+
+  spots-long : (first : ℕ) → length (spotsOf first sizes) ≡ 4 * runs
+  spots-long first = spots-length first sizes ∙ ap (λ (n : ℕ). 4 * n) (sym (plan .runs-is))
+
+  pub store-long : length store ≡ 8 + 4 * runs + (4 + 6 * axes * kept) + length body
+  store-long =
+      let first = 8 + 4 * runs + (4 + 6 * axes * kept) in
+      ap length store-is
+      ∙ length-append (headerBytes runs) (spotsOf first sizes ++ (list ++ body))
+      ∙ omega (arith, header-long, length-append (spotsOf first sizes) (list ++ body), spots-long first, length-append list body, list-long)
+
+  -- the pieces, one after another
+  module _ (o : List ℕ) (room : length store ≤ length o) where
+    pub spots-room : (p : List ℕ) (at : ℕ) → Put 0 (headerBytes runs) o p at
+        → (at + length (spotsOf (8 + 4 * runs + (4 + 6 * axes * kept)) sizes) ≤ length p) × (length p ≡ length o)
+    spots-room p at h =
+        let l = put-long 0 (headerBytes runs) o p at h (omega (arith, header-long, store-long)) in
+        (omega (arith, h .end, header-long, spots-long (8 + 4 * runs + (4 + 6 * axes * kept)), store-long), l)
+
+    pub list-room : (p q : List ℕ) (at b next : ℕ) → Put 0 (headerBytes runs) o p at → Spotted at (8 + 4 * runs + (4 + 6 * axes * kept)) sizes p q b next
+        → (b + length list ≤ length q) × (length q ≡ length o)
+    list-room p q at b next h s =
+        let r = spots-room p at h in
+        let l = put-long at (spotsOf (8 + 4 * runs + (4 + 6 * axes * kept)) sizes) p q b (s .put) (r .0) in
+        (omega (arith, h .end, s .put .end, header-long, spots-long (8 + 4 * runs + (4 + 6 * axes * kept)), list-long, store-long, r .1), omega (arith, r .1))
+
+    pub body-room : (p q r : List ℕ) (at b next c : ℕ) → Put 0 (headerBytes runs) o p at → Spotted at (8 + 4 * runs + (4 + 6 * axes * kept)) sizes p q b next
+        → Put b list q r c → (c + length body ≤ length r) × (length r ≡ length o)
+    body-room p q r at b next c h s k =
+        let m = list-room p q at b next h s in
+        let l = put-long b list q r c k (m .0) in
+        (omega (arith, h .end, s .put .end, k .end, header-long, spots-long (8 + 4 * runs + (4 + 6 * axes * kept)), list-long, store-long, m .1), omega (arith, m .1))
+
+    pub store-put : (p q r t : List ℕ) (at b next c e : ℕ) → Put 0 (headerBytes runs) o p at → Spotted at (8 + 4 * runs + (4 + 6 * axes * kept)) sizes p q b next
+        → Put b list q r c → Put c body r t e → Put 0 store o t e
+    store-put p q r t at b next c e h s k j =
+        let first = 8 + 4 * runs + (4 + 6 * axes * kept) in
+        let m1 = spots-room p at h in
+        let m2 = list-room p q at b next h s in
+        let j1 : Put b (list ++ body) q t e = put-join b list body q r t c e k j (omega (arith, h .end, s .put .end, header-long, spots-long first, list-long, store-long, m2 .1)) in
+        let j2 : Put at (spotsOf first sizes ++ (list ++ body)) p t e = put-join at (spotsOf first sizes) (list ++ body) p q t b e (s .put) j1 (omega (arith, h .end, header-long, spots-long first, list-long, store-long, m1 .1, length-append list body)) in
+        rw store-is (put-join 0 (headerBytes runs) (spotsOf first sizes ++ (list ++ body)) o p t at e h j2 (omega (arith, header-long, spots-long first, list-long, store-long, length-append list body, length-append (spotsOf first sizes) (list ++ body))))

@@ -206,3 +206,29 @@ pub record Spotted (at first : ℕ) (sizes old new : List ℕ) (r next : ℕ) : 
 -- the coordinates of all regions
 unfoldable pub coordsOf : List ℕ → ℕ → List ℕ → ℕ → ℕ → List (List ℕ)
 coordsOf src axes w starts regions = tabulate 0 regions (λ r. coordsAt src axes (getD w (starts + r) 0))
+
+-- ---- the whole store
+
+abbrev pub headerBytes : ℕ → List ℕ
+headerBytes runs = bytesOf 2 1 ++ (bytesOf 4 (8 + 4 * runs) ++ bytesOf 2 runs)
+
+-- groups, sets and coordinates lie in what is lent, within document 01's bounds
+pub record Ready (src : List ℕ) (axes starts : ℕ) (w : List ℕ) (regions groups count index : ℕ) : Type 0 where
+  pub axes-most : axes ≤ 64
+  pub regions-most : regions ≤ 256
+  pub groups-most : count ≤ 1024
+  pub rows : groups + 3 * count ≤ length w
+  pub starting : starts + regions ≤ length w
+  pub handed : (g : ℕ) → g < count → Handed regions index w (groups + 3 * g)
+  pub small : (g : ℕ) → g < count → Small w (groups + 3 * g)
+  pub sourced : (r : ℕ) → r < regions → Sourced axes src (getD w (starts + r) 0)
+
+-- the regions that are kept, their numbers, and how many subtables there are; offsets fit 32 bits
+pub record Planned (axes : ℕ) (w : List ℕ) (regions groups count : ℕ) (marks numbers : List ℕ) (runs kept : ℕ) : Type 0 where
+  pub marks-room : regions ≤ length marks
+  pub numbers-room : regions ≤ length numbers
+  pub marked : Marks (finalsAt regions groups count w) marks
+  pub numbered : Numbered marks regions numbers kept
+  pub runs-is : runs ≡ length (sizesAt regions groups count w)
+  pub runs-few : runs < 65536
+  pub short : 8 + 4 * runs + (4 + 6 * axes * kept) + total (sizesAt regions groups count w) < 4294967296

@@ -7,6 +7,7 @@ mod reader;
 mod regions;
 mod row;
 mod size;
+mod store;
 mod subtable;
 
 pub use column::Column;
