@@ -26,7 +26,7 @@ use Rattle.rows.specs.Store.{columnAt}
 use Rattle.rows.specs.Columns.{columnsOf, wordCount}
 use Rattle.rows.specs.Row.{Set}
 use Rattle.rows.specs.Placing.{Final, joinAll, runCount, runsOf, allRuns, names, keptOf, newIndex, indexBytes, subtableOf, offsetsOf, listOf, placed, storeOf}
-use Rattle.rows.specs.Lent.{Marks, Numbered, Planned, Put, Ready, Sourced, Spotted, headerBytes, setAt, chain, coordsAt, coordsOf, finalAt, finalsAt, groupBytes, groupSizes, keptBytes, listBytes, markedIn, numberIn, runAt, runSizes, runsBytes, sizesAt, spotOf, spotsOf, tableSize, total}
+use Rattle.rows.specs.Lent.{Drafted, Marks, Numbered, Planned, Put, Ready, Sourced, Spotted, headerBytes, setAt, chain, coordsAt, coordsOf, finalAt, finalsAt, groupBytes, groupSizes, keptBytes, listBytes, markedIn, numberIn, runAt, runSizes, runsBytes, sizesAt, spotOf, spotsOf, tableSize, total}
 use Rattle.rows.proofs.ColumnsLaws.{columns-in}
 use Rattle.laws.proofs.RangeLaws.{length-seg}
 use Rattle.rows.proofs.RegionLaws.{kept-most}
@@ -347,3 +347,33 @@ module _ (src : List ℕ) (axes starts : ℕ) (w : List ℕ) (regions groups cou
         let j1 : Put b (list ++ body) q t e = put-join b list body q r t c e k j (omega (arith, h .end, s .put .end, header-long, spots-long first, list-long, store-long, m2 .1)) in
         let j2 : Put at (spotsOf first sizes ++ (list ++ body)) p t e = put-join at (spotsOf first sizes) (list ++ body) p q t b e (s .put) j1 (omega (arith, h .end, header-long, spots-long first, list-long, store-long, m1 .1, length-append list body)) in
         rw store-is (put-join 0 (headerBytes runs) (spotsOf first sizes ++ (list ++ body)) o p t at e h j2 (omega (arith, header-long, spots-long first, list-long, store-long, length-append list body, length-append (spotsOf first sizes) (list ++ body))))
+
+-- ---- what was drafted is what is written
+
+join-total : (ts : List (List ℕ)) → length (joinAll ts) ≡ total (map (λ (t : List ℕ). length t) ts)
+unfolding joinAll weigh
+join-total [] = refl
+join-total (t ∷ ts) = length-append t (joinAll ts) ∙ rw (join-total ts)
+
+module _ (src : List ℕ) (axes starts : ℕ) (w : List ℕ) (regions groups count index : ℕ) (marks numbers : List ℕ) (bytes runs kept : ℕ)
+    (ready : Ready src axes starts w regions groups count index) (d : Drafted axes w regions groups count marks numbers bytes runs kept) (h : bytes < 4294967296) where
+  pub planned : Planned axes w regions groups count marks numbers runs kept
+  planned = record {
+    marks-room = d .marks-room;
+    numbers-room = d .numbers-room;
+    marked = d .marked;
+    numbered = d .numbered;
+    runs-is = d .runs-is;
+    runs-few = d .runs-few;
+    short = omega (arith, d .bytes-is);
+  }
+
+  -- the bytes that were drafted are exactly those of the store
+  pub draft-exact : bytes ≡ length (storeOf axes (coordsOf src axes w starts regions) (setAt index w) (finalsAt regions groups count w))
+  unfolding sizesAt
+  draft-exact =
+      let f : ℕ → Final = (λ g. finalAt regions w (groups + 3 * g)) in
+      let number = newIndex (finalsAt regions groups count w) in
+      let few : (g : ℕ) → g < count → length (f g .shape) < 32768 = (λ g l. omega (arith, shape-few regions w (groups + 3 * g) (ready .regions-most))) in
+      let b = sym (ap length (body-is src axes starts w regions groups count index marks numbers runs kept ready planned)) ∙ join-total (tables number (setAt index w) f count) ∙ ap total (tables-sized number (setAt index w) f count few) in
+      omega (arith, d .bytes-is, store-long src axes starts w regions groups count index marks numbers runs kept ready planned)

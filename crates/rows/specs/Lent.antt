@@ -232,3 +232,13 @@ pub record Planned (axes : ℕ) (w : List ℕ) (regions groups count : ℕ) (mar
   pub runs-is : runs ≡ length (sizesAt regions groups count w)
   pub runs-few : runs < 65536
   pub short : 8 + 4 * runs + (4 + 6 * axes * kept) + total (sizesAt regions groups count w) < 4294967296
+
+-- the same, worked out before anything is written, and the bytes that the store takes
+pub record Drafted (axes : ℕ) (w : List ℕ) (regions groups count : ℕ) (marks numbers : List ℕ) (bytes runs kept : ℕ) : Type 0 where
+  pub marks-room : regions ≤ length marks
+  pub numbers-room : regions ≤ length numbers
+  pub marked : Marks (finalsAt regions groups count w) marks
+  pub numbered : Numbered marks regions numbers kept
+  pub runs-is : runs ≡ length (sizesAt regions groups count w)
+  pub runs-few : runs < 65536
+  pub bytes-is : bytes ≡ 8 + 4 * runs + (4 + 6 * axes * kept) + total (sizesAt regions groups count w)

@@ -110,7 +110,7 @@ pub fn columns(shape: &[u32], cols: &mut [u32]) -> Form
     Form { word: twos, count }
 }
 
-fn clear(places: &mut [u32])
+pub fn clear(places: &mut [u32])
     ensures { λ _. ⌜ now (places .exit) ≡ replicate (length (now (places .entry))) 0 ⌝ }
 {
     let mut i: usize = 0;

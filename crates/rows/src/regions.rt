@@ -21,7 +21,7 @@ fn mark_shape(shape: &[u32], marks: &mut [u32])
 }
 
 // Marks each region that some group names; nothing is marked before.
-fn mark_groups(
+pub fn mark_groups(
     work: &[u32],
     regions: usize,
     groups: usize,
@@ -44,7 +44,7 @@ fn mark_groups(
 }
 
 // The new number of each region, and how many are kept.
-fn number(marks: &[u32], regions: usize, numbers: &mut [u32]) -> usize
+pub fn number(marks: &[u32], regions: usize, numbers: &mut [u32]) -> usize
     requires { ⌜ regions ≤ length (now marks) ⌝ }
     requires { ⌜ regions ≤ length (now numbers) ⌝ }
     requires { ⌜ regions < 32768 ⌝ }
