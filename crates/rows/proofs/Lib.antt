@@ -14,3 +14,4 @@ pub mod ListLaws
 pub mod SizeLaws
 pub mod SpotLaws
 pub mod PlacedLaws
+pub mod MapLaws

@@ -38,7 +38,7 @@ use Rattle.rows.proofs.RunLaws.{table-is, table-none, table-length}
 -- ---- lists of lists
 
 module _ {A B : Type 0} where
-  map-tabulate : (g : A → B) (a n : ℕ) (f : ℕ → A) → map g (tabulate a n f) ≡ tabulate a n (λ k. g (f k))
+  pub map-tabulate : (g : A → B) (a n : ℕ) (f : ℕ → A) → map g (tabulate a n f) ≡ tabulate a n (λ k. g (f k))
   unfolding tabulate
   map-tabulate g a zero f = refl
   map-tabulate g a (suc n) f = ap (λ (l : List B). g (f a) ∷ l) (map-tabulate g (suc a) n f)

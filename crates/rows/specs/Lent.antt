@@ -6,7 +6,7 @@ use mathlib.Core.List.{List, [], _∷_, _++_, map}
 use Prim.Native.Nat.{ℕ, zero, suc, _+_, _-_, _*_, _≤_, _<_, min}
 use Rattle.laws.specs.Pick.{pick}
 use Rattle.laws.specs.Bag.{weigh}
-use lib.ListN.{length, getD, take, drop}
+use lib.ListN.{length, getD, set, take, drop}
 use Rattle.laws.specs.Bytes.{bytesOf, over}
 use Rattle.shapes.specs.Shape.{Shape}
 use Rattle.laws.specs.Signed.{twos}
@@ -21,7 +21,7 @@ use Rattle.laws.specs.Range.{seg}
 use Rattle.laws.specs.Every.{All}
 use Rattle.laws.specs.Bounded.{upTo}
 use Rattle.laws.specs.Sorting.{keep}
-use Rattle.rows.specs.Placing.{Final, indexBytes, names, runCount, joinAll, subtableOf}
+use Rattle.rows.specs.Placing.{Final, idWords, indexBytes, names, runCount, joinAll, subtableOf}
 
 -- n entries that stand in w from index a on, two words each
 unfoldable pub entriesAt : ℕ → ℕ → List ℕ → Set
@@ -242,3 +242,19 @@ pub record Drafted (axes : ℕ) (w : List ℕ) (regions groups count : ℕ) (mar
   pub runs-is : runs ≡ length (sizesAt regions groups count w)
   pub runs-few : runs < 65536
   pub bytes-is : bytes ≡ 8 + 4 * runs + (4 + 6 * axes * kept) + total (sizesAt regions groups count w)
+
+-- ---- the map
+
+-- words stored at their ids, one after another
+unfoldable pub stored : List (ℕ × ℕ) → List ℕ → List ℕ
+stored [] m = m
+stored (e ∷ l) m = stored l (set m (e .0) (e .1))
+
+-- the ids of these runs have their words, and what follows is at position r
+pub record Mapped (first : ℕ) (rs : List Final) (old new : List ℕ) (r : ℕ) : Type 0 where
+  pub is : new ≡ stored (idWords first rs) old
+  pub next : r ≡ first + length rs
+
+-- the ids of the group whose words stand at group are below n
+pub record IdsBelow (n : ℕ) (w : List ℕ) (group : ℕ) : Type 0 where
+  pub below : All (λ x. x < n) (seg (getD w (group + 1) 0) (getD w (group + 2) 0) w)

@@ -1,6 +1,7 @@
 // What a store will be, before its first byte is written: the regions that it keeps, how many subtables and how many bytes it has.
 use crate::column::clear;
-use crate::regions::{mark_groups, number};
+use crate::regions::mark_groups;
+use crate::regions::number;
 use crate::size::size_groups;
 ghost use mathlib.Core.Path.{_≡_};
 ghost use Prim.Native.Nat.{ℕ, _+_, _*_, _≤_, _<_};
@@ -14,7 +15,16 @@ pub struct Plan {
 }
 
 // Marks and numbers the regions of count groups, and sums the bytes of the store.
-pub fn draft(axes: usize, work: &[u32], regions: usize, groups: usize, count: usize, index: usize, marks: &mut [u32], numbers: &mut [u32]) -> Plan
+pub fn draft(
+    axes: usize,
+    work: &[u32],
+    regions: usize,
+    groups: usize,
+    count: usize,
+    index: usize,
+    marks: &mut [u32],
+    numbers: &mut [u32],
+) -> Plan
     requires { ⌜ axes ≤ 64 ⌝ }
     requires { ⌜ regions ≤ 256 ⌝ }
     requires { ⌜ count ≤ 1024 ⌝ }
