@@ -1,0 +1,17 @@
+pub mod StoreLaws
+pub mod Worked
+pub mod WorkedBytes
+pub mod RowLaws
+pub mod ColumnsLaws
+pub mod BackLaws
+pub mod OverLaws
+pub mod CollectLaws
+pub mod PutLaws
+pub mod RunLaws
+pub mod GroupLaws
+pub mod RegionLaws
+pub mod ListLaws
+pub mod SizeLaws
+pub mod SpotLaws
+pub mod PlacedLaws
+pub mod MapLaws

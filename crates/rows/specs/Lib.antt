@@ -1,0 +1,5 @@
+pub mod Store
+pub mod Columns
+pub mod Row
+pub mod Placing
+pub mod Lent

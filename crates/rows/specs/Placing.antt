@@ -1,0 +1,112 @@
+-- The whole store. Document 01, "Byte placing": "Format 1 (u16), region list offset (u32), subtable count (u16), subtable offsets (u32 each,
+-- 0 for null); region list: axis count, region count (u16), then start, peak, end per axis; subtables in order: item count, word count,
+-- region count, region indexes (u16), rows. No gaps or sharing."
+use mathlib.Core.Bool.{Bool, true, false, not, _||_}
+use mathlib.Core.List.{List, [], _∷_, _++_, map}
+use Prim.Native.Nat.{ℕ, zero, suc, _+_, _-_, _*_, _/_}
+use lib.Dec.{eqb}
+use lib.ListN.{length, getD, take, drop}
+use Rattle.laws.specs.Pick.{pick}
+use Rattle.laws.specs.Bytes.{bytesOf}
+use Rattle.laws.specs.Bounded.{tabulate, upTo}
+use Rattle.laws.specs.Sorting.{keep}
+use Rattle.shapes.specs.Shape.{Shape}
+use Rattle.shapes.specs.Group.{groupCost, maxItems}
+use Rattle.rows.specs.Columns.{columnsOf, wordCount}
+use Rattle.rows.specs.Row.{Set, rowOf}
+
+-- a final group: its shape, and the ids of its sets in the order of rows
+pub record Final : Type 0 where
+  pub shape : Shape
+  pub ids : List ℕ
+
+-- all lists one after the other
+unfoldable pub joinAll : {A : Type 0} → List (List A) → List A
+joinAll [] = []
+joinAll (l ∷ ls) = l ++ joinAll ls
+
+-- ---- runs: "A group of more than 65,535 sets is then cut into runs of 65,535, the last holding what is left." "No sets: one null subtable."
+
+unfoldable pub runCount : ℕ → ℕ
+runCount n = pick (eqb n 0) 1 ((n + (maxItems - 1)) / maxItems)
+
+unfoldable pub runsOf : Final → List Final
+runsOf g = tabulate 0 (runCount (length (g .ids))) (λ k. record { shape = g .shape; ids = take maxItems (drop (maxItems * k) (g .ids)) })
+
+unfoldable pub allRuns : List Final → List Final
+allRuns gs = joinAll (map runsOf gs)
+
+-- "Outer is the run's position, inner the row's. The id's map word is outer x 65,536 + inner."
+unfoldable pub inRun : ℕ → ℕ → List ℕ → List (ℕ × ℕ)
+inRun outer inner [] = []
+inRun outer inner (x ∷ xs) = (x, outer * 65536 + inner) ∷ inRun outer (suc inner) xs
+
+unfoldable pub idWords : ℕ → List Final → List (ℕ × ℕ)
+idWords outer [] = []
+idWords outer (r ∷ rs) = inRun outer 0 (r .ids) ++ idWords (suc outer) rs
+
+-- ---- regions: "Regions no subtable names are dropped, the rest renumbered in order."
+
+unfoldable pub names : ℕ → List Final → Bool
+names r [] = false
+names r (g ∷ gs) = not (eqb (getD (g .shape) r 0) 0) || names r gs
+
+abbrev pub keptOf : ℕ → List Final → List ℕ
+keptOf regions gs = keep (λ r. names r gs) (upTo regions)
+
+-- the new number of region r
+abbrev pub newIndex : List Final → ℕ → ℕ
+newIndex gs r = length (keptOf r gs)
+
+-- ---- the parts of the store
+
+unfoldable pub indexBytes : (ℕ → ℕ) → List ℕ → List ℕ
+indexBytes number [] = []
+indexBytes number (r ∷ rs) = bytesOf 2 (number r) ++ indexBytes number rs
+
+unfoldable pub rowsOf : (ℕ → Set) → Shape → List ℕ → List ℕ
+rowsOf set s [] = []
+rowsOf set s (x ∷ xs) = rowOf s (set x) ++ rowsOf set s xs
+
+-- a run of no rows is null, and has no bytes
+unfoldable pub subtableOf : (ℕ → ℕ) → (ℕ → Set) → Shape → List ℕ → List ℕ
+subtableOf number set s [] = []
+subtableOf number set s (x ∷ xs) =
+    bytesOf 2 (length (x ∷ xs))
+    ++ (bytesOf 2 (wordCount s)
+    ++ (bytesOf 2 (length (columnsOf s))
+    ++ (indexBytes number (columnsOf s)
+    ++ rowsOf set s (x ∷ xs))))
+
+-- each subtable's offset, the first one's being at
+unfoldable pub offsetsOf : ℕ → List (List ℕ) → List ℕ
+offsetsOf at [] = []
+offsetsOf at ([] ∷ ts) = bytesOf 4 0 ++ offsetsOf at ts
+offsetsOf at ((b ∷ t) ∷ ts) = bytesOf 4 at ++ offsetsOf (at + length (b ∷ t)) ts
+
+-- coords has start, peak and end of each region's axes, as bytes
+unfoldable pub listOf : ℕ → List (List ℕ) → List ℕ → List ℕ
+listOf axes coords kept = bytesOf 2 axes ++ (bytesOf 2 (length kept) ++ joinAll (map (λ r. getD coords r []) kept))
+
+unfoldable pub placed : List ℕ → List (List ℕ) → List ℕ
+placed list tables =
+    bytesOf 2 1
+    ++ (bytesOf 4 (8 + 4 * length tables)
+    ++ (bytesOf 2 (length tables)
+    ++ (offsetsOf (8 + 4 * length tables + length list) tables
+    ++ (list
+    ++ joinAll tables))))
+
+unfoldable pub storeOf : ℕ → List (List ℕ) → (ℕ → Set) → List Final → List ℕ
+storeOf axes coords set gs =
+    placed (listOf axes coords (keptOf (length coords) gs))
+    (map (λ r. subtableOf (newIndex gs) set (r .shape) (r .ids)) (allRuns gs))
+
+-- ---- "The forecast is 12 + 6 x axes x regions kept + the model's cost of each final group written + 4 per null subtable."
+
+unfoldable pub modelled : List Final → ℕ
+modelled [] = 0
+modelled (g ∷ gs) = pick (eqb (length (g .ids)) 0) 4 (groupCost (record { shape = g .shape; sets = length (g .ids) })) + modelled gs
+
+unfoldable pub forecastOf : ℕ → ℕ → List Final → ℕ
+forecastOf axes kept gs = 12 + 6 * axes * kept + modelled gs
