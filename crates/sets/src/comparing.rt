@@ -1,5 +1,6 @@
 // The order of two sets: their values compared densely, from region 0 up, by a walk along both.
-use laws::{Order, wide};
+use laws::Order;
+use laws::wide;
 ghost use mathlib.Core.Path.{_≡_};
 ghost use Prim.Native.Nat.{_+_, _*_, _<_, _≤_};
 ghost use lib.ListN.{length};

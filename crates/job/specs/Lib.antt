@@ -1,0 +1,6 @@
+pub mod Records
+pub mod Refusals
+pub mod Sets
+pub mod Job
+pub mod Inner
+pub mod Worked
