@@ -1,10 +1,10 @@
 // Sets grouped by shape: each distinct set's shape is looked up in the table and counted there.
+use laws::wide;
 use crate::shaping::shape_of;
 use crate::table::Found;
 use crate::table::Shapes;
 use crate::table::find_shape;
 use crate::table::insert_at;
-use laws::wide;
 ghost use mathlib.Core.Path.{_≡_};
 ghost use Prim.Native.Nat.{_+_, _<_, _≤_};
 ghost use lib.ListN.{length, getD};

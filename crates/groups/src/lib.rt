@@ -3,7 +3,6 @@ mod grouping;
 mod shaping;
 mod table;
 
-pub use grouping::Added;
-pub use grouping::group;
+pub use grouping::{Added, group};
 pub use shaping::shape_of;
 pub use table::Shapes;

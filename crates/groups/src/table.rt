@@ -1,7 +1,6 @@
 // The table of distinct shapes, in the order of the rules. Each shape stands in a slot for good; a list of slot numbers has the order,
 // so a new shape moves numbers and no shapes.
-use laws::Order;
-use laws::wide;
+use laws::{Order, wide};
 use shapes::RowShape;
 ghost use mathlib.Core.Path.{_≡_};
 ghost use Prim.Native.Nat.{_+_, _*_, _<_, _≤_};

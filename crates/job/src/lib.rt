@@ -1,6 +1,6 @@
 // A job, from its bytes to its sets: checks and refusals, regions, the sets that it says.
+mod axes;
 mod early;
+mod records;
 
-pub use early::clear;
-pub use early::early_no;
-pub use early::work_words;
+pub use early::{clear, early_no, work_words};

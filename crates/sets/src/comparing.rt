@@ -1,6 +1,5 @@
 // The order of two sets: their values compared densely, from region 0 up, by a walk along both.
-use laws::Order;
-use laws::wide;
+use laws::{Order, wide};
 ghost use mathlib.Core.Path.{_≡_};
 ghost use Prim.Native.Nat.{_+_, _*_, _<_, _≤_};
 ghost use lib.ListN.{length};

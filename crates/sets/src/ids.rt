@@ -1,8 +1,7 @@
 // Ids: sets sorted once; of equal ones, which stand side by side, the first in the job gives its id to all.
 use crate::comparing::compare;
 use crate::sorting::sort;
-use laws::Order;
-use laws::wide;
+use laws::{Order, wide};
 ghost use mathlib.Core.Path.{_≡_};
 ghost use mathlib.Core.List.{List};
 ghost use Prim.Native.Nat.{ℕ, _+_, _-_, _<_, _≤_};

@@ -4,6 +4,5 @@ mod ids;
 mod sorting;
 
 pub use comparing::compare;
-pub use ids::identify;
-pub use ids::own_ids;
+pub use ids::{identify, own_ids};
 pub use sorting::sort;
