@@ -2,5 +2,6 @@
 mod axes;
 mod early;
 mod records;
+mod regions;
 
 pub use early::{clear, early_no, work_words};
