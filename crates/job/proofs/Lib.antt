@@ -1,3 +1,4 @@
 pub mod RecordLaws
 pub mod RegionLaws
+pub mod UseLaws
 pub mod WalkLaws

@@ -3,5 +3,6 @@ mod axes;
 mod early;
 mod records;
 mod regions;
+mod tables;
 
 pub use early::{clear, early_no, work_words};
