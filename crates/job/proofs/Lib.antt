@@ -1,4 +1,6 @@
 pub mod RecordLaws
 pub mod RegionLaws
 pub mod UseLaws
+pub mod GoodLaws
+pub mod HoldLaws
 pub mod WalkLaws

@@ -210,6 +210,11 @@ module _ (slot used regions count q : ℕ) (l w : List ℕ) (n : length l ≡ co
         same = λ f. absurd (f refl);
       }
 
+pub use-set : (slot used regions count q v x : ℕ) (w : List ℕ) → q < regions → Only ((slot, regions) ∷ (used + count, 1) ∷ []) w (set (set w (slot + q) v) (used + count) x)
+use-set slot used regions count q v x w b = only-trans
+    (only-set ((slot, regions) ∷ (used + count, 1) ∷ []) w (slot + q) v (λ o. omega (arith, o .0 .apart (omega arith))))
+    (only-set ((slot, regions) ∷ (used + count, 1) ∷ []) (set w (slot + q) v) (used + count) x (λ o. omega (arith, o .1 .0 .apart (omega arith))))
+
 -- ---- an entry put in its place
 
 entries-append : (m n a : ℕ) (w : List ℕ) → entries a (m + n) w ≡ entries a m w ++ entries (a + 2 * m) n w

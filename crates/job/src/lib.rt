@@ -4,5 +4,6 @@ mod early;
 mod records;
 mod regions;
 mod tables;
+mod values;
 
 pub use early::{clear, early_no, work_words};

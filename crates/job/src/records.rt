@@ -7,7 +7,7 @@ ghost use Rattle.job.specs.Records.{zeros, valueZeros, valueWord};
 ghost use Rattle.job.specs.Refusals.{axisNo, endNo};
 
 // A byte as an index, and as a word.
-pub fn wide(b: u8) -> usize
+pub fn byte_wide(b: u8) -> usize
     ensures { λ r. ⌜ r ≡ b ⌝ }
 {
     b as usize
@@ -60,10 +60,10 @@ pub fn axis_no(rec: &[u8], axes: usize, i: usize) -> usize
     requires { ⌜ (0 < axes) × (12 ≤ length (now rec)) ⌝ }
     ensures { λ r. ⌜ r ≡ axisNo axes (now (rec .entry)) i ⌝ }
 {
-    if wide(rec[1]) != i / axes {
+    if byte_wide(rec[1]) != i / axes {
         return 5;
     }
-    if wide(rec[2]) != i % axes {
+    if byte_wide(rec[2]) != i % axes {
         return 5;
     }
     if !zero_bytes(rec, 3, 1) {

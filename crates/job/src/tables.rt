@@ -6,7 +6,19 @@ ghost use Prim.Native.Nat.{ℕ, _+_, _*_, _<_, _≤_};
 ghost use lib.ListN.{length};
 ghost use Rattle.sets.specs.Set.{Ascending};
 ghost use Rattle.sets.specs.Lent.{entries};
-ghost use Rattle.job.specs.Lent.{Zeroed, Uses, UsedNow, PutEntry};
+ghost use Rattle.job.specs.Lent.{Zeroed, Uses, UsedNow, UseKept, PutEntry};
+
+// Where the tables stand in work: rows and entries of the sets; regions in use by index; for each region its index and one, the last set
+// that named it, and the first region like it.
+pub struct Tables {
+    pub rows: usize,
+    pub body: usize,
+    pub used: usize,
+    pub slot: usize,
+    pub stamp: usize,
+    pub first: usize,
+    pub regions: usize,
+}
 
 // Makes n words from `at` on zero.
 pub fn zero_part(work: &mut [u32], at: usize, n: usize)
@@ -25,6 +37,7 @@ pub fn use_region(work: &mut [u32], slot: usize, regions: usize, used: usize, co
     requires { ⌜ (q < regions) × (slot + regions ≤ length (now work)) × (used + count < slot) ⌝ }
     requires { ⌜ (count < 4294967295) × (q < 4294967296) ⌝ }
     ensures { λ r. ⌜ ((l : List ℕ) → length l ≡ count → Uses (now (work .entry)) slot used regions l → UsedNow slot used regions count q l (now (work .entry)) (now (work .exit)) r) ⌝ }
+    ensures { λ r. ⌜ UseKept slot used regions count (now (work .entry)) (now (work .exit)) r ⌝ }
 {
     let s = wide(work[slot + q]);
     if s != 0 {
