@@ -4,3 +4,4 @@ pub mod UseLaws
 pub mod GoodLaws
 pub mod HoldLaws
 pub mod WalkLaws
+pub mod ReadingLaws

@@ -161,3 +161,14 @@ pub record SetsRead (axes mode : ℕ) (job : List ℕ) (records from : ℕ) (t :
   pub bad : (no ≡ 0 → ⊥) → walk axes mode job (drop (recordBytes * from) job) (records - from) from (inSets (regionsOnly (regionList axes (from / axes) job))) ≡ refused no at
   pub good : no ≡ 0 → SetsHeld axes mode job records from t new sets values uses
   pub only : Only ((0, t .first) ∷ []) old new
+
+-- what the end of a set asks of the tables
+pub record EndFits (w : List ℕ) (t : Tables) (sets start count : ℕ) : Type 0 where
+  pub row : t .rows + 2 * sets + 2 ≤ t .body
+  pub body-in : start + 2 * count ≤ t .used
+  pub used-to : t .used ≤ t .slot
+  pub slot-to : t .slot + t .regions ≤ t .stamp
+  pub stamp-to : t .stamp + t .regions ≤ t .first
+  pub first-to : t .first + t .regions ≤ length w
+  pub body-low : t .body ≤ start
+  pub long-few : length w ≤ 4294967295

@@ -1,6 +1,7 @@
 // A job, from its bytes to its sets: checks and refusals, regions, the sets that it says.
 mod axes;
 mod early;
+mod reading;
 mod records;
 mod regions;
 mod tables;
