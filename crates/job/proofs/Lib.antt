@@ -5,3 +5,4 @@ pub mod GoodLaws
 pub mod HoldLaws
 pub mod WalkLaws
 pub mod ReadingLaws
+pub mod WholeLaws

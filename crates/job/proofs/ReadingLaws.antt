@@ -77,7 +77,7 @@ module _ (axes mode : ℕ) (job : List ℕ) (records from : ℕ) (t : Tables) (o
       stamp-to = room .stamp-to;
       first-to = omega (arith, room .first-to, n .only .long);
       body-low = n .held .start-low;
-      long-few = omega (arith, room .long-few, n .only .long);
+      long-few = omega (arith, room .long-few, room .used-to, room .slot-to, room .stamp-to);
     }
 
     module _ (l : i < records) where
@@ -169,6 +169,7 @@ module _ (axes mode : ℕ) (job : List ℕ) (records from : ℕ) (t : Tables) (o
         start = start;
         held = rw (← n .closed z) (n .held);
         start-in = omega (arith, n .body-few, n .few, n .within, room .body-to);
+        uses-few = omega (arith, n .uses-few, n .few, n .within);
       };
       only = n .only;
     }

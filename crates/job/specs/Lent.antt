@@ -6,13 +6,13 @@ use Prim.Native.Nat.{ℕ, zero, suc, _+_, _-_, _*_, _/_, _≤_, _<_}
 use lib.ListN.{length, getD, drop}
 use Rattle.laws.specs.Pick.{pick}
 use Rattle.laws.specs.Every.{All}
-use Rattle.laws.specs.Range.{Only}
+use Rattle.laws.specs.Range.{Only, seg}
 use Rattle.sets.specs.Set.{Set, Ascending, Proper}
-use Rattle.sets.specs.Lent.{entries, startOf, countOf, setOf}
+use Rattle.sets.specs.Lent.{entries, startOf, countOf, setOf, Held, setsIn}
 use lib.Dec.{eqb}
 use Rattle.job.specs.Records.{recordBytes, regionOf, valueWord}
 use Rattle.job.specs.Refusals.{valueNo}
-use Rattle.job.specs.Job.{Said, afterValue, afterEnd, inSets, regionsOnly, refused, fine, walk}
+use Rattle.job.specs.Job.{Said, afterValue, afterEnd, inAxes, inSets, regionsOnly, refused, fine, walk}
 use Rattle.job.specs.declared.tables.Tables.{Tables}
 use Rattle.job.specs.Sets.{Region, coordinates, regionList, firstLike, has, withUse, indexIn, placed}
 
@@ -107,7 +107,7 @@ pub record Room (t : Tables) (n long : ℕ) : Type 0 where
   pub first-to : t .first + t .regions ≤ long
   pub few : n ≤ 1048576
   pub regions-few : t .regions ≤ 1048576
-  pub long-few : long ≤ 4294967295
+  pub long-few : t .first + t .regions ≤ 4294967295
 
 -- what one more value asks of the tables
 pub record ValueFits (w : List ℕ) (t : Tables) (uses start count : ℕ) : Type 0 where
@@ -156,6 +156,7 @@ pub record SetsHeld (axes mode : ℕ) (job : List ℕ) (records from : ℕ) (t :
   pub start : ℕ
   pub held : Holds new t said sets uses start 0
   pub start-in : start ≤ t .used
+  pub uses-few : uses ≤ records
 
 pub record SetsRead (axes mode : ℕ) (job : List ℕ) (records from : ℕ) (t : Tables) (old new : List ℕ) (no at sets values uses : ℕ) : Type 0 where
   pub bad : (no ≡ 0 → ⊥) → walk axes mode job (drop (recordBytes * from) job) (records - from) from (inSets (regionsOnly (regionList axes (from / axes) job))) ≡ refused no at
@@ -171,4 +172,38 @@ pub record EndFits (w : List ℕ) (t : Tables) (sets start count : ℕ) : Type 0
   pub stamp-to : t .stamp + t .regions ≤ t .first
   pub first-to : t .first + t .regions ≤ length w
   pub body-low : t .body ≤ start
-  pub long-few : length w ≤ 4294967295
+  pub long-few : t .used ≤ 4294967295
+
+-- the offsets of the tables for a job of n records and so many regions: sets below word 4 n, regions in use from there on
+unfoldable pub tablesAt : ℕ → ℕ → ℕ → Tables
+tablesAt n axes regions = record {
+  rows = 0;
+  body = 2 * n;
+  used = 4 * n;
+  slot = 5 * n;
+  stamp = 5 * n + regions;
+  first = 5 * n + (3 * regions + regions * (6 * axes));
+  regions = regions;
+}
+
+-- The records of a job are refused by `no` at `at`, or (no is 0) work holds what they say: the sets below word 4 n, sorted and without
+-- zeros, and from there on by region index the regions in use.
+pub record JobHeld (axes mode : ℕ) (job : List ℕ) (records : ℕ) (new : List ℕ) (regions sets values uses : ℕ) : Type 0 where
+  pub said : Said
+  pub is : walk axes mode job job records 0 inAxes ≡ fine said
+  pub regions-are : length (said .regions) ≡ regions
+  pub sets-are : setsIn 0 sets new ≡ said .sets
+  pub values-are : said .values ≡ values
+  pub used-are : seg (4 * records) uses new ≡ said .used
+  pub held : Held new 0 sets uses (4 * records)
+
+pub record JobRead (axes mode : ℕ) (job : List ℕ) (records : ℕ) (old new : List ℕ) (no at regions sets values uses : ℕ) : Type 0 where
+  pub bad : (no ≡ 0 → ⊥) → walk axes mode job job records 0 inAxes ≡ refused no at
+  pub good : no ≡ 0 → JobHeld axes mode job records new regions sets values uses
+  pub only : Only ((0, 16 * records) ∷ []) old new
+
+-- the tables hold the firsts of so many regions, and no sets
+pub record Prepared (axes regions records : ℕ) (job old new : List ℕ) : Type 0 where
+  pub holds : Holds new (tablesAt records axes regions) (regionsOnly (regionList axes regions job)) 0 0 (2 * records) 0
+  pub room : Room (tablesAt records axes regions) records (length new)
+  pub only : Only ((0, 16 * records) ∷ []) old new

@@ -6,5 +6,7 @@ mod records;
 mod regions;
 mod tables;
 mod values;
+mod whole;
 
 pub use early::{clear, early_no, work_words};
+pub use whole::{JobEnd, read_job};

@@ -24,7 +24,7 @@ fn write_region(job: &[u8], p: usize, axes: usize, work: &mut [u32], at: usize)
 // Writes so many regions as sets: rows from `index` on, entries from `body` on.
 fn write_regions(job: &[u8], axes: usize, regions: usize, work: &mut [u32], index: usize, body: usize)
     requires { ⌜ (regions * (12 * axes) ≤ length (now job)) × (body + regions * (6 * axes) ≤ length (now work)) × (axes ≤ 64) ⌝ }
-    requires { ⌜ (index + 2 * regions ≤ body) × (length (now work) ≤ 4294967295) ⌝ }
+    requires { ⌜ (index + 2 * regions ≤ body) × (body + regions * (6 * axes) ≤ 4294967295) ⌝ }
     ensures { λ _. ⌜ RegionsAt index body axes regions (now (job .entry)) (now (work .entry)) (now (work .exit)) ⌝ }
 {
     let mut r = 0;
@@ -43,7 +43,7 @@ fn write_regions(job: &[u8], axes: usize, regions: usize, work: &mut [u32], inde
 // For each region the first with its coordinates, from `first` on; the words from `index` on are scratch.
 pub fn find_firsts(job: &[u8], axes: usize, regions: usize, work: &mut [u32], index: usize)
     requires { ⌜ (regions * (12 * axes) ≤ length (now job)) × (0 < axes) × (axes ≤ 64) × (regions ≤ 1048576) ⌝ }
-    requires { ⌜ (index + (5 * regions + regions * (6 * axes)) ≤ length (now work)) × (length (now work) ≤ 4294967295) ⌝ }
+    requires { ⌜ (index + (5 * regions + regions * (6 * axes)) ≤ length (now work)) × (index + (5 * regions + regions * (6 * axes)) ≤ 4294967295) ⌝ }
     ensures { λ _. ⌜ FirstsOf index (index + (3 * regions + regions * (6 * axes))) axes regions (now (job .entry)) (now (work .entry)) (now (work .exit)) ⌝ }
 {
     let body = index + 2 * regions;
