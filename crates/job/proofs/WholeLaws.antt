@@ -1,0 +1,174 @@
+-- The tables before the first set, and what work holds after the last. Assumes nothing.
+use mathlib.Core.Path.{_≡_, refl, sym, ap, _∙_, subst}
+use mathlib.Core.Bool.{Bool, true, false}
+use mathlib.Core.List.{List, [], _∷_, _++_}
+use mathlib.Core.Logic.{⊎-elim}
+use Prim.Native.Nat.{ℕ, zero, suc, _+_, _-_, _*_, _/_, _%_, _≤_, _<_}
+use native.Mathlib.Nat.{add-zero, mul-left-comm, mul-le-mul-left, div-mul-le-self, div-le-self}
+use native.Mathlib.Omega.{arith}
+use lib.ListN.{length, getD, drop}
+use lib.Seq.{ext-getD}
+use lib.Dec.{eqb}
+use borrow.Author.Tests.{eq-eqb}
+use Rattle.laws.specs.Range.{Only, seg}
+use Rattle.laws.proofs.Cases.{Which, which, lt-or-ge}
+use Rattle.laws.proofs.Cases.Which.{holds, fails}
+use Rattle.laws.proofs.EveryLaws.{all-getD}
+use Rattle.laws.proofs.RangeLaws.{only-refl, only-trans, only-weaken, length-seg, getD-seg}
+use Rattle.sets.specs.Set.{Set, Ascending, Proper}
+use Rattle.sets.specs.Lent.{entries, startOf, countOf, setOf, Held, setsIn}
+use Rattle.sets.proofs.HeldLaws.{sets-length, sets-at}
+use Rattle.job.specs.declared.tables.Tables.{Tables}
+use Rattle.job.specs.Sets.{Region, regionList, sameRegion, like, firstLike, has}
+use Rattle.job.specs.Job.{Said, inAxes, inSets, regionsOnly, refused, fine, walk}
+use Rattle.job.specs.Inner.{AxesRead}
+use Rattle.job.specs.Lent.{slotIn, Uses, Stamps, Zeroed, FirstsOf, Good, Holds, Room, tablesAt, Prepared, SetsHeld, SetsRead, JobHeld, JobRead}
+use Rattle.job.proofs.RegionLaws.{regions-length}
+use Rattle.job.proofs.HoldLaws.{stamps-none}
+use Rattle.job.proofs.GoodLaws.{good-start}
+
+-- the first like a region is a region
+same-self : (c : Region) → sameRegion c c ≡ true
+unfolding sameRegion
+same-self [] = refl
+same-self (x ∷ c) = rw (eq-eqb x x refl, same-self c)
+
+like-below : (l : List Region) (r : ℕ) → r < length l → like (getD l r []) l < length l
+unfolding like
+like-below [] r h = absurd (omega arith)
+like-below (d ∷ l) zero h = rw (same-self d) (omega arith)
+like-below (d ∷ l) (suc r) h = go (like-below l r (omega arith)) (which (sameRegion (getD l r []) d))
+  where
+    go : like (getD l r []) l < length l → Which (sameRegion (getD l r []) d) → like (getD l r []) (d ∷ l) < suc (length l)
+    go rec (holds e) = rw e (omega arith)
+    go rec (fails e) = rw e (omega arith)
+
+module _ (axes regions records : ℕ) (job old mid new : List ℕ) (few : records ≤ 1048576) (room : 16 * records ≤ length old)
+    (small : regions * (6 * axes) ≤ 6 * records) (fits : regions ≤ records)
+    (f : FirstsOf (5 * records) (5 * records + (3 * regions + regions * (6 * axes))) axes regions job old mid)
+    (z : Zeroed (5 * records) (2 * regions) mid new) where
+  high : (j : ℕ) → 5 * records + 2 * regions ≤ j → getD new j 0 ≡ getD mid j 0
+  high j l = z .only .kept j (record { apart = λ p. omega arith }, tt)
+
+  n : length (regionList axes regions job) ≡ regions
+  n = regions-length axes regions job
+
+  first-is : (r : ℕ) → r < regions → getD new (5 * records + (3 * regions + regions * (6 * axes)) + r) 0 ≡ firstLike (regionList axes regions job) r
+  first-is r l = high (5 * records + (3 * regions + regions * (6 * axes)) + r) (omega arith) ∙ f .is r l
+
+  pub prepared : Prepared axes regions records job old new
+  unfolding tablesAt regionsOnly slotIn has entries firstLike
+  prepared = record {
+    holds = record {
+      regions-are = n;
+      firsts = first-is;
+      firsts-low = λ r l. rw (first-is r l) (omega (arith, n, like-below (regionList axes regions job) r (omega (arith, n))));
+      stamps = stamps-none (5 * records + regions) regions new (λ q l.
+          let e : 5 * records + regions + q ≡ 5 * records + (regions + q) = omega arith in
+          rw e (z .is (regions + q) (omega arith)));
+      uses-are = record { slots = λ q l. z .is q (omega arith); table = λ k l. absurd (omega arith) };
+      uses-count = refl;
+      begun-is = refl;
+      sets-count = refl;
+      rows-are = λ x l. absurd (omega arith);
+      bodies = λ x l. absurd (omega arith);
+      bodies-low = λ x l. absurd (omega arith);
+      rows-low = omega arith;
+      start-low = omega arith;
+      good = good-start (regionList axes regions job);
+    };
+    room = record {
+      rows-to = omega arith;
+      body-to = omega arith;
+      used-to = omega arith;
+      slot-to = omega arith;
+      stamp-to = omega arith;
+      first-to = omega (arith, z .only .long, f .only .long);
+      few = few;
+      regions-few = omega arith;
+      long-few = omega arith;
+    };
+    only = record {
+      long = z .only .long ∙ f .only .long;
+      kept = λ j o.
+          let far = o .0 .apart in
+          z .only .kept j (record { apart = λ p. omega (arith, far (omega arith)) }, tt)
+          ∙ f .only .kept j (record { apart = λ p. omega (arith, far (omega arith)) }, tt);
+    };
+  }
+
+-- ---- so many whole regions
+
+pub span : (a b c : ℕ) → a / b * (c * b) ≤ c * a
+span a b c =
+    let e : a / b * (c * b) ≡ c * (a / b * b) = mul-left-comm (a / b) c b in
+    rw e (mul-le-mul-left c (div-mul-le-self a b))
+
+pub regions-fit : (a b records : ℕ) → a ≤ records → a / b ≤ records
+regions-fit a b records h = omega (arith, div-le-self a b)
+
+-- ---- after the last record
+
+module _ (axes mode : ℕ) (job : List ℕ) (records nr at : ℕ) (old mid new : List ℕ) (a : AxesRead axes job records nr at) (p : Prepared axes (at / axes) records job old mid) where
+  abbrev tables : Tables
+  tables = tablesAt records axes (at / axes)
+
+  module _ (nr′ at′ sets values uses : ℕ) (r : SetsRead axes mode job records at tables mid new nr′ at′ sets values uses) (g : nr ≡ 0)
+      (room : 16 * records ≤ length old) (small : at / axes * (6 * axes) ≤ 6 * records) (fits : at / axes ≤ records) where
+    job-held : SetsHeld axes mode job records at tables new sets values uses → JobHeld axes mode job records new (at / axes) sets values uses
+    unfolding tablesAt
+    job-held s = record {
+      said = s .said;
+      is = a .good g mode ∙ s .is;
+      regions-are = s .held .regions-are;
+      sets-are = ext-getD [] (setsIn 0 sets new) (s .said .sets) (sets-length 0 sets new ∙ sym (s .held .sets-count))
+          (λ k l. let q : k < sets = omega (arith, sets-length 0 sets new) in sets-at 0 sets new k q ∙ s .held .rows-are k q);
+      values-are = s .values-are;
+      used-are =
+          let long : 4 * records + uses ≤ length new = (let x = length-new in let y = uses-few s in omega arith) in
+          ext-getD 0 (seg (4 * records) uses new) (s .said .used) (length-seg (4 * records) uses new long ∙ sym (s .held .uses-count))
+          (λ k l.
+          let q : k < uses = omega (arith, length-seg (4 * records) uses new long) in
+          getD-seg (4 * records) uses new k q ∙ s .held .uses-are .table k (omega (arith, s .held .uses-count)));
+      held = record {
+        room = omega (arith, length-new);
+        rows = omega (arith, s .held .rows-low, s .start-in);
+        body = λ x l. omega (arith, s .held .bodies x l, s .start-in);
+        ascending = λ x l. rw (s .held .rows-are x l) (all-getD (Ascending 0) (s .said .sets) x [] (s .held .good .sets-rising) (omega (arith, s .held .sets-count)));
+        proper = λ x l. rw (s .held .rows-are x l, ← s .held .uses-count) (all-getD (Proper (length (s .said .used))) (s .said .sets) x [] (s .held .good .sets-proper) (omega (arith, s .held .sets-count)));
+      };
+    }
+      where
+        length-new : length new ≡ length old
+        length-new = r .only .long ∙ p .only .long
+
+        uses-few : SetsHeld axes mode job records at tables new sets values uses → uses ≤ records
+        uses-few h = h .uses-few
+
+    pub job-read : JobRead axes mode job records old new nr′ at′ (at / axes) sets values uses
+    unfolding tablesAt
+    job-read = record {
+      bad = λ d. a .good g mode ∙ r .bad d;
+      good = λ e. job-held (r .good e);
+      only = only-trans (p .only) (only-weaken (λ j o. (record { apart = λ q. omega (arith, o .0 .apart (omega arith)) }, tt)) (r .only));
+    }
+
+pub job-refused : (axes mode : ℕ) (job : List ℕ) (records nr at : ℕ) (old : List ℕ) → AxesRead axes job records nr at → (nr ≡ 0 → ⊥)
+    → JobRead axes mode job records old old nr at 0 0 0 0
+job-refused axes mode job records nr at old a z = record { bad = λ d. a .bad d mode; good = λ e. absurd (z e); only = only-refl ((0, 16 * records) ∷ []) old }
+
+-- the tables as the code makes them
+pub ready : (t : Tables) (axes regions records : ℕ) (job old new : List ℕ) → t ≡ tablesAt records axes regions → Prepared axes regions records job old new
+    → Room t records (length new) × Holds new t (regionsOnly (regionList axes regions job)) 0 0 (t .body) 0
+unfolding tablesAt
+ready t axes regions records job old new e p =
+    subst (λ (x : Tables). Room x records (length new) × Holds new x (regionsOnly (regionList axes regions job)) 0 0 (x .body) 0) (sym e) (p .room, p .holds)
+
+pub job-read-by : (t : Tables) (axes mode : ℕ) (job : List ℕ) (records nr at : ℕ) (old mid new : List ℕ) → t ≡ tablesAt records axes (at / axes)
+    → AxesRead axes job records nr at → Prepared axes (at / axes) records job old mid
+    → (nr′ at′ sets values uses : ℕ) → SetsRead axes mode job records at t mid new nr′ at′ sets values uses → nr ≡ 0 → 16 * records ≤ length old
+    → JobRead axes mode job records old new nr′ at′ (at / axes) sets values uses
+job-read-by t axes mode job records nr at old mid new e a p nr′ at′ sets values uses r g room =
+    job-read axes mode job records nr at old mid new a p nr′ at′ sets values uses
+    (subst (λ (x : Tables). SetsRead axes mode job records at x mid new nr′ at′ sets values uses) e r) g room
+    (omega (arith, span at axes 6, a .within)) (regions-fit at axes records (a .within))

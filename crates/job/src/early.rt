@@ -1,0 +1,66 @@
+// What is tested before the first record, the published number of words of work, and the clearing of work.
+ghost use mathlib.Core.Path.{_≡_};
+ghost use mathlib.Core.List.{List};
+ghost use Prim.Native.Nat.{ℕ, _<_, _≤_};
+ghost use lib.ListN.{length, replicate};
+ghost use Rattle.job.specs.Refusals.{publishedWork, workWords, earlyNo};
+ghost use Rattle.job.specs.Inner.{Open};
+
+// The words of work that a job of so many records needs.
+fn needed(records: usize) -> usize
+    requires { ⌜ records ≤ 1048576 ⌝ }
+    ensures { λ r. ⌜ r ≡ publishedWork records ⌝ }
+{
+    if records < 1024 {
+        return 16 * records + 4 * (records * records);
+    }
+    16 * records + 4194304
+}
+
+// The published number for so many records; 0 above the record limit.
+pub fn work_words(records: usize) -> usize
+    ensures { λ r. ⌜ r ≡ workWords records ⌝ }
+{
+    if 1048576 < records {
+        return 0;
+    }
+    needed(records)
+}
+
+// Refusals 1 to 4 in that order, or 0.
+pub fn early_no(axes: u32, mode: u32, bytes: usize, work: usize) -> usize
+    ensures { λ r. ⌜ r ≡ earlyNo axes mode bytes work ⌝ }
+    ensures { λ r. ⌜ (r ≡ 0 → Open axes mode bytes work) ⌝ }
+{
+    if axes == 0 {
+        return 1;
+    }
+    if 64 < axes {
+        return 1;
+    }
+    if 1 < mode {
+        return 2;
+    }
+    if bytes % 12 != 0 {
+        return 3;
+    }
+    let records = bytes / 12;
+    if 1048576 < records {
+        return 3;
+    }
+    if work < needed(records) {
+        return 4;
+    }
+    0
+}
+
+// All words zero.
+pub fn clear(work: &mut [u32])
+    ensures { λ _. ⌜ now (work .exit) ≡ replicate (length (now (work .entry))) 0 ⌝ }
+{
+    let mut i = 0;
+    while i < work.len() {
+        work[i] = 0;
+        i += 1;
+    }
+}
