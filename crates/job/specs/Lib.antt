@@ -5,3 +5,4 @@ pub mod Job
 pub mod Lent
 pub mod Inner
 pub mod Worked
+pub mod Check

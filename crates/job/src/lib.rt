@@ -1,5 +1,6 @@
 // A job, from its bytes to its sets: checks and refusals, regions, the sets that it says.
 mod axes;
+mod checking;
 mod early;
 mod reading;
 mod records;
@@ -8,5 +9,10 @@ mod tables;
 mod values;
 mod whole;
 
-pub use early::{clear, early_no, work_words};
-pub use whole::{JobEnd, read_job};
+pub use checking::Checked;
+pub use checking::check;
+pub use early::clear;
+pub use early::early_no;
+pub use early::work_words;
+pub use whole::JobEnd;
+pub use whole::read_job;

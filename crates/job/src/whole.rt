@@ -2,7 +2,8 @@
 use crate::axes::axes_end;
 use crate::reading::read_sets;
 use crate::regions::find_firsts;
-use crate::tables::{Tables, zero_part};
+use crate::tables::Tables;
+use crate::tables::zero_part;
 ghost use mathlib.Core.Path.{_≡_};
 ghost use Prim.Native.Nat.{ℕ, _+_, _*_, _/_, _%_, _<_, _≤_};
 ghost use lib.ListN.{length};

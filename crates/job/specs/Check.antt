@@ -1,0 +1,18 @@
+-- What looking at a job answers, and what it leaves in work. Document 01, "Refusal numbers".
+use mathlib.Core.List.{List, [], _∷_}
+use Prim.Native.Nat.{ℕ}
+use lib.Dec.{eqb}
+use lib.ListN.{length, replicate}
+use Rattle.laws.specs.Pick.{pick}
+use Rattle.job.specs.Refusals.{earlyNo}
+use Rattle.job.specs.Job.{Outcome, refused, fine}
+use Rattle.job.specs.declared.checking.Checked.{Checked}
+use Rattle.job.specs.declared.checking.Checked.the-variants.{Refused, Sound}
+
+unfoldable pub checkedOf : Outcome → Checked
+checkedOf (refused n i) = Refused n i
+checkedOf (fine s) = Sound (length (s .regions)) (length (s .sets)) (s .values)
+
+-- "work untouched by 1 to 4 and all zeros to its last word after every other answer"
+unfoldable pub workLeft : ℕ → ℕ → ℕ → List ℕ → List ℕ
+workLeft axes mode bytes w = pick (eqb (earlyNo axes mode bytes (length w)) 0) (replicate (length w) 0) w
