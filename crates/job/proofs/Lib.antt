@@ -6,3 +6,4 @@ pub mod HoldLaws
 pub mod WalkLaws
 pub mod ReadingLaws
 pub mod WholeLaws
+pub mod MeaningLaws

@@ -33,7 +33,7 @@ unfolding sameRegion
 same-self [] = refl
 same-self (x ∷ c) = rw (eq-eqb x x refl, same-self c)
 
-like-below : (l : List Region) (r : ℕ) → r < length l → like (getD l r []) l < length l
+pub like-below : (l : List Region) (r : ℕ) → r < length l → like (getD l r []) l < length l
 unfolding like
 like-below [] r h = absurd (omega arith)
 like-below (d ∷ l) zero h = rw (same-self d) (omega arith)
