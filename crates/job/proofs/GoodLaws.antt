@@ -79,11 +79,13 @@ fresh-more used named q (e ∷ b) p f =
 fresh-differs : (used named : List ℕ) (q : ℕ) (b : Set) → has q named ≡ false → Proper (length used) b → All (λ e. has (getD used (e .0) 0) named ≡ true) b
     → All (λ e. e .0 ≡ indexIn q (withUse used q) → ⊥) b
 fresh-differs used named q [] n p f = tt
-fresh-differs used named q (e ∷ b) n p f =
-    ((λ k.
-    let at : getD used (e .0) 0 ≡ q =
-    sym (with-old used q (e .0) (p .0 .1)) ∙ ap (λ (j : ℕ). getD (withUse used q) j 0) k ∙ index-at q (withUse used q) (with-has used q) in
-    true-false (rw at at (f .0)) n), fresh-differs used named q b n (p .1) (f .1))
+fresh-differs used named q (e ∷ b) n p f = (
+  (λ k.
+      let at : getD used (e .0) 0 ≡ q =
+      sym (with-old used q (e .0) (p .0 .1)) ∙ ap (λ (j : ℕ). getD (withUse used q) j 0) k ∙ index-at q (withUse used q) (with-has used q) in
+      true-false (rw at at (f .0)) n),
+  fresh-differs used named q b n (p .1) (f .1),
+)
 
 pub good-start : (regions : List Region) → Good (regionsOnly regions)
 unfolding regionsOnly

@@ -134,7 +134,7 @@ module _ (at n : ℕ) (c : Region) (old : List ℕ) (room : at + 2 * n ≤ lengt
       let first : getD z (at + 2 * k) 0 ≡ k = getD-set-other u (at + 2 * k + 1) (at + 2 * k) v 0 (omega arith) ∙ getD-set-same new (at + 2 * k) k 0 a in
       let second : getD z (at + 2 * k + 1) 0 ≡ v = getD-set-same u (at + 2 * k + 1) v 0 b in
       let old-ones : entries at k z ≡ entries at k new = entries-kept k at new z
-          (λ j p q. getD-set-other u (at + 2 * k + 1) j v 0 (omega arith) ∙ getD-set-other new (at + 2 * k) j k 0 (omega arith)) in
+      (λ j p q. getD-set-other u (at + 2 * k + 1) j v 0 (omega arith) ∙ getD-set-other new (at + 2 * k) j k 0 (omega arith)) in
       let grown : take (k + 1) c ≡ take k c ++ (v ∷ []) = rw (add-one, take-suc c k 0 (omega arith), ← e) in
       let long : length (take k c) ≡ k = length-take-le k c (omega arith) in
       record {

@@ -272,8 +272,8 @@ placed-split (suc m) n a k v w low high =
     let d : a + 2 + 2 * m ≡ a + 2 * suc m = omega arith in
     let g = rw e at (low 0 (omega arith)) in
     let ih = placed-split m n (a + 2) k v w
-        (λ x l. let q : a + 2 * suc x ≡ a + 2 + 2 * x = omega arith in rw q at (low (suc x) (omega arith)))
-        (λ l. rw d (high l)) in
+    (λ x l. let q : a + 2 * suc x ≡ a + 2 + 2 * x = omega arith in rw q at (low (suc x) (omega arith)))
+    (λ l. rw d (high l)) in
     rw (f, le-ltb k (getD w a 0) g) (ap (λ (l : Set). (getD w a 0, getD w (a + 1) 0) ∷ l) (ih ∙ rw d))
 
 -- the entries from the j-th on, which have higher regions, stand two words further up
@@ -339,13 +339,13 @@ module _ (start count k : ℕ) (old : List ℕ) (room : start + 2 * count + 2 �
       let n : count ≡ j + (count - j) = omega arith in
       let n′ : count + 1 ≡ j + suc (count - j) = omega arith in
       let front : entries start j z ≡ entries start j old = entries-kept j start old z (λ p a b.
-          let q : p ≡ start + (p - start) = omega arith in
-          getD-set-other u i₂ p v 0 (omega arith) ∙ getD-set-other new i₁ p k 0 (omega arith)
-          ∙ (rw q (s .front (p - start) (omega arith)))) in
+      let q : p ≡ start + (p - start) = omega arith in
+      getD-set-other u i₂ p v 0 (omega arith) ∙ getD-set-other new i₁ p k 0 (omega arith)
+      ∙ (rw q (s .front (p - start) (omega arith)))) in
       let back : entries (start + 2 * j + 2) (count - j) z ≡ entries (start + 2 * j) (count - j) old = entries-up (count - j) (start + 2 * j) old z (λ p a b.
-          getD-set-other u i₂ (p + 2) v 0 (omega arith) ∙ getD-set-other new i₁ (p + 2) k 0 (omega arith) ∙ s .back p a (omega arith)) in
+      getD-set-other u i₂ (p + 2) v 0 (omega arith) ∙ getD-set-other new i₁ (p + 2) k 0 (omega arith) ∙ s .back p a (omega arith)) in
       let first : getD z (start + 2 * j) 0 ≡ k =
-          getD-set-other u i₂ (start + 2 * j) v 0 (omega arith) ∙ (rw (← e₁) (getD-set-same new i₁ k 0 (omega (arith, s .only .long)))) in
+      getD-set-other u i₂ (start + 2 * j) v 0 (omega arith) ∙ (rw (← e₁) (getD-set-same new i₁ k 0 (omega (arith, s .only .long)))) in
       let second : getD z (start + 2 * j + 1) 0 ≡ v = rw (← e₂) (getD-set-same u i₂ v 0 (omega (arith, s .only .long, length-set new i₁ k))) in
       record {
         only = only-trans (s .only) (only-trans

@@ -8,5 +8,8 @@ mod tables;
 mod values;
 mod whole;
 
-pub use early::{clear, early_no, work_words};
-pub use whole::{JobEnd, read_job};
+pub use early::clear;
+pub use early::early_no;
+pub use early::work_words;
+pub use whole::JobEnd;
+pub use whole::read_job;

@@ -31,7 +31,15 @@ fn end_set(work: &mut [u32], t: Tables, sets: usize, start: usize, count: usize)
 }
 
 // Reads the records from record `from` on, which follow the axis records of so many regions of `axes` axes.
-pub fn read_sets(job: &[u8], axes: usize, records: usize, from: usize, mode: u32, work: &mut [u32], t: Tables) -> SetsEnd
+pub fn read_sets(
+    job: &[u8],
+    axes: usize,
+    records: usize,
+    from: usize,
+    mode: u32,
+    work: &mut [u32],
+    t: Tables,
+) -> SetsEnd
     requires { ⌜ (from ≤ records) × (12 * records ≤ length (now job)) ⌝ }
     requires { ⌜ Room t records (length (now work)) ⌝ }
     requires { ⌜ Holds (now work) t (regionsOnly (regionList axes (from / axes) (now job))) 0 0 (t .body) 0 ⌝ }
@@ -50,7 +58,13 @@ pub fn read_sets(job: &[u8], axes: usize, records: usize, from: usize, mode: u32
         if kind == 2 {
             let k = take_value(&job[at..], work, t, (sets + 1) as u32, uses, start, count);
             if k.no != 0 {
-                return SetsEnd { no: k.no, at: i, sets: 0, values: 0, uses: 0 };
+                return SetsEnd {
+                    no: k.no,
+                    at: i,
+                    sets: 0,
+                    values: 0,
+                    uses: 0,
+                };
             }
             uses = k.uses;
             count = k.count;
@@ -60,7 +74,13 @@ pub fn read_sets(job: &[u8], axes: usize, records: usize, from: usize, mode: u32
         } else if kind == 3 {
             let no = end_no(&job[at..], mode, sets);
             if no != 0 {
-                return SetsEnd { no, at: i, sets: 0, values: 0, uses: 0 };
+                return SetsEnd {
+                    no,
+                    at: i,
+                    sets: 0,
+                    values: 0,
+                    uses: 0,
+                };
             }
             end_set(work, t, sets, start, count);
             start = start + 2 * count;
@@ -69,11 +89,29 @@ pub fn read_sets(job: &[u8], axes: usize, records: usize, from: usize, mode: u32
             begun = 0;
             i += 1;
         } else {
-            return SetsEnd { no: 5, at: i, sets: 0, values: 0, uses: 0 };
+            return SetsEnd {
+                no: 5,
+                at: i,
+                sets: 0,
+                values: 0,
+                uses: 0,
+            };
         }
     }
     if begun != 0 {
-        return SetsEnd { no: 8, at: i, sets: 0, values: 0, uses: 0 };
+        return SetsEnd {
+            no: 8,
+            at: i,
+            sets: 0,
+            values: 0,
+            uses: 0,
+        };
     }
-    SetsEnd { no: 0, at: 0, sets, values, uses }
+    SetsEnd {
+        no: 0,
+        at: 0,
+        sets,
+        values,
+        uses,
+    }
 }

@@ -22,7 +22,14 @@ fn write_region(job: &[u8], p: usize, axes: usize, work: &mut [u32], at: usize)
 }
 
 // Writes so many regions as sets: rows from `index` on, entries from `body` on.
-fn write_regions(job: &[u8], axes: usize, regions: usize, work: &mut [u32], index: usize, body: usize)
+fn write_regions(
+    job: &[u8],
+    axes: usize,
+    regions: usize,
+    work: &mut [u32],
+    index: usize,
+    body: usize,
+)
     requires { ⌜ (regions * (12 * axes) ≤ length (now job)) × (body + regions * (6 * axes) ≤ length (now work)) × (axes ≤ 64) ⌝ }
     requires { ⌜ (index + 2 * regions ≤ body) × (body + regions * (6 * axes) ≤ 4294967295) ⌝ }
     ensures { λ _. ⌜ RegionsAt index body axes regions (now (job .entry)) (now (work .entry)) (now (work .exit)) ⌝ }

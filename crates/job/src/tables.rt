@@ -33,7 +33,14 @@ pub fn zero_part(work: &mut [u32], at: usize, n: usize)
 }
 
 // The index of region q, where `count` regions are in use: the next one at its first use.
-pub fn use_region(work: &mut [u32], slot: usize, regions: usize, used: usize, count: usize, q: usize) -> usize
+pub fn use_region(
+    work: &mut [u32],
+    slot: usize,
+    regions: usize,
+    used: usize,
+    count: usize,
+    q: usize,
+) -> usize
     requires { ⌜ (q < regions) × (slot + regions ≤ length (now work)) × (used + count < slot) ⌝ }
     requires { ⌜ (count < 4294967295) × (q < 4294967296) ⌝ }
     ensures { λ r. ⌜ ((l : List ℕ) → length l ≡ count → Uses (now (work .entry)) slot used regions l → UsedNow slot used regions count q l (now (work .entry)) (now (work .exit)) r) ⌝ }

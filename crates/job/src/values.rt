@@ -1,6 +1,10 @@
 // A value record: its refusal, or the value in its set.
-use crate::records::{byte_wide, value_fine, value_word};
-use crate::tables::{Tables, put_entry, use_region};
+use crate::records::byte_wide;
+use crate::records::value_fine;
+use crate::records::value_word;
+use crate::tables::Tables;
+use crate::tables::put_entry;
+use crate::tables::use_region;
 use laws::wide;
 ghost use mathlib.Core.Path.{_≡_};
 ghost use mathlib.Core.List.{List};
@@ -32,7 +36,16 @@ fn grown(uses: usize, k: usize) -> usize
 }
 
 // Stamps region q, gives it an index, and puts the word of its value into the set unless it is that of zero.
-fn put_value(work: &mut [u32], t: Tables, q: usize, v: u32, mark: u32, uses: usize, start: usize, count: usize) -> Took
+fn put_value(
+    work: &mut [u32],
+    t: Tables,
+    q: usize,
+    v: u32,
+    mark: u32,
+    uses: usize,
+    start: usize,
+    count: usize,
+) -> Took
     requires { ⌜ ValueFits (now work) t uses start count ⌝ }
     requires { ⌜ q < t .regions ⌝ }
     ensures { λ r. ⌜ ((s : Said) (sets : ℕ) → mark ≡ sets + 1 → Holds (now (work .entry)) t s sets uses start count
@@ -57,7 +70,15 @@ fn put_value(work: &mut [u32], t: Tables, q: usize, v: u32, mark: u32, uses: usi
 }
 
 // The value record of the bytes `rec`: refusals 5, 6 and 7 in their order, or the value in its set.
-pub fn take_value(rec: &[u8], work: &mut [u32], t: Tables, mark: u32, uses: usize, start: usize, count: usize) -> Took
+pub fn take_value(
+    rec: &[u8],
+    work: &mut [u32],
+    t: Tables,
+    mark: u32,
+    uses: usize,
+    start: usize,
+    count: usize,
+) -> Took
     requires { ⌜ 12 ≤ length (now rec) ⌝ }
     requires { ⌜ ValueFits (now work) t uses start count ⌝ }
     ensures { λ r. ⌜ ((s : Said) (sets : ℕ) → mark ≡ sets + 1 → Holds (now (work .entry)) t s sets uses start count

@@ -38,16 +38,16 @@ zero-bytes-requires : tie.Need-zero-bytes-requires
 zero-bytes-requires c κs = search needs
 
 returns-3 : tie.Need-returns-3
-returns-3 c = let a = c .before .before .before .before .before .before .before .before .before .args in axis-three (a .axes) (a .rec .now) (a .i) (sym (c .before .before .before .before .before .before .byte-wide .ensures) ∙ c .before .before .before .before .before .if1 .left) (sym (c .before .before .before .byte-wide2 .ensures) ∙ c .before .before .if2 .left) (sym (c .before .zero-bytes .ensures) ∙ not-true (c .before .zero-bytes .result) (c  .if3 .taken))
+returns-3 c = let a = c .before .before .before .before .before .before .before .before .before .args in axis-three (a .axes) (a .rec .now) (a .i) (sym (c .before .before .before .before .before .before .byte-wide .ensures) ∙ c .before .before .before .before .before .if1 .left) (sym (c .before .before .before .byte-wide2 .ensures) ∙ c .before .before .if2 .left) (sym (c .before .zero-bytes .ensures) ∙ not-true (c .before .zero-bytes .result) (c .if3 .taken))
 
 zero-bytes-requires-2 : tie.Need-zero-bytes-requires-2
 zero-bytes-requires-2 c κs = search needs
 
 returns-4 : tie.Need-returns-4
-returns-4 c = let a = c .before .before .before .before .before .before .before .before .before .before .before .args in axis-ten (a .axes) (a .rec .now) (a .i) (sym (c .before .before .before .before .before .before .before .before .byte-wide .ensures) ∙ c .before .before .before .before .before .before .before .if1 .left) (sym (c .before .before .before .before .before .byte-wide2 .ensures) ∙ c .before .before .before .before .if2 .left) (sym (c .before .before .before .zero-bytes .ensures) ∙ not-false (c .before .before .before .zero-bytes .result) (c .before .before .if3 .left)) (sym (c .before .zero-bytes2 .ensures) ∙ not-true (c .before .zero-bytes2 .result) (c  .if4 .taken))
+returns-4 c = let a = c .before .before .before .before .before .before .before .before .before .before .before .args in axis-ten (a .axes) (a .rec .now) (a .i) (sym (c .before .before .before .before .before .before .before .before .byte-wide .ensures) ∙ c .before .before .before .before .before .before .before .if1 .left) (sym (c .before .before .before .before .before .byte-wide2 .ensures) ∙ c .before .before .before .before .if2 .left) (sym (c .before .before .before .zero-bytes .ensures) ∙ not-false (c .before .before .before .zero-bytes .result) (c .before .before .if3 .left)) (sym (c .before .zero-bytes2 .ensures) ∙ not-true (c .before .zero-bytes2 .result) (c .if4 .taken))
 
 returns-5 : tie.Need-returns-5
-returns-5 c = let a = c .before .before .before .before .before .before .before .before .before .before .before .args in axis-passed (a .axes) (a .rec .now) (a .i) (sym (c .before .before .before .before .before .before .before .before .byte-wide .ensures) ∙ c .before .before .before .before .before .before .before .if1 .left) (sym (c .before .before .before .before .before .byte-wide2 .ensures) ∙ c .before .before .before .before .if2 .left) (sym (c .before .before .before .zero-bytes .ensures) ∙ not-false (c .before .before .before .zero-bytes .result) (c .before .before .if3 .left)) (sym (c .before .zero-bytes2 .ensures) ∙ not-false (c .before .zero-bytes2 .result) (c  .if4 .left))
+returns-5 c = let a = c .before .before .before .before .before .before .before .before .before .before .before .args in axis-passed (a .axes) (a .rec .now) (a .i) (sym (c .before .before .before .before .before .before .before .before .byte-wide .ensures) ∙ c .before .before .before .before .before .before .before .if1 .left) (sym (c .before .before .before .before .before .byte-wide2 .ensures) ∙ c .before .before .before .before .if2 .left) (sym (c .before .before .before .zero-bytes .ensures) ∙ not-false (c .before .before .before .zero-bytes .result) (c .before .before .if3 .left)) (sym (c .before .zero-bytes2 .ensures) ∙ not-false (c .before .zero-bytes2 .result) (c .if4 .left))
 
 pub axis-no-spec : {M : Type 1} → statement M
 axis-no-spec =

@@ -13,7 +13,7 @@ zero-bytes-requires : tie.Need-zero-bytes-requires
 zero-bytes-requires c κs = search needs
 
 returns : tie.Need-returns
-returns c = let a = c .before .before .before .args in end-bad (a .mode) (a .rec .now) (a .sets) (sym (c .before .zero-bytes .ensures) ∙ not-true (c .before .zero-bytes .result) (c  .if1 .taken))
+returns c = let a = c .before .before .before .args in end-bad (a .mode) (a .rec .now) (a .sets) (sym (c .before .zero-bytes .ensures) ∙ not-true (c .before .zero-bytes .result) (c .if1 .taken))
 
 returns-2 : tie.Need-returns-2
 returns-2 c = let a = c .before .before .before .before .before .args in end-full (a .mode) (a .rec .now) (a .sets) (sym (c .before .before .before .zero-bytes .ensures) ∙ not-false (c .before .before .before .zero-bytes .result) (c .before .before .if1 .left)) (c .before .if2 .taken) (c .if3 .taken)

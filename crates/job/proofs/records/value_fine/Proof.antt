@@ -14,7 +14,7 @@ zero-bytes-requires c κs = search needs
 
 returns : tie.Need-returns
 unfolding valueZeros
-returns c = simp (sym (c .before .zero-bytes .ensures) ∙ not-true (c .before .zero-bytes .result) (c  .if1 .taken))
+returns c = simp (sym (c .before .zero-bytes .ensures) ∙ not-true (c .before .zero-bytes .result) (c .if1 .taken))
 
 zero-bytes-requires-2 : tie.Need-zero-bytes-requires-2
 zero-bytes-requires-2 c κs = search needs

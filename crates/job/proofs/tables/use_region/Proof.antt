@@ -28,9 +28,10 @@ sub-result : tie.Need-sub-result
 sub-result c = search needs
 
 returns : tie.Need-returns
-returns c = let a = c .before .before .before .before .args in
-    ((λ l n u. rw (c .before .wide .ensures) (use-known (a .slot) (a .used) (a .regions) (a .count) (a .q) l (a .work .now) n u (omega arith) (λ e. c .if1 .taken (c .before .wide .ensures ∙ e)))),
-    record { only = only-refl ((a .slot, a .regions) ∷ (a .used + a .count, 1) ∷ []) (a .work .now); small = omega (arith, c .before .wide .ensures, c .before .before .before .slice-known .given (a .slot + a .q)) })
+returns c = let a = c .before .before .before .before .args in (
+  (λ l n u. rw (c .before .wide .ensures) (use-known (a .slot) (a .used) (a .regions) (a .count) (a .q) l (a .work .now) n u (omega arith) (λ e. c .if1 .taken (c .before .wide .ensures ∙ e)))),
+  record { only = only-refl ((a .slot, a .regions) ∷ (a .used + a .count, 1) ∷ []) (a .work .now); small = omega (arith, c .before .wide .ensures, c .before .before .before .slice-known .given (a .slot + a .q)) },
+)
 
 add-work : tie.Need-add-work
 add-work c = search needs
@@ -63,9 +64,10 @@ same-length : tie.Need-same-length
 same-length c = simp length-set
 
 returns-2 : tie.Need-returns-2
-returns-2 c = let a = c .before .before .before .before .args in
-    ((λ l n u. use-new (a .slot) (a .used) (a .regions) (a .count) (a .q) l (a .work .now) n u (omega arith) (omega arith) (omega arith) (sym (c .before .wide .ensures) ∙ c .if1 .left)),
-    record { only = use-set (a .slot) (a .used) (a .regions) (a .count) (a .q) (a .count + 1) (a .q) (a .work .now) (omega arith); small = omega arith })
+returns-2 c = let a = c .before .before .before .before .args in (
+  (λ l n u. use-new (a .slot) (a .used) (a .regions) (a .count) (a .q) l (a .work .now) n u (omega arith) (omega arith) (omega arith) (sym (c .before .wide .ensures) ∙ c .if1 .left)),
+  record { only = use-set (a .slot) (a .used) (a .regions) (a .count) (a .q) (a .count + 1) (a .q) (a .work .now) (omega arith); small = omega arith },
+)
 
 pub use-region-spec : {M : Type 1} → statement M
 use-region-spec =

@@ -22,7 +22,7 @@ value-fine-requires : tie.Need-value-fine-requires
 value-fine-requires c κs = search needs
 
 returns : tie.Need-returns
-returns c = λ s sets m h. took-bad h (c .before .before .before .before .args .rec .now) (sym (c .before .value-fine .ensures) ∙ not-true (c .before .value-fine .result) (c  .if1 .taken))
+returns c = λ s sets m h. took-bad h (c .before .before .before .before .args .rec .now) (sym (c .before .value-fine .ensures) ∙ not-true (c .before .value-fine .result) (c .if1 .taken))
 
 shared-slice-read-byte-wide : tie.Need-shared-slice-read-byte-wide
 shared-slice-read-byte-wide c = search needs
