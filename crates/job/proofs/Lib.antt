@@ -7,3 +7,4 @@ pub mod WalkLaws
 pub mod ReadingLaws
 pub mod WholeLaws
 pub mod CheckLaws
+pub mod MeaningLaws

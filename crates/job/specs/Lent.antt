@@ -11,8 +11,8 @@ use Rattle.sets.specs.Set.{Set, Ascending, Proper}
 use Rattle.sets.specs.Lent.{entries, startOf, countOf, setOf, Held, setsIn}
 use lib.Dec.{eqb}
 use Rattle.job.specs.Records.{recordBytes, regionOf, valueWord}
-use Rattle.job.specs.Refusals.{valueNo}
-use Rattle.job.specs.Job.{Said, afterValue, afterEnd, inAxes, inSets, regionsOnly, refused, fine, walk}
+use Rattle.job.specs.Refusals.{valueNo, earlyNo}
+use Rattle.job.specs.Job.{Said, afterValue, afterEnd, inAxes, inSets, regionsOnly, refused, fine, walk, outcome}
 use Rattle.job.specs.declared.tables.Tables.{Tables}
 use Rattle.job.specs.Sets.{Region, coordinates, regionList, firstLike, has, withUse, indexIn, placed}
 
@@ -207,3 +207,11 @@ pub record Prepared (axes regions records : ℕ) (job old new : List ℕ) : Type
   pub holds : Holds new (tablesAt records axes regions) (regionsOnly (regionList axes regions job)) 0 0 (2 * records) 0
   pub room : Room (tablesAt records axes regions) records (length new)
   pub only : Only ((0, 16 * records) ∷ []) old new
+
+-- A job is refused by `no` at `at`, by the numbers (1 to 4, with work untouched) or by its records; or (no is 0) work holds what it says.
+pub record JobAnswer (axes mode : ℕ) (job old new : List ℕ) (no at regions sets values uses : ℕ) : Type 0 where
+  pub bad : (no ≡ 0 → ⊥) → outcome axes mode job (length old) ≡ refused no at
+  pub fine-is : no ≡ 0 → outcome axes mode job (length old) ≡ walk axes mode job job (length job / recordBytes) 0 inAxes
+  pub good : no ≡ 0 → JobHeld axes mode job (length job / recordBytes) new regions sets values uses
+  pub untouched : (earlyNo axes mode (length job) (length old) ≡ 0 → ⊥) → new ≡ old
+  pub only : Only ((0, 16 * (length job / recordBytes)) ∷ []) old new
