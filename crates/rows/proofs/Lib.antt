@@ -15,3 +15,4 @@ pub mod SizeLaws
 pub mod SpotLaws
 pub mod PlacedLaws
 pub mod MapLaws
+pub mod TableBack
