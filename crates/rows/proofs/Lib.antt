@@ -16,3 +16,4 @@ pub mod SpotLaws
 pub mod PlacedLaws
 pub mod MapLaws
 pub mod TableBack
+pub mod StoreBack
