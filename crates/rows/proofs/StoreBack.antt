@@ -138,3 +138,118 @@ table-at (t ∷ ts) zero h = refl
 table-at (t ∷ ts) (suc o) h =
     let e : behind (t ∷ ts) (suc o) ≡ length t + behind ts o = length-append t (joinAll (take o ts)) in
     rw e (sym (drop-drop (behind ts o) (length t) (t ++ joinAll ts)) ∙ rw (drop-at t (joinAll ts) (length t) refl) (table-at ts o (omega arith)))
+
+-- ---- a placed store
+
+module _ (axes k : ℕ) (coords : List ℕ) (ts : List (List ℕ)) (axes-few : axes < 65536) (k-few : k < 65536) (coords-long : length coords ≡ 6 * axes * k)
+    (few : length ts < 65536) where
+  abbrev pub list : List ℕ
+  list = bytesOf 2 axes ++ (bytesOf 2 k ++ coords)
+
+  abbrev pub store : List ℕ
+  store = placed list ts
+
+  abbrev n : ℕ
+  n = length ts
+
+  abbrev pub begin : ℕ
+  begin = 8 + 4 * length ts + length list
+
+  list-long : length list ≡ 4 + 6 * axes * k
+  list-long = length-append (bytesOf 2 axes) (bytesOf 2 k ++ coords) ∙ omega (arith, length-append (bytesOf 2 k) coords, bytes-length 2 axes, bytes-length 2 k)
+
+  abbrev tail : List ℕ
+  tail = offsetsOf begin ts ++ (list ++ joinAll ts)
+
+  whole : store ≡ bytesOf 2 1 ++ (bytesOf 4 (8 + 4 * n) ++ (bytesOf 2 n ++ tail))
+  unfolding placed
+  whole = refl
+
+  abbrev head : List ℕ
+  head = bytesOf 2 1 ++ (bytesOf 4 (8 + 4 * n) ++ bytesOf 2 n)
+
+  head-long : length head ≡ 8
+  head-long = length-append (bytesOf 2 1) (bytesOf 4 (8 + 4 * n) ++ bytesOf 2 n)
+      ∙ omega (arith, length-append (bytesOf 4 (8 + 4 * n)) (bytesOf 2 n), bytes-length 2 1, bytes-length 4 (8 + 4 * n), bytes-length 2 n)
+
+  from-head : store ≡ head ++ tail
+  from-head = whole ∙ sym (regroup (bytesOf 2 1) (bytesOf 4 (8 + 4 * n)) (bytesOf 2 n) tail)
+    where
+      regroup : (a b c d : List ℕ) → (a ++ (b ++ c)) ++ d ≡ a ++ (b ++ (c ++ d))
+      regroup a b c d = simp append-assoc
+
+  format-is : be 2 store 0 ≡ 1
+  format-is = ap (λ (l : List ℕ). be 2 l 0) whole ∙ be-bytes [] (bytesOf 4 (8 + 4 * n) ++ (bytesOf 2 n ++ tail)) 2 1 0 refl
+
+  list-is : be 4 store 2 ≡ 8 + 4 * n
+  list-is = ap (λ (l : List ℕ). be 4 l 2) whole ∙ be-bytes (bytesOf 2 1) (bytesOf 2 n ++ tail) 4 (8 + 4 * n) 2 (bytes-length 2 1) ∙ mod-eq-of-lt (omega arith)
+
+  count-is : be 2 store 6 ≡ n
+  count-is =
+      let pre = bytesOf 2 1 ++ bytesOf 4 (8 + 4 * n) in
+      let l : length pre ≡ 6 = length-append (bytesOf 2 1) (bytesOf 4 (8 + 4 * n)) ∙ omega (arith, bytes-length 2 1, bytes-length 4 (8 + 4 * n)) in
+      ap (λ (l : List ℕ). be 2 l 6) (whole ∙ sym (append-assoc (bytesOf 2 1) (bytesOf 4 (8 + 4 * n)) (bytesOf 2 n ++ tail)))
+      ∙ be-bytes pre tail 2 n 6 l ∙ mod-eq-of-lt few
+
+  from-list : drop (8 + 4 * n) store ≡ list ++ joinAll ts
+  from-list =
+      let pre = head ++ offsetsOf begin ts in
+      let l : length pre ≡ 8 + 4 * n = length-append head (offsetsOf begin ts) ∙ omega (arith, head-long, offsets-long begin ts) in
+      ap (drop (8 + 4 * n)) (from-head ∙ sym (append-assoc head (offsetsOf begin ts) (list ++ joinAll ts))) ∙ drop-at pre (list ++ joinAll ts) (8 + 4 * n) l
+
+  from-tables : drop begin store ≡ joinAll ts
+  from-tables = sym (drop-drop (length list) (8 + 4 * n) store) ∙ ap (drop (length list)) from-list ∙ drop-at list (joinAll ts) (length list) refl
+
+  pub store-long : length store ≡ begin + length (joinAll ts)
+  store-long =
+      ap length from-head ∙ length-append head tail
+      ∙ omega (arith, head-long, length-append (offsetsOf begin ts) (list ++ joinAll ts), offsets-long begin ts, length-append list (joinAll ts))
+
+  axes-are : be 2 store (8 + 4 * n) ≡ axes
+  axes-are =
+      let e : 8 + 4 * n + 0 ≡ 8 + 4 * n = omega arith in
+      ap (be 2 store) (sym e) ∙ sym (be-drop 2 (8 + 4 * n) store 0) ∙ ap (λ (l : List ℕ). be 2 l 0) (from-list ∙ append-assoc (bytesOf 2 axes) (bytesOf 2 k ++ coords) (joinAll ts))
+      ∙ be-bytes [] ((bytesOf 2 k ++ coords) ++ joinAll ts) 2 axes 0 refl ∙ mod-eq-of-lt axes-few
+
+  pub regions-are : regionCount store ≡ k
+  regions-are =
+      ap (λ (a : ℕ). be 2 store (a + 2)) list-is
+      ∙ sym (be-drop 2 (8 + 4 * n) store 2)
+      ∙ ap (λ (l : List ℕ). be 2 l 2) (from-list ∙ append-assoc (bytesOf 2 axes) (bytesOf 2 k ++ coords) (joinAll ts) ∙ ap (λ (l : List ℕ). bytesOf 2 axes ++ l) (append-assoc (bytesOf 2 k) coords (joinAll ts)))
+      ∙ be-bytes (bytesOf 2 axes) (coords ++ joinAll ts) 2 k 2 (bytes-length 2 axes) ∙ mod-eq-of-lt k-few
+
+  axis-count : axisCount store ≡ axes
+  axis-count = ap (be 2 store) list-is ∙ axes-are
+
+  pub header-good : headerOk store ≡ true
+  unfolding headerOk
+  header-good =
+      let a = le-leb 8 (length store) (omega (arith, store-long)) in
+      let b = eq-eqb (be 2 store 0) 1 format-is in
+      let c : eqb (listAt store) 0 ≡ false = ne-eqb (listAt store) 0 (λ z. omega (arith, list-is)) in
+      let d = le-leb (8 + 4 * be 2 store 6) (length store) (omega (arith, store-long, count-is)) in
+      let e = le-leb (listAt store + 4) (length store) (omega (arith, store-long, list-is, list-long)) in
+      let m : 6 * axisCount store * regionCount store ≡ 6 * axes * k = ap₂ (λ (x y : ℕ). 6 * x * y) axis-count regions-are in
+      let f = le-leb (listAt store + 4 + 6 * axisCount store * regionCount store) (length store) (omega (arith, store-long, list-is, list-long)) in
+      rw (a, b, c, d, e, f)
+
+  module _ (short : length store < 256 ^ 4) (o : ℕ) (h : o < length ts) (d : length (getD ts o []) ≡ 0 → ⊥) where
+    abbrev pub place : ℕ
+    place = begin + behind ts o
+
+    pub stands : drop place store ≡ getD ts o [] ++ joinAll (drop (suc o) ts)
+    stands = sym (drop-drop (behind ts o) begin store) ∙ ap (drop (behind ts o)) from-tables ∙ table-at ts o h
+
+    pub inside : place ≤ length store
+    inside =
+        let l = ap length (table-at ts o h) ∙ length-append (getD ts o []) (joinAll (drop (suc o) ts)) in
+        omega (arith, length-drop (behind ts o) (joinAll ts), store-long)
+
+    offset-is : be 4 store (8 + 4 * o) ≡ place
+    offset-is = ap (λ (l : List ℕ). be 4 l (8 + 4 * o)) from-head ∙ offset-at head begin ts (list ++ joinAll ts) o 8 head-long h d (omega (arith, inside))
+
+    pub reads-table : (i q : ℕ) → readStore store o i q ≡ readSubtable store place i q
+    unfolding readStore
+    reads-table i q =
+        let c : leb (be 2 store 6) o ≡ false = ap (λ (m : ℕ). leb m o) count-is ∙ lt-leb n o h in
+        rw (header-good, c, offset-is)
