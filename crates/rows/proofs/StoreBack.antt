@@ -7,16 +7,20 @@ use Prim.Native.Nat.{ℕ, zero, suc, _+_, _-_, _*_, _%_, _^_, _≤_, _<_}
 use native.Mathlib.Nat.{add-zero, mod-eq-of-lt}
 use native.Mathlib.Omega.{arith}
 use lib.Dec.{eqb, leb}
-use lib.ListN.{length, getD, take, drop, length-append, length-drop, length-map, List·getD-map}
+use lib.IntN.{ℤ, pos, negsuc}
+use lib.ListN.{length, getD, take, drop, length-append, length-drop, length-map, List·getD-map, List·getD-eq-default}
 use lib.Seq.{drop-drop, drop-at}
-use borrow.Author.Tests.{le-leb, lt-leb, eq-eqb, ne-eqb}
+use borrow.Author.Tests.{le-leb, lt-leb, eq-eqb, ne-eqb, eqb-true}
 use Rattle.laws.specs.Every.{All}
 use Rattle.laws.specs.Bytes.{be, bytesOf}
+use Rattle.laws.specs.Signed.{isZero}
+use Rattle.shapes.specs.Width.{widthOf, costOf}
+use Rattle.shapes.proofs.WidthLaws.{cost-none}
 use Rattle.laws.specs.Bounded.{upTo}
 use Rattle.laws.specs.Sorting.{keep}
 use Rattle.laws.proofs.EveryLaws.{all-imp, all-intro, all-getD}
 use Rattle.laws.proofs.BytesLaws.{bytes-length, be-bytes, be-drop}
-use Rattle.laws.proofs.Cases.{Which, which, lt-or-ge, Tri, tri}
+use Rattle.laws.proofs.Cases.{Which, which, lt-or-ge, same-or-not, Tri, tri}
 use Rattle.laws.proofs.Cases.Which.{holds, fails}
 use Rattle.laws.proofs.Cases.Tri.{below, same, above}
 use Rattle.shapes.specs.Shape.{Shape}
@@ -24,14 +28,17 @@ use Rattle.rows.specs.declared.column.Column.{Column}
 use Rattle.rows.specs.declared.column.Column.the-variants.{At, Missing}
 use Rattle.rows.specs.declared.reader.Reading.{Reading}
 use Rattle.rows.specs.declared.reader.Reading.the-variants.{Written, NoColumn, Refused}
-use Rattle.rows.specs.Store.{listAt, axisCount, regionCount, headerOk, find, absent, columnsOk, readSubtable, readStore}
-use Rattle.rows.specs.Columns.{columnsOf}
+use Rattle.rows.specs.Store.{listAt, axisCount, regionCount, headerOk, find, absent, columnsOk, columnAt, readSubtable, readStore, valueOf}
+use Rattle.rows.specs.Columns.{columnsOf, wordCount}
 use Rattle.rows.specs.Row.{Set, valueIn, Widths, Covers}
-use Rattle.rows.specs.Placing.{joinAll, offsetsOf, placed, subtableOf}
+use Rattle.rows.specs.Placing.{Final, allRuns, names, keptOf, newIndex, joinAll, offsetsOf, listOf, placed, subtableOf, storeOf}
 use Rattle.rows.proofs.StoreLaws.{find-below, find-at, absent-at, ok-intro, ok-once}
 use Rattle.rows.proofs.ColumnsLaws.{columns-in, columns-ok, columns-has, columns-lack, find-is}
 use Rattle.rows.proofs.RowLaws.{getD-map}
-use Rattle.rows.proofs.RegionLaws.{kept-in, kept-out}
+use Rattle.rows.proofs.RegionLaws.{kept-in, kept-out, kept-most}
+use Rattle.rows.proofs.GroupLaws.{ok-more}
+use Rattle.rows.proofs.SizeLaws.{size-some}
+use Rattle.rows.proofs.PlacedLaws.{sub-length}
 use Rattle.rows.proofs.TableBack.{reads-none, reads-value}
 
 -- ---- new numbers
@@ -253,3 +260,139 @@ module _ (axes k : ℕ) (coords : List ℕ) (ts : List (List ℕ)) (axes-few : a
     reads-table i q =
         let c : leb (be 2 store 6) o ≡ false = ap (λ (m : ℕ). leb m o) count-is ∙ lt-leb n o h in
         rw (header-good, c, offset-is)
+
+-- ---- the store of the definition
+
+zero-value : (z : ℤ) → isZero z ≡ true → z ≡ pos 0
+unfolding isZero
+zero-value (pos m) e = ap pos (eqb-true m 0 e)
+zero-value (negsuc m) e = let z : _≡_ {A = ℕ} 0 1 = cc in absurd (omega arith)
+
+abbrev none : Final
+none = record { shape = []; ids = [] }
+
+-- what a run must be: its widths are widths, its regions are among the list's, and its shape covers its sets
+pub record Sound (coords : List (List ℕ)) (set : ℕ → Set) (gs : List Final) (run : Final) : Type 0 where
+  pub long : length (run .shape) ≤ length coords
+  pub widths : Widths (run .shape)
+  pub named : (r : ℕ) → 0 < getD (run .shape) r 0 → names r gs ≡ true
+  pub items : length (run .ids) < 65536
+  pub covers : (i : ℕ) → i < length (run .ids) → Covers (run .shape) (set (getD (run .ids) i 0))
+
+module _ (axes : ℕ) (coords : List (List ℕ)) (set : ℕ → Set) (gs : List Final) (axes-few : axes < 65536) (regions-few : length coords < 32768)
+    (coords-long : length (joinAll (map (λ r. getD coords r []) (keptOf (length coords) gs))) ≡ 6 * axes * length (keptOf (length coords) gs))
+    (runs-few : length (allRuns gs) < 65536) (short : length (storeOf axes coords set gs) < 256 ^ 4)
+    (o : ℕ) (h : o < length (allRuns gs)) (sound : Sound coords set gs (getD (allRuns gs) o none))
+    (i : ℕ) (row : i < length (getD (allRuns gs) o none .ids)) (r : ℕ) (region : r < length coords) (kept : names r gs ≡ true) where
+  abbrev run : Final
+  run = getD (allRuns gs) o none
+
+  abbrev p : ℕ → Bool
+  p q = names q gs
+
+  abbrev T : Final → List ℕ
+  T g = subtableOf (newIndex gs) set (g .shape) (g .ids)
+
+  abbrev ts : List (List ℕ)
+  ts = map T (allRuns gs)
+
+  abbrev k : ℕ
+  k = length (keptOf (length coords) gs)
+
+  k-few : k < 65536
+  k-few = omega (arith, kept-most p (length coords))
+
+  ts-long : length ts ≡ length (allRuns gs)
+  ts-long = length-map (allRuns gs) T
+
+  ts-few : length ts < 65536
+  ts-few = omega (arith, ts-long)
+
+  same-store : storeOf axes coords set gs ≡ store axes k (joinAll (map (λ r. getD coords r []) (keptOf (length coords) gs))) ts axes-few k-few coords-long ts-few
+  unfolding storeOf listOf
+  same-store = refl
+
+  table-is : getD ts o [] ≡ T run
+  unfolding subtableOf
+  table-is = List·getD-map T (allRuns gs) o none
+
+  few : length (run .shape) < 32768
+  few = omega (arith, sound .long)
+
+  some : length (run .ids) ≡ 0 → ⊥
+  some e = omega arith
+
+  table-some : length (getD ts o []) ≡ 0 → ⊥
+  table-some e =
+      let l = ap length table-is ∙ sub-length (newIndex gs) set (run .shape) (run .ids) few in
+      let s = size-some (length (columnsOf (run .shape))) (columnAt (wordCount (run .shape)) (length (columnsOf (run .shape)))) (length (run .ids)) some in
+      omega arith
+
+  abbrev S : List ℕ
+  S = store axes k (joinAll (map (λ r. getD coords r []) (keptOf (length coords) gs))) ts axes-few k-few coords-long ts-few
+
+  abbrev A : ℕ
+  A = begin axes k (joinAll (map (λ r. getD coords r []) (keptOf (length coords) gs))) ts axes-few k-few coords-long ts-few + behind ts o
+
+  abbrev cols : List ℕ
+  cols = columnsOf (run .shape)
+
+  here : o < length ts
+  here = omega (arith, ts-long)
+
+  brief : length S < 256 ^ 4
+  brief = rw same-store at short
+
+  column-in : (j : ℕ) → j < length cols → (getD cols j 0 < length coords) × (names (getD cols j 0) gs ≡ true)
+  column-in j l =
+      let c = all-getD (λ q. (q < length (run .shape)) × (0 < getD (run .shape) q 0)) cols j 0 (columns-in (run .shape)) l in
+      (omega (arith, c .0, sound .long), sound .named (getD cols j 0) (c .1))
+
+  ok : columnsOk (length coords) cols ≡ true
+  ok = ok-more (length (run .shape)) (length coords) cols (columns-ok (run .shape)) (sound .long)
+
+  low : All (λ q. newIndex gs q < 65536) cols
+  low = all-imp (λ q c. omega (arith, c .0, kept-most p q, sound .long)) cols (columns-in (run .shape))
+
+  good : columnsOk (regionCount S) (map (newIndex gs) cols) ≡ true
+  good = rw (regions-are axes k (joinAll (map (λ r. getD coords r []) (keptOf (length coords) gs))) ts axes-few k-few coords-long ts-few) (numbers-ok p (length coords) cols ok (λ j l. column-in j l .0) (λ j l. column-in j l .1))
+
+  known : newIndex gs r < regionCount S
+  known = rw (regions-are axes k (joinAll (map (λ r. getD coords r []) (keptOf (length coords) gs))) ts axes-few k-few coords-long ts-few) (index-less p r (length coords) kept region)
+
+  there : drop A S ≡ subtableOf (newIndex gs) set (run .shape) (run .ids) ++ joinAll (drop (suc o) ts)
+  there = stands axes k (joinAll (map (λ r. getD coords r []) (keptOf (length coords) gs))) ts axes-few k-few coords-long ts-few brief o here table-some ∙ ap (λ (t : List ℕ). t ++ joinAll (drop (suc o) ts)) table-is
+
+  within : A ≤ length S
+  within = inside axes k (joinAll (map (λ r. getD coords r []) (keptOf (length coords) gs))) ts axes-few k-few coords-long ts-few brief o here table-some
+
+  to-table : readStore (storeOf axes coords set gs) o i (newIndex gs r) ≡ readSubtable S A i (newIndex gs r)
+  to-table = ap (λ (s : List ℕ). readStore s o i (newIndex gs r)) same-store ∙ reads-table axes k (joinAll (map (λ r. getD coords r []) (keptOf (length coords) gs))) ts axes-few k-few coords-long ts-few brief o here table-some i (newIndex gs r)
+
+  not-null : A ≡ 0 → ⊥
+  not-null e = omega arith
+
+  -- no column where the run's shape has no width for the region
+  pub store-none : getD (run .shape) r 0 ≡ 0 → readStore (storeOf axes coords set gs) o i (newIndex gs r) ≡ NoColumn
+  store-none e =
+      to-table ∙ reads-none S A (newIndex gs) set (run .shape) (run .ids) (joinAll (drop (suc o) ts)) few some (sound .items) low within there good not-null i (newIndex gs r) row known
+      (numbers-none p (length coords) cols ok (λ j l. column-in j l .0) (λ j l. column-in j l .1) r kept (columns-lack (run .shape) r e))
+
+  -- else the value that the row's set has for it, sign included
+  pub store-value : (getD (run .shape) r 0 ≡ 0 → ⊥) → readStore (storeOf axes coords set gs) o i (newIndex gs r) ≡ Written (valueIn (set (getD (run .ids) i 0)) r)
+  store-value d =
+      let inn : r < length (run .shape) = ⊎-elim (λ l. l) (λ l. absurd (d (List·getD-eq-default (run .shape) 0 l))) (lt-or-ge r (length (run .shape))) in
+      let j = columns-has (run .shape) r inn (omega arith) (sound .widths .most r) (sound .widths .one-of r) in
+      let f : find r 0 cols ≡ At (j .0) = find-is (length coords) cols r (j .0) ok (j .1) (j .2) in
+      let g = numbers-at p (length coords) cols ok (λ j l. column-in j l .0) (λ j l. column-in j l .1) r (j .0) f in
+      to-table
+      ∙ reads-value S A (newIndex gs) set (run .shape) (run .ids) (joinAll (drop (suc o) ts)) few some (sound .items) low within there good not-null i (newIndex gs r) row known (j .0) g (sound .widths) (sound .covers i row)
+      ∙ ap (λ (q : ℕ). Written (valueIn (set (getD (run .ids) i 0)) q)) (j .2)
+
+  -- in sum: what is read is the value of the row's set, zero where it has none
+  pub store-back : valueOf (readStore (storeOf axes coords set gs) o i (newIndex gs r)) ≡ valueIn (set (getD (run .ids) i 0)) r
+  unfolding valueOf
+  store-back = ⊎-elim
+      (λ (e : getD (run .shape) r 0 ≡ 0). ap valueOf (store-none e) ∙ sym (zero-value (valueIn (set (getD (run .ids) i 0)) r) (cost-none (valueIn (set (getD (run .ids) i 0)) r) (omega (arith, sound .covers i row .holds r)))))
+      (λ d. ap valueOf (store-value d))
+      (same-or-not (getD (run .shape) r 0) 0)
