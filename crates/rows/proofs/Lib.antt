@@ -15,3 +15,5 @@ pub mod SizeLaws
 pub mod SpotLaws
 pub mod PlacedLaws
 pub mod MapLaws
+pub mod TableBack
+pub mod StoreBack

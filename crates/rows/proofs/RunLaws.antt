@@ -32,7 +32,7 @@ pub head-length : (items word count : ℕ) → length (headBytes items word coun
 head-length items word count = simp length-append (omega (arith, bytes-length 2 items, bytes-length 2 word, bytes-length 2 count))
 
 module _ (number : ℕ → ℕ) (word : ℕ) (cols : List ℕ) (set : ℕ → Set) where
-  table-some : (xs : List ℕ) → (length xs ≡ 0 → ⊥)
+  pub table-some : (xs : List ℕ) → (length xs ≡ 0 → ⊥)
       → tableBytes number word cols set xs ≡ headBytes (length xs) word (length cols) ++ (indexBytes number cols ++ rowsBytes word cols set xs)
   unfolding tableBytes
   table-some [] n = absurd (n refl)

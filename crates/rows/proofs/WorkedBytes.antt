@@ -11,7 +11,7 @@ use Rattle.shapes.specs.Shape.{Shape, rowCost, columns, overhead}
 use Rattle.shapes.specs.Group.{groupCost}
 use Rattle.rows.specs.Columns.{addIf, ofWidth, columnsOf, wordCount, bytesFor}
 use Rattle.rows.specs.Row.{Set, wordIn, cellsOf, rowOf}
-use Rattle.rows.specs.Placing.{Final, joinAll, runCount, runsOf, allRuns, inRun, idWords, names, keptOf, indexBytes, rowsOf, subtableOf, offsetsOf, listOf, placed, storeOf, modelled, forecastOf}
+use Rattle.rows.specs.Placing.{Final, joinAll, runCount, runsOf, allRuns, inRun, idWords, names, keptOf, indexBytes, rowsOf, subtableOf, offsetsOf, listOf, placed, storeOf, modelOf, modelled, forecastOf}
 
 -- R0 and R1
 abbrev r0 : List ℕ
@@ -84,5 +84,5 @@ answers =
     ∷ []
 
 pub p3-p4-p5-p7 : map built jobs ≡ answers
-unfolding bytesOf twos value tabulate keep rowCost columns overhead groupCost addIf ofWidth columnsOf wordCount bytesFor wordIn cellsOf rowOf joinAll runCount runsOf allRuns inRun idWords names indexBytes rowsOf subtableOf offsetsOf listOf placed storeOf modelled forecastOf
+unfolding bytesOf twos value tabulate keep rowCost columns overhead groupCost addIf ofWidth columnsOf wordCount bytesFor wordIn cellsOf rowOf joinAll runCount runsOf allRuns inRun idWords names indexBytes rowsOf subtableOf offsetsOf listOf placed storeOf modelOf modelled forecastOf
 p3-p4-p5-p7 = refl

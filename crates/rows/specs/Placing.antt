@@ -104,9 +104,12 @@ storeOf axes coords set gs =
 
 -- ---- "The forecast is 12 + 6 x axes x regions kept + the model's cost of each final group written + 4 per null subtable."
 
+unfoldable pub modelOf : Final → ℕ
+modelOf g = pick (eqb (length (g .ids)) 0) 4 (groupCost (record { shape = g .shape; sets = length (g .ids) }))
+
 unfoldable pub modelled : List Final → ℕ
 modelled [] = 0
-modelled (g ∷ gs) = pick (eqb (length (g .ids)) 0) 4 (groupCost (record { shape = g .shape; sets = length (g .ids) })) + modelled gs
+modelled (g ∷ gs) = modelOf g + modelled gs
 
 unfoldable pub forecastOf : ℕ → ℕ → List Final → ℕ
 forecastOf axes kept gs = 12 + 6 * axes * kept + modelled gs

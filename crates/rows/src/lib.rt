@@ -6,6 +6,7 @@ mod groups;
 mod ids;
 mod list;
 mod outline;
+mod outlook;
 mod reader;
 mod regions;
 mod row;
