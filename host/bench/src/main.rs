@@ -22,7 +22,7 @@ const INPUTS: [(Kind, usize, usize); 8] = [
 ];
 
 /// The best of at least so many runs is told, and of more where they are short.
-const RUNS: usize = 7;
+const RUNS: usize = 5;
 
 /// How long the runs of an input go on at least, up to [`MOST`].
 const ENOUGH: Duration = Duration::from_secs(2);
@@ -45,7 +45,7 @@ fn main() -> ExitCode {
         return ExitCode::FAILURE;
     }
     println!(
-        "Best of {RUNS} to {MOST} runs, in ms. merge: merging alone; build: the source's whole."
+        "Best of {RUNS} to {MOST} runs, in ms of processor time. merge: merging alone; build: the source's whole."
     );
     println!();
     println!("| shapes x regions | kind | merges | pairs weighed | source: build | source: merge | library: merge | source / library |");
@@ -93,8 +93,9 @@ fn times(input: &Input) -> Best {
         if run >= RUNS && began.elapsed() >= ENOUGH {
             break;
         }
-        let source = oracle::build_timed(job.axes as u16, &job.regions, &job.sets)
-            .expect("the source is there");
+        let source =
+            oracle::build_timed(job.axes as u16, &job.regions, &job.sets, library::cpu_time)
+                .expect("the source is there");
         let ours = library::optimize(&input.groups, &input.order, &mut work);
         best.optimize = best.optimize.min(source.optimize);
         best.build = best.build.min(source.build);

@@ -18,8 +18,6 @@ pub mod vectors;
 pub use trace::Trace;
 
 use std::time::Duration;
-#[cfg(source)]
-use std::time::Instant;
 
 use jobs::Region;
 #[cfg(source)]
@@ -53,7 +51,8 @@ pub type Set = Vec<(u8, i32)>;
 /// Where the source does: in mode 1 above 65,535 sets.
 pub fn build(axes: u16, mode: u32, regions: &[Region], sets: &[Set]) -> Option<Built> {
     let regions: Vec<VariationRegion> = regions.iter().map(region).collect();
-    ask(axes, mode, &regions, sets).map(|(built, _)| built)
+    let untimed = || Duration::ZERO;
+    ask(axes, mode, &regions, sets, untimed).map(|(built, _)| built)
 }
 
 /// [`build`], with what the source tells of its merging.
@@ -76,12 +75,17 @@ pub struct Times {
     pub optimize: Duration,
 }
 
-/// Builds twice with the source, in mode 0, and takes the times. Not for where
-/// another thread listens.
-pub fn build_timed(axes: u16, regions: &[Region], sets: &[Set]) -> Option<Times> {
+/// Builds twice with the source, in mode 0, and takes the times by `now`. Not for
+/// where another thread listens.
+pub fn build_timed(
+    axes: u16,
+    regions: &[Region],
+    sets: &[Set],
+    now: fn() -> Duration,
+) -> Option<Times> {
     let regions: Vec<VariationRegion> = regions.iter().map(region).collect();
-    let (_, build) = trace::quietly(|| ask(axes, 0, &regions, sets))?;
-    let (_, optimize) = trace::time(|| ask(axes, 0, &regions, sets));
+    let (_, build) = trace::quietly(|| ask(axes, 0, &regions, sets, now))?;
+    let (_, optimize) = trace::time(now, || ask(axes, 0, &regions, sets, now));
     optimize.map(|optimize| Times { build, optimize })
 }
 
@@ -90,13 +94,14 @@ fn region(region: &Region) -> VariationRegion {
     VariationRegion::new(region.iter().map(axis).collect())
 }
 
-/// What the source answers, and how long its `build` took.
+/// What the source answers, and how long its `build` took by `now`.
 #[cfg(source)]
 fn ask(
     axes: u16,
     mode: u32,
     regions: &[VariationRegion],
     sets: &[Set],
+    now: fn() -> Duration,
 ) -> Option<(Built, Duration)> {
     let mut builder = if mode == 0 {
         VariationStoreBuilder::new(axes)
@@ -108,9 +113,9 @@ fn ask(
         .iter()
         .map(|set| builder.add_deltas(set.iter().map(value).collect::<Vec<_>>()))
         .collect();
-    let began = Instant::now();
+    let began = now();
     let (store, remapping) = builder.build();
-    let took = began.elapsed();
+    let took = now() - began;
     let last = ids.iter().max().map_or(0, |&id| id + 1);
     let word = |id: u32| {
         let index = remapping.get(id).expect("the source maps every id");
@@ -125,7 +130,13 @@ fn ask(
 }
 
 #[cfg(not(source))]
-fn ask(_: u16, _: u32, _: &[VariationRegion], _: &[Set]) -> Option<(Built, Duration)> {
+fn ask(
+    _: u16,
+    _: u32,
+    _: &[VariationRegion],
+    _: &[Set],
+    _: fn() -> Duration,
+) -> Option<(Built, Duration)> {
     None
 }
 

@@ -5,7 +5,7 @@
 use std::cell::{Cell, RefCell};
 use std::fmt::{self, Write};
 use std::sync::Once;
-use std::time::{Duration, Instant};
+use std::time::Duration;
 
 /// What one build told. Empty in mode 1, where nothing is merged.
 #[derive(Clone, Debug, Default, PartialEq, Eq)]
@@ -32,11 +32,12 @@ thread_local! {
     static CLOCK: Cell<Option<Clock>> = const { Cell::new(None) };
 }
 
-/// When merging began and ended.
-#[derive(Clone, Copy, Default)]
+/// When merging began and ended, by a function that tells the time.
+#[derive(Clone, Copy)]
 struct Clock {
-    began: Option<Instant>,
-    ended: Option<Instant>,
+    now: fn() -> Duration,
+    began: Option<Duration>,
+    ended: Option<Duration>,
 }
 
 /// Does `work` and gives what the source told of it.
@@ -48,15 +49,20 @@ pub fn listen<T>(work: impl FnOnce() -> T) -> (T, Trace) {
     (done, trace.unwrap_or_default())
 }
 
-/// Does `work` and gives the time from the source's line before its merging to
-/// the line after it. No line is written out; each is looked at by its first
+/// Does `work` and gives the time, by `now`, from the source's line before its
+/// merging to the line after it. No line is written out; each is looked at by its first
 /// piece, and costs some nanoseconds.
-pub fn time<T>(work: impl FnOnce() -> T) -> (T, Option<Duration>) {
+pub fn time<T>(now: fn() -> Duration, work: impl FnOnce() -> T) -> (T, Option<Duration>) {
     start();
-    CLOCK.with(|clock| clock.set(Some(Clock::default())));
+    let clock = Clock {
+        now,
+        began: None,
+        ended: None,
+    };
+    CLOCK.with(|at| at.set(Some(clock)));
     let done = work();
-    let clock = CLOCK.with(Cell::take).unwrap_or_default();
-    let span = clock.began.zip(clock.ended);
+    let clock = CLOCK.with(Cell::take);
+    let span = clock.and_then(|clock| clock.began.zip(clock.ended));
     (done, span.map(|(began, ended)| ended - began))
 }
 
@@ -116,8 +122,8 @@ impl Clock {
         // It gives up after the first piece.
         let _ = first.write_fmt(*line);
         match first {
-            FirstPiece::Before => self.began = Some(Instant::now()),
-            FirstPiece::After => self.ended = Some(Instant::now()),
+            FirstPiece::Before => self.began = Some((self.now)()),
+            FirstPiece::After => self.ended = Some((self.now)()),
             FirstPiece::Other => {}
         }
     }
