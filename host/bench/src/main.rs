@@ -56,7 +56,7 @@ fn main() -> ExitCode {
         let best = times(&input);
         let ratio = best.optimize.as_secs_f64() / best.library.as_secs_f64();
         println!(
-            "| {shapes} x {regions} | {} | {merges} | {weighed} | {:.2} | {:.2} | {:.2} | {ratio:.1} |",
+            "| {shapes} x {regions} | {} | {merges} | {weighed} | {:.2} | {:.2} | {:.2} | {ratio:.2} |",
             kind.name(),
             ms(best.build),
             ms(best.optimize),
