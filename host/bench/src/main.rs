@@ -54,7 +54,9 @@ fn main() -> ExitCode {
         let input = input(kind, shapes, regions, SEED);
         let (merges, weighed) = same(&input);
         let best = times(&input);
-        let ratio = best.optimize.as_secs_f64() / best.library.as_secs_f64();
+        // Listening costs the source something; its whole build, unheard, bounds that.
+        let source = best.optimize.min(best.build);
+        let ratio = source.as_secs_f64() / best.library.as_secs_f64();
         println!(
             "| {shapes} x {regions} | {} | {merges} | {weighed} | {:.2} | {:.2} | {:.2} | {ratio:.2} |",
             kind.name(),
