@@ -3,7 +3,7 @@
 #   make run    the main job on the example that ships
 #   make test   everything that is tested: what .ci/run runs
 #   make check  the proofs alone, what changed since they last passed
-#   make bench  the times of the library beside the Rust
+#   make bench  the times of the proved merging beside the source's; docs/BENCH.md
 #   make fmt    the layout of every file
 
 .PHONY: run test bench check fmt
@@ -16,7 +16,7 @@ test:
 	./tests/run
 
 bench:
-	@echo "bench: the library is not built yet; nothing to measure"
+	$(MAKE) -C host --no-print-directory bench
 
 check:
 	rt check

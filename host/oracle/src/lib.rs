@@ -7,7 +7,8 @@
 //! [`Store::bytes`] places that as document 01 says. [`vectors`] writes and reads
 //! recorded answers, for where the source is not.
 //!
-//! The source tells what it merges by `log::trace!`; [`build_traced`] listens.
+//! The source tells what it merges by `log::trace!`; [`build_traced`] listens, and
+//! [`build_timed`] takes times.
 
 mod placing;
 pub mod tables;
@@ -15,6 +16,8 @@ mod trace;
 pub mod vectors;
 
 pub use trace::Trace;
+
+use std::time::Duration;
 
 use jobs::Region;
 #[cfg(source)]
@@ -48,7 +51,8 @@ pub type Set = Vec<(u8, i32)>;
 /// Where the source does: in mode 1 above 65,535 sets.
 pub fn build(axes: u16, mode: u32, regions: &[Region], sets: &[Set]) -> Option<Built> {
     let regions: Vec<VariationRegion> = regions.iter().map(region).collect();
-    ask(axes, mode, &regions, sets)
+    let untimed = || Duration::ZERO;
+    ask(axes, mode, &regions, sets, untimed).map(|(built, _)| built)
 }
 
 /// [`build`], with what the source tells of its merging.
@@ -62,13 +66,43 @@ pub fn build_traced(
     built.map(|built| (built, trace))
 }
 
+/// How long the source took.
+#[derive(Clone, Copy, Debug)]
+pub struct Times {
+    /// Its whole `build`, with nobody listening. (Adding the sets is not in it.)
+    pub build: Duration,
+    /// Its merging alone (`Encoder::optimize`), in a build of its own.
+    pub optimize: Duration,
+}
+
+/// Builds twice with the source, in mode 0, and takes the times by `now`. Not for
+/// where another thread listens.
+pub fn build_timed(
+    axes: u16,
+    regions: &[Region],
+    sets: &[Set],
+    now: fn() -> Duration,
+) -> Option<Times> {
+    let regions: Vec<VariationRegion> = regions.iter().map(region).collect();
+    let (_, build) = trace::quietly(|| ask(axes, 0, &regions, sets, now))?;
+    let (_, optimize) = trace::time(now, || ask(axes, 0, &regions, sets, now));
+    optimize.map(|optimize| Times { build, optimize })
+}
+
 fn region(region: &Region) -> VariationRegion {
     let axis = |c: &[i16; 3]| RegionAxisCoordinates::from(*c);
     VariationRegion::new(region.iter().map(axis).collect())
 }
 
+/// What the source answers, and how long its `build` took by `now`.
 #[cfg(source)]
-fn ask(axes: u16, mode: u32, regions: &[VariationRegion], sets: &[Set]) -> Option<Built> {
+fn ask(
+    axes: u16,
+    mode: u32,
+    regions: &[VariationRegion],
+    sets: &[Set],
+    now: fn() -> Duration,
+) -> Option<(Built, Duration)> {
     let mut builder = if mode == 0 {
         VariationStoreBuilder::new(axes)
     } else {
@@ -79,21 +113,30 @@ fn ask(axes: u16, mode: u32, regions: &[VariationRegion], sets: &[Set]) -> Optio
         .iter()
         .map(|set| builder.add_deltas(set.iter().map(value).collect::<Vec<_>>()))
         .collect();
+    let began = now();
     let (store, remapping) = builder.build();
+    let took = now() - began;
     let last = ids.iter().max().map_or(0, |&id| id + 1);
     let word = |id: u32| {
         let index = remapping.get(id).expect("the source maps every id");
         65_536 * u32::from(index.delta_set_outer_index) + u32::from(index.delta_set_inner_index)
     };
-    Some(Built {
+    let built = Built {
         store,
         map: (0..last).map(word).collect(),
         ids,
-    })
+    };
+    Some((built, took))
 }
 
 #[cfg(not(source))]
-fn ask(_: u16, _: u32, _: &[VariationRegion], _: &[Set]) -> Option<Built> {
+fn ask(
+    _: u16,
+    _: u32,
+    _: &[VariationRegion],
+    _: &[Set],
+    _: fn() -> Duration,
+) -> Option<(Built, Duration)> {
     None
 }
 

@@ -1,9 +1,11 @@
 //! What the source tells of its merging, heard through the real `log` crate: how
-//! many groups there are and what they cost before and after, and each join.
+//! many groups there are and what they cost before and after, and each join; or
+//! only when its merging began and ended.
 
-use std::cell::RefCell;
+use std::cell::{Cell, RefCell};
 use std::fmt::{self, Write};
 use std::sync::Once;
+use std::time::Duration;
 
 /// What one build told. Empty in mode 1, where nothing is merged.
 #[derive(Clone, Debug, Default, PartialEq, Eq)]
@@ -26,20 +28,62 @@ const LINES: [&str; 3] = ["optimizing ", "combining ", "optimized "];
 thread_local! {
     /// The trace of this thread's build, while it is listened to.
     static HEARD: RefCell<Option<Trace>> = const { RefCell::new(None) };
+    /// When this thread's merging began and ended, while it is timed.
+    static CLOCK: Cell<Option<Clock>> = const { Cell::new(None) };
+}
+
+/// When merging began and ended, by a function that tells the time.
+#[derive(Clone, Copy)]
+struct Clock {
+    now: fn() -> Duration,
+    began: Option<Duration>,
+    ended: Option<Duration>,
 }
 
 /// Does `work` and gives what the source told of it.
 pub fn listen<T>(work: impl FnOnce() -> T) -> (T, Trace) {
+    start();
+    HEARD.with(|heard| heard.replace(Some(Trace::default())));
+    let done = work();
+    let trace = HEARD.with(|heard| heard.take());
+    (done, trace.unwrap_or_default())
+}
+
+/// Does `work` and gives the time, by `now`, from the source's line before its
+/// merging to the line after it. No line is written out; each is looked at by its first
+/// piece, and costs some nanoseconds.
+pub fn time<T>(now: fn() -> Duration, work: impl FnOnce() -> T) -> (T, Option<Duration>) {
+    start();
+    let clock = Clock {
+        now,
+        began: None,
+        ended: None,
+    };
+    CLOCK.with(|at| at.set(Some(clock)));
+    let done = work();
+    let clock = CLOCK.with(Cell::take);
+    let span = clock.and_then(|clock| clock.began.zip(clock.ended));
+    (done, span.map(|(began, ended)| ended - began))
+}
+
+/// Does `work` with nobody listening, so that the source tells nothing. Not for
+/// where another thread listens.
+pub fn quietly<T>(work: impl FnOnce() -> T) -> T {
+    let level = log::max_level();
+    log::set_max_level(log::LevelFilter::Off);
+    let done = work();
+    log::set_max_level(level);
+    done
+}
+
+/// Has the source's lines come here.
+fn start() {
     static ONCE: Once = Once::new();
     ONCE.call_once(|| {
         if log::set_logger(&Listener).is_ok() {
             log::set_max_level(log::LevelFilter::Trace);
         }
     });
-    HEARD.with(|heard| heard.replace(Some(Trace::default())));
-    let done = work();
-    let trace = HEARD.with(|heard| heard.take());
-    (done, trace.unwrap_or_default())
 }
 
 struct Listener;
@@ -50,6 +94,12 @@ impl log::Log for Listener {
     }
 
     fn log(&self, record: &log::Record<'_>) {
+        CLOCK.with(|clock| {
+            if let Some(mut at) = clock.get() {
+                at.hear(record.args());
+                clock.set(Some(at));
+            }
+        });
         if !self.enabled(record.metadata()) {
             return;
         }
@@ -64,6 +114,38 @@ impl log::Log for Listener {
     }
 
     fn flush(&self) {}
+}
+
+impl Clock {
+    fn hear(&mut self, line: &fmt::Arguments<'_>) {
+        let mut first = FirstPiece::Other;
+        // It gives up after the first piece.
+        let _ = first.write_fmt(*line);
+        match first {
+            FirstPiece::Before => self.began = Some((self.now)()),
+            FirstPiece::After => self.ended = Some((self.now)()),
+            FirstPiece::Other => {}
+        }
+    }
+}
+
+/// What the first piece of a line says.
+enum FirstPiece {
+    Before,
+    After,
+    Other,
+}
+
+impl Write for FirstPiece {
+    fn write_str(&mut self, part: &str) -> fmt::Result {
+        let [before, _, after] = LINES.map(|l| part.starts_with(l));
+        if before {
+            *self = FirstPiece::Before;
+        } else if after {
+            *self = FirstPiece::After;
+        }
+        Err(fmt::Error)
+    }
 }
 
 impl Trace {

@@ -46,15 +46,25 @@ fn print_done(done: &plain::Done) {
     println!("shapes        {}", counts.shapes);
     println!("merges        {}", counts.merges);
     println!("pairs weighed {}", counts.pairs);
-    println!("modelled size {} to {}", counts.size_before, counts.size_after);
+    println!(
+        "modelled size {} to {}",
+        counts.size_before, counts.size_after
+    );
     println!("forecast      {}", counts.forecast);
     println!("ids           {:?}", done.ids);
     for (id, word) in done.map.iter().enumerate() {
         println!("id {id} at      ({}, {})", word >> 16, word & 0xFFFF);
     }
     for entry in done.log.chunks(3) {
-        println!("joined        {} and {}, gain {}", entry[0], entry[1], entry[2]);
+        println!(
+            "joined        {} and {}, gain {}",
+            entry[0], entry[1], entry[2]
+        );
     }
-    let hex: String = done.store.iter().map(|byte| format!("{byte:02x}")).collect();
+    let hex: String = done
+        .store
+        .iter()
+        .map(|byte| format!("{byte:02x}"))
+        .collect();
     println!("store         {hex}");
 }

@@ -1,0 +1,19 @@
+-- Three words that were written one after the other are what was written. Assumes nothing.
+use mathlib.Core.Path.{_≡_}
+use mathlib.Core.List.{List, [], _∷_}
+use Prim.Native.Nat.{ℕ, _<_}
+use lib.ListN.{length, getD, set, length-set}
+use native.Mathlib.Omega.{arith}
+use Rattle.merging.specs.declared.tables.Tables.{Tables}
+use Rattle.merging.specs.Optimized.{Optimized}
+
+-- there is room for the third after the first two
+pub third : (l : List ℕ) (x y : ℕ) → length l ≡ 3 → 2 < length (set (set l 0 x) 1 y)
+third l x y e = omega (arith, e, length-set (set l 0 x) 1 y, length-set l 0 x)
+
+-- what holds of the three numbers holds of the words
+pub told : (t : Tables) (m x y z : ℕ) (w w′ l : List ℕ) → length l ≡ 3 → Optimized t m x y z w w′ → Optimized t m (getD (set (set (set l 0 x) 1 y) 2 z) 0 0) (getD (set (set (set l 0 x) 1 y) 2 z) 1 0) (getD (set (set (set l 0 x) 1 y) 2 z) 2 0) w w′
+told t m x y z w w′ [] e o = absurd (omega (arith, e))
+told t m x y z w w′ (a ∷ []) e o = absurd (omega (arith, e))
+told t m x y z w w′ (a ∷ b ∷ []) e o = absurd (omega (arith, e))
+told t m x y z w w′ (a ∷ b ∷ c ∷ l) e o = o

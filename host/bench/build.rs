@@ -1,0 +1,36 @@
+//! Has Rattle prove the crate `merging_bench` and compile it, and links what it
+//! wrote. A crate that was proved before and has not changed is not proved again.
+
+use std::env;
+use std::fs;
+use std::path::PathBuf;
+use std::process::Command;
+
+/// The crate, and those that it reaches.
+const CRATES: [&str; 4] = ["laws", "shapes", "merging", "merging_bench"];
+
+fn main() {
+    let here = PathBuf::from(env::var_os("CARGO_MANIFEST_DIR").expect("cargo sets it"));
+    let root = here.join("../..");
+    for name in CRATES {
+        for part in ["src", "specs", "proofs"] {
+            let folder = root.join("crates").join(name).join(part);
+            if folder.is_dir() {
+                println!("cargo:rerun-if-changed={}", folder.display());
+            }
+        }
+    }
+    let done = Command::new("rt")
+        .args(["staticlib", "merging_bench"])
+        .current_dir(&root)
+        .status()
+        .expect("Rattle's command `rt` can be run");
+    assert!(done.success(), "`rt staticlib merging_bench` refused");
+    // A copy, since Rattle's target folder is cleared by its verdict.
+    let out = PathBuf::from(env::var_os("OUT_DIR").expect("cargo sets it"));
+    let archive = "libmerging_bench.a";
+    let written = root.join("target/staticlib").join(archive);
+    fs::copy(written, out.join(archive)).expect("Rattle has written the archive");
+    println!("cargo:rustc-link-search=native={}", out.display());
+    println!("cargo:rustc-link-lib=static=merging_bench");
+}

@@ -1,0 +1,189 @@
+//! The proved merging (`crates/merging`), called through `crates/merging_bench`.
+//!
+//! The contract asks for tables in lent words (`Ready`, with `Laid`, in
+//! `crates/merging/specs`); [`optimize`] lays them out anew before each call, so
+//! that it is met.
+
+// The one module that calls what is not Rust.
+#![allow(unsafe_code)]
+
+use std::time::Duration;
+
+/// A starting group: its shape, a width for each region, and its number of sets.
+pub struct Group {
+    /// 0, 1, 2 or 4 for each region.
+    pub shape: Vec<u32>,
+    /// How many sets it has.
+    pub sets: u32,
+}
+
+/// What one call did.
+pub struct Outcome {
+    /// Each join: first number, second number, gain.
+    pub log: Vec<u32>,
+    /// The pairs that were weighed.
+    pub weighed: u64,
+    /// The modelled size before and after.
+    pub sizes: [u64; 2],
+    /// How long the call took, by [`cpu_time`]; laying out is not in it.
+    pub took: Duration,
+}
+
+extern "C" {
+    /// `crates/merging_bench/src/lib.rt`; a slice is a pointer and a length.
+    fn fenikezo_optimize(
+        work: *mut u32,
+        work_len: usize,
+        regions: usize,
+        groups: usize,
+        slots: usize,
+        order: usize,
+        counts: usize,
+        place: usize,
+        rows: usize,
+        columns: usize,
+        into: usize,
+        log: usize,
+        heap: usize,
+        told: *mut u64,
+        told_len: usize,
+    ) -> usize;
+
+    /// POSIX.
+    fn clock_gettime(clock: i32, time: *mut Timespec) -> i32;
+}
+
+/// A `struct timespec` of 64-bit Linux.
+#[repr(C)]
+struct Timespec {
+    seconds: i64,
+    nanoseconds: i64,
+}
+
+/// Linux's clock of that name.
+const CLOCK_THREAD_CPUTIME_ID: i32 = 3;
+
+/// How long this thread has been on a processor: other work on the machine makes
+/// this longer only by what it takes of caches and memory.
+pub fn cpu_time() -> Duration {
+    let mut time = Timespec {
+        seconds: 0,
+        nanoseconds: 0,
+    };
+    // SAFETY: the pointer is to a timespec that nothing else holds.
+    let status = unsafe { clock_gettime(CLOCK_THREAD_CPUTIME_ID, &mut time) };
+    assert_eq!(status, 0, "the thread's clock can be read");
+    Duration::new(time.seconds as u64, time.nanoseconds as u32)
+}
+
+/// What the words hold that the call is to write before it reads.
+const NOISE: u32 = 0xA5A5_A5A5;
+
+/// Where the tables lie, one behind the other, as `Laid` says.
+struct Tables {
+    order: usize,
+    counts: usize,
+    place: usize,
+    rows: usize,
+    columns: usize,
+    into: usize,
+    log: usize,
+    heap: usize,
+    end: usize,
+}
+
+impl Tables {
+    /// For so many groups and regions; the slots lie at 0.
+    fn new(groups: usize, regions: usize) -> Tables {
+        let order = groups * regions;
+        let counts = order + groups;
+        let place = counts + groups;
+        let rows = place + 2 * groups;
+        let columns = rows + groups;
+        let into = columns + groups;
+        let log = into + 2 * groups;
+        let heap = log + 3 * groups;
+        let waiting = groups.saturating_sub(1).pow(2);
+        Tables {
+            order,
+            counts,
+            place,
+            rows,
+            columns,
+            into,
+            log,
+            heap,
+            end: heap + 3 * waiting,
+        }
+    }
+}
+
+/// Merges the groups, which lie in slots as they are given and are numbered as
+/// `order` says: number i is group `order[i]`. `work` is used again from call to
+/// call, and is filled with noise before the tables are laid out in it.
+///
+/// # Panics
+/// Where the groups are not as the contract asks.
+pub fn optimize(groups: &[Group], order: &[usize], work: &mut Vec<u32>) -> Outcome {
+    let count = groups.len();
+    let regions = groups.first().map_or(0, |g| g.shape.len());
+    check(groups, order, regions);
+    let t = Tables::new(count, regions);
+    work.clear();
+    work.resize(t.end, NOISE);
+    for (s, group) in groups.iter().enumerate() {
+        work[s * regions..(s + 1) * regions].copy_from_slice(&group.shape);
+        work[t.counts + s] = group.sets;
+    }
+    for (i, &s) in order.iter().enumerate() {
+        work[t.order + i] = s as u32;
+    }
+    let mut told = [0; 3];
+    let began = cpu_time();
+    // SAFETY: both pointers come with the lengths of what they point to, which
+    // nothing else holds, and the contract's `requires` are met: `check` has seen
+    // few groups and regions, narrow shapes, a slot of its own for each number and
+    // few sets, `Tables::new` lays the tables one behind the other, and `told` has
+    // three words.
+    let merges = unsafe {
+        fenikezo_optimize(
+            work.as_mut_ptr(),
+            work.len(),
+            regions,
+            count,
+            0,
+            t.order,
+            t.counts,
+            t.place,
+            t.rows,
+            t.columns,
+            t.into,
+            t.log,
+            t.heap,
+            told.as_mut_ptr(),
+            told.len(),
+        )
+    };
+    let took = cpu_time() - began;
+    let [weighed, before, after] = told;
+    Outcome {
+        log: work[t.log..t.log + 3 * merges].to_vec(),
+        weighed,
+        sizes: [before, after],
+        took,
+    }
+}
+
+/// What the contract's `requires` ask of the groups.
+fn check(groups: &[Group], order: &[usize], regions: usize) {
+    assert!(groups.len() <= 1024 && regions <= 65_536, "too many");
+    for group in groups {
+        assert_eq!(group.shape.len(), regions, "shapes of one length");
+        assert!(group.shape.iter().all(|&w| w <= 4), "narrow shapes");
+    }
+    let mut slots = order.to_vec();
+    slots.sort_unstable();
+    assert!(slots.iter().copied().eq(0..groups.len()), "a slot each");
+    let sets: u64 = groups.iter().map(|g| u64::from(g.sets)).sum();
+    assert!(sets < 1 << 32, "few sets");
+}
