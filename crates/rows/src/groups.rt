@@ -33,10 +33,10 @@ fn write_group(
     requires { ⌜ at + length (runsBytes (subtableOf (numberIn (now numbers)) (setAt index (now work)) (now shape)) (seg ids count (now work))) ≤ length (now out) ⌝ }
     ensures { λ r. ⌜ Put at (runsBytes (subtableOf (numberIn (now (numbers .entry))) (setAt index (now (work .entry))) (now (shape .entry))) (seg ids count (now (work .entry)))) (now (out .entry)) (now (out .exit)) r ⌝ }
 {
-    let mut cols = [0u32; 256];
+    let mut cols = [0u32; REGIONS];
     let form = columns(shape, &mut cols);
     let n = form.count;
-    let mut places = [0u32; 256];
+    let mut places = [0u32; REGIONS];
     place(&cols[..n], &mut places);
     write_runs(
         out,

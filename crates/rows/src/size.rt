@@ -3,6 +3,7 @@ use crate::bytes::put;
 use crate::column::Form;
 use crate::column::column_at;
 use crate::column::columns;
+use crate::groups::REGIONS;
 use crate::subtable::run_count;
 use crate::subtable::run_items;
 ghost use mathlib.Core.Path.{_≡_};
@@ -57,7 +58,7 @@ fn form_of(work: &[u32], regions: usize, group: usize, index: usize) -> Form
     ensures { λ r. ⌜ FormOf (finalAt regions (now (work .entry)) group) (r .word) (r .count) ⌝ }
 {
     let shape = work[group] as usize;
-    let mut cols = [0u32; 256];
+    let mut cols = [0u32; REGIONS];
     columns(&work[shape..shape + regions], &mut cols)
 }
 
