@@ -15,5 +15,10 @@ mod store;
 mod subtable;
 
 pub use column::Column;
+pub use ids::write_map;
+pub use outline::Plan;
+pub use outline::draft;
+pub use outlook::forecast;
 pub use reader::Reading;
 pub use reader::read;
+pub use store::write_store;
