@@ -60,27 +60,30 @@ module _ {t : HomeTables} {old : List ℕ} (f : HomesFit t old) where
     before : (k : ℕ) → k < t .home → getD new k 0 ≡ getD old k 0
     before k h = s .only .kept k (record { apart = λ x. absurd (omega arith) }, tt)
 
+    behind : (k : ℕ) → t .home + t .groups ≤ k → getD new k 0 ≡ getD old k 0
+    behind k h = s .only .kept k (record { apart = λ x. omega arith }, tt)
+
     module _ (h : i < t .groups) where
       pub from-same : getD new (t .from + i) 0 ≡ slotFrom t old i
       from-same = before (t .from + i) (omega (arith, f .from-to))
 
       into-same : getD new (t .into + i) 0 ≡ getD old (t .into + i) 0
-      into-same = before (t .into + i) (omega (arith, f .into-to))
+      into-same = behind (t .into + i) (omega (arith, f .home-into))
 
       pub heir-below : t .place + getD new (t .into + i) 0 < length new
-      heir-below = rw into-same (omega (arith, f .heir i h, f .room, s .only .long))
+      heir-below = rw into-same (omega (arith, f .heir i h, s .only .long))
 
       pub heir-same : getD new (t .place + getD new (t .into + i) 0) 0 ≡ heirPlace t old i
-      heir-same = rw into-same (before (t .place + getD old (t .into + i) 0) (f .heir i h))
+      heir-same = rw into-same (behind (t .place + getD old (t .into + i) 0) (omega (arith, f .home-place)))
 
       pub heir-lives : 0 < getD new (t .place + getD new (t .into + i) 0) 0
       heir-lives = rw heir-same (f .lives i h)
 
       pub heir-spot : t .spot + (getD new (t .place + getD new (t .into + i) 0) 0 - 1) < length new
-      heir-spot = rw heir-same (omega (arith, f .spot-to i h, f .room, s .only .long))
+      heir-spot = rw heir-same (omega (arith, f .spot-to i h, s .only .long))
 
       pub home-below : t .home + getD new (t .from + i) 0 < length new
-      home-below = rw from-same (omega (arith, f .below i h, f .room, s .only .long))
+      home-below = rw from-same (omega (arith, f .below i h, f .home-into, f .room, s .only .long))
 
       pub home-more : (a b c : ℕ) → a ≡ getD new (t .from + i) 0 → b ≡ getD new (t .into + i) 0 → c ≡ getD new (t .place + b) 0
           → Homing t old (set new (t .home + a) (getD new (t .spot + (c - 1)) 0)) (i + 1)
@@ -88,14 +91,14 @@ module _ {t : HomeTables} {old : List ℕ} (f : HomesFit t old) where
           let x = slotFrom t old i in
           let v = getD old (t .spot + (heirPlace t old i - 1)) 0 in
           let c-is : c ≡ heirPlace t old i = r ∙ ap (λ (y : ℕ). getD new (t .place + y) 0) q ∙ heir-same in
-          let v-is : getD new (t .spot + (c - 1)) 0 ≡ v = ap (λ (y : ℕ). getD new (t .spot + (y - 1)) 0) c-is ∙ before (t .spot + (heirPlace t old i - 1)) (f .spot-to i h) in
+          let v-is : getD new (t .spot + (c - 1)) 0 ≡ v = ap (λ (y : ℕ). getD new (t .spot + (y - 1)) 0) c-is ∙ behind (t .spot + (heirPlace t old i - 1)) (omega (arith, f .home-spot)) in
           let l = f .below i h in
           rw (p, from-same, v-is) (record {
             within = omega arith;
             only = only-trans (s .only) (only-set ((t .home, t .groups) ∷ []) new (t .home + x) v (λ o. omega (arith, o .0 .apart (omega arith))));
             done = below-more _ _
                 (λ j k. getD-set-other new (t .home + x) (t .home + slotFrom t old j) v 0 (λ e. f .apart j i k h (omega arith)) ∙ s .done j k)
-                (getD-set-same new (t .home + x) v 0 (omega (arith, f .room, s .only .long)));
+                (getD-set-same new (t .home + x) v 0 (omega (arith, f .home-into, f .room, s .only .long)));
           })
 
     pub home-done : t .groups ≤ i → HomesAt t old new

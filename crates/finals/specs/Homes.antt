@@ -25,16 +25,18 @@ slotFrom t w i = getD w (t .from + i) 0
 abbrev pub heirPlace : HomeTables → List ℕ → ℕ → ℕ
 heirPlace t w i = getD w (t .place + getD w (t .into + i) 0) 0
 
--- all tables stand before `home`; starting groups lie in different slots below n, and their heirs live
+-- `home` stands behind `from` and before the other tables; starting groups lie in different slots below n, and their heirs live
 pub record HomesFit (t : HomeTables) (w : List ℕ) : Type 0 where
   pub from-to : t .from + t .groups ≤ t .home
-  pub into-to : t .into + t .groups ≤ t .home
-  pub room : t .home + t .groups ≤ length w
+  pub home-into : t .home + t .groups ≤ t .into
+  pub home-place : t .home + t .groups ≤ t .place
+  pub home-spot : t .home + t .groups ≤ t .spot
+  pub room : t .into + t .groups ≤ length w
   pub below : (i : ℕ) → i < t .groups → slotFrom t w i < t .groups
   pub apart : (i j : ℕ) → i < j → j < t .groups → slotFrom t w i ≡ slotFrom t w j → ⊥
-  pub heir : (i : ℕ) → i < t .groups → t .place + getD w (t .into + i) 0 < t .home
+  pub heir : (i : ℕ) → i < t .groups → t .place + getD w (t .into + i) 0 < length w
   pub lives : (i : ℕ) → i < t .groups → 0 < heirPlace t w i
-  pub spot-to : (i : ℕ) → i < t .groups → t .spot + (heirPlace t w i - 1) < t .home
+  pub spot-to : (i : ℕ) → i < t .groups → t .spot + (heirPlace t w i - 1) < length w
 
 pub record HomesAt (t : HomeTables) (old new : List ℕ) : Type 0 where
   pub only : Only ((t .home, t .groups) ∷ []) old new

@@ -21,7 +21,7 @@ use Rattle.merging.specs.Held.{Lives, Reaches, Held, Standing, Chosen}
 use Rattle.merging.specs.Held.Reaches.{here, onto}
 use Rattle.merging.proofs.QueueContent.{take-best, take-keeps, take-only}
 use Rattle.merging.proofs.QueueOrder.{carry}
-use Rattle.merging.proofs.Theorems.{run-count}
+use Rattle.merging.proofs.Theorems.{run-count, fewer}
 use Rattle.merging.proofs.WaitLaws.{heap-kept, heap-groups, heap-place, heap-sound, heap-placed, group-of-kept, pair-kept, fair-kept, alive-same}
 
 -- ---- only the queue changed
@@ -44,8 +44,9 @@ module _ (t : Tables) (w w′ : List ℕ) (h : Laid t (length w)) (p : Only ((t 
   reaches-kept k m (here c l a) = here c l (rw (heap-place t w w′ h p c (omega arith)) a)
   reaches-kept k m (onto c d l a r) = onto c d l (rw (heap-place t w w′ h p c (omega arith)) a) (rw (into-kept c (omega arith)) (reaches-kept k m r))
 
-  pub held-kept : (s : State) (j : ℕ) → t .groups + j ≤ 2 * t .groups → Held t s j w → Held t s j w′
-  held-kept s j m q =
+  pub held-kept : (s : State) (j : ℕ) → j ≤ t .groups - 1 → Held t s j w → Held t s j w′
+  held-kept s j few q =
+      let m : t .groups + j ≤ 2 * t .groups = omega arith in
       let e : (c : ℕ) → c < t .groups + j → placeOf t w′ c ≡ placeOf t w c = λ c l. heap-place t w w′ h p c (omega arith) in
       record {
         sound = heap-sound t w w′ h p (q .sound);
@@ -68,6 +69,11 @@ module _ (t : Tables) (w w′ : List ℕ) (h : Laid t (length w)) (p : Only ((t 
 pub merges-few : (t : Tables) (xs : List Group) (j : ℕ) (w : List ℕ) → length xs ≡ t .groups → Held t (run j (start xs)) j w → t .groups + j ≤ 2 * t .groups
 merges-few t xs j w e h = omega (arith, run-count j xs, h .log-long)
 
+-- fewer than groups, where there are any
+pub merges-less : (t : Tables) (xs : List Group) (j : ℕ) (w : List ℕ) → length xs ≡ t .groups → Held t (run j (start xs)) j w → j ≤ t .groups - 1
+merges-less t xs j w e h =
+    ⊎-elim (λ (z : t .groups ≡ 0). omega (arith, run-count j xs, h .log-long)) (λ n. omega (arith, fewer j xs (omega arith), h .log-long)) (same-or-not (t .groups) 0)
+
 -- ---- the best pair was taken
 
 pub chosen-taken : (t : Tables) (xs : List Group) (n m j z : ℕ) (p : Waiting) (w w′ : List ℕ) → Standing t xs n m j z w
@@ -89,7 +95,7 @@ chosen-taken t xs n m j z p w w′ s o q =
     record {
       many = s .many;
       sets-few = s .sets-few;
-      held = held-kept t w w′ h o (run j (start xs)) j f (s .held);
+      held = held-kept t w w′ h o (run j (start xs)) j (merges-less t xs j w (s .many) (s .held)) (s .held);
       ordered = q .ordered;
       own = fairs p (q .has);
       best = λ a b r x y u. carry refl (same a b r) (take-best q (was a b r x y u));

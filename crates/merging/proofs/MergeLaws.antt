@@ -24,7 +24,7 @@ use Rattle.merging.specs.Waits.{placeOf, groupOf, alive, pairOf, heapOf,
 use Rattle.merging.specs.Held.{Lives, Among, words, Reaches, Held, Standing, Chosen, Joinable, PairJoined}
 use Rattle.merging.specs.Held.Reaches.{here, onto}
 use Rattle.merging.proofs.PairLaws.{pairs-sum, pairs-length}
-use Rattle.merging.proofs.Theorems.{run-sets, fewer, weighed-most, merge-total}
+use Rattle.merging.proofs.Theorems.{run-sets, run-count, weighed-most, merge-total}
 use Rattle.merging.proofs.Bridge.{Rising, run-numbered, has, pair-of, pairs-has, choice-is, without, without-all, without-mem, two-intro, step-is, run-step}
 use Rattle.merging.proofs.TableLaws.{room-is}
 use Rattle.merging.proofs.WaitLaws.{alive-none, alive-one, alive-same, sum-next, waits-next}
@@ -123,8 +123,9 @@ module _ (t : Tables) (xs : List Group) (n m j z : ℕ) (p : Waiting) (w : List 
   some-groups : 0 < t .groups
   some-groups = omega (arith, bound, most)
 
-  merge-room : j < t .groups
-  merge-room = omega (arith, fewer j xs (omega (arith, some-groups, c .many)), c .held .log-long, c .many)
+  -- two live, and each merge before this one took one away
+  merge-room : j + 1 < t .groups
+  merge-room = omega (arith, run-count j xs, left-length, c .held .log-long, c .many)
 
   pub joinable : Joinable t j p w
   joinable = record {

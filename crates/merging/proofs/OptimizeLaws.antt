@@ -26,7 +26,7 @@ use Rattle.merging.proofs.Theorems.{pairs-count, number-length}
 use Rattle.merging.proofs.SlotLaws.{laid-kept}
 use Rattle.merging.proofs.WaitLaws.{heap-groups, heap-place, heap-sound, group-of-kept, alive-one, sum-ones}
 use Rattle.merging.proofs.JoinLaws.{frame-sound, frame-groups}
-use Rattle.merging.proofs.HeldLaws.{merges-few}
+use Rattle.merging.proofs.HeldLaws.{merges-less, merges-few}
 use Rattle.merging.proofs.RunLaws.{only-heap, standing-done}
 
 -- ---- the starting groups, numbered
@@ -215,7 +215,7 @@ module _ (t : Tables) (xs : List Group) (n m j z : ℕ) (w : List ℕ) (s : Stan
 
     end-log : seg (t .log) (3 * j) w′ ≡ words (run j (start xs) .log)
     end-log =
-        only-seg (f .only) (t .log) (3 * j) (omega (arith, sits, merges-few t xs j w (s .many) (s .held))) (λ k a b. omega (arith, sits)) ∙ s .held .log-is
+        only-seg (f .only) (t .log) (3 * j) (omega (arith, sits, merges-less t xs j w (s .many) (s .held))) (λ k a b. omega (arith, sits)) ∙ s .held .log-is
 
     end-homes : All (λ g. All (λ i. getD w′ (t .into + i) 0 ≡ g .num) (g .origins)) (run j (start xs) .living)
     end-homes = all-imp (λ g. all-imp (λ i r. f .is i (g .num) r) (g .origins)) (run j (start xs) .living) (s .held .homes)

@@ -117,7 +117,7 @@ module _ (t : Tables) (w : List ℕ) (a b k v : ℕ) (h : Laid t (length w)) (p 
       }
 
 -- three stores, one behind the other
-pub noted : (t : Tables) (w : List ℕ) (j : ℕ) (p : Waiting) → Laid t (length w) → j < t .groups
+pub noted : (t : Tables) (w : List ℕ) (j : ℕ) (p : Waiting) → Laid t (length w) → j + 1 < t .groups
     → Noted t j p w (set (set (set w (t .log + 3 * j) (p .first)) (t .log + 3 * j + 1) (p .second)) (t .log + 3 * j + 2) (p .gain))
 noted t w j p h l =
     let a = t .log + 3 * j in

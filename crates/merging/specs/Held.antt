@@ -87,7 +87,7 @@ written t =
     ∷ (t .rows, t .groups)
     ∷ (t .columns, t .groups)
     ∷ (t .into, 2 * t .groups)
-    ∷ (t .log, 3 * t .groups)
+    ∷ (t .log, 3 * (t .groups - 1))
     ∷ (t .heap, 3 * room (t .groups))
     ∷ []
 
@@ -110,7 +110,7 @@ pub record Noted (t : Tables) (j : ℕ) (p : Waiting) (w w′ : List ℕ) : Type
 -- what joining the pair p as merge j asks
 pub record Joinable (t : Tables) (j : ℕ) (p : Waiting) (w : List ℕ) : Type 0 where
   pub sound : Sound t w
-  pub room : j < t .groups
+  pub room : j + 1 < t .groups
   pub order : p .first < p .second
   pub below : p .second < t .groups + j
   pub first-lives : 0 < placeOf t w (p .first)

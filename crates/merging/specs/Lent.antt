@@ -24,7 +24,7 @@ pub record Laid (t : Tables) (n : ℕ) : Type 0 where
   pub rows-end : t .rows + t .groups ≤ t .columns
   pub columns-end : t .columns + t .groups ≤ t .into
   pub into-end : t .into + 2 * t .groups ≤ t .log
-  pub log-end : t .log + 3 * t .groups ≤ t .heap
+  pub log-end : t .log + 3 * (t .groups - 1) ≤ t .heap
   pub heap-end : t .heap + 3 * room (t .groups) ≤ n
 
 -- the shape and the group in slot s

@@ -27,7 +27,7 @@ fn retire(work: &mut [u32], t: Tables, a: usize, b: usize, k: usize, v: u32)
 // Entry j of the log.
 fn note(work: &mut [u32], t: Tables, j: usize, p: Waiting)
     requires { ⌜ Laid t (length (now work)) ⌝ }
-    requires { ⌜ j < t .groups ⌝ }
+    requires { ⌜ j + 1 < t .groups ⌝ }
     ensures { λ _. ⌜ Noted t j p (now (work .entry)) (now (work .exit)) ⌝ }
 {
     let at = t.log + 3 * j;
