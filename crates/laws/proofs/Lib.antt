@@ -8,5 +8,7 @@ pub mod PartLaws
 pub mod BoundedLaws
 pub mod BagLaws
 pub mod SortLaws
+pub mod SortMap
+pub mod Pigeon
 pub mod BytesLaws
 pub mod SignedLaws
