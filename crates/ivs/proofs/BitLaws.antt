@@ -14,12 +14,12 @@ use borrow.Author.Tests.{ltb-true}
 use Rattle.laws.specs.Pick.{pick}
 use Rattle.laws.specs.Bytes.{be}
 use Rattle.laws.specs.Signed.{twos}
-use Rattle.rows.specs.declared.column.Column.{Column}
-use Rattle.rows.specs.declared.column.Column.the-variants.{At, Missing}
-use Rattle.rows.specs.declared.reader.Reading.{Reading}
-use Rattle.rows.specs.declared.reader.Reading.the-variants.{Written, NoColumn, Refused}
+use Rattle.reader.specs.declared.column.Column.{Column}
+use Rattle.reader.specs.declared.column.Column.the-variants.{At, Missing}
+use Rattle.reader.specs.declared.reader.Reading.{Reading}
+use Rattle.reader.specs.declared.reader.Reading.the-variants.{Written, NoColumn, Refused}
 use Rattle.ivs.specs.Answers.{readWord}
-use Rattle.rows.specs.Store.{headerOk, regionCount, itemCount, regionsAt, find, subtableOk, inColumn, readSubtable, readStore, refusalOf}
+use Rattle.reader.specs.Store.{headerOk, regionCount, itemCount, regionsAt, find, subtableOk, inColumn, readSubtable, readStore, refusalOf}
 
 -- ---- bits
 

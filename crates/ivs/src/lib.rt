@@ -1,10 +1,17 @@
 // The library's entry points: what a host links (libivs.a). They turn answers into numbers, and do nothing else.
-use rows::Reading;
+mod report;
+
+use crate::report::tell;
+use reader::Reading;
 ghost use mathlib.Core.Path.{_≡_};
 ghost use Rattle.laws.specs.Signed.{twos};
 ghost use Rattle.job.specs.Refusals.{workWords};
-ghost use Rattle.rows.specs.Store.{readStore};
-ghost use Rattle.ivs.specs.Answers.{readWord};
+ghost use Rattle.reader.specs.Store.{readStore};
+ghost use lib.ListN.{length};
+ghost use Rattle.job.specs.Check.{workLeft};
+ghost use Rattle.build.specs.Lent.{lengths};
+ghost use Rattle.build.specs.Build.{answerOf, outAfter, idsAfter, mapAfter, logAfter};
+ghost use Rattle.ivs.specs.Answers.{readWord, numberOf, reportWords, filled};
 
 // The words of work that a job of so many records needs; 0 above the record limit.
 #[no_mangle]
@@ -29,9 +36,34 @@ fn bits(v: i32) -> u64
 pub extern "C" fn ivs_read(store: &[u8], outer: u32, inner: u32, region: u32) -> u64
     ensures { λ r. ⌜ r ≡ readWord (readStore (now (store .entry)) outer inner region) ⌝ }
 {
-    match rows::read(store, outer, inner, region) {
+    match reader::read(store, outer, inner, region) {
         Reading::Written(v) => bits(v),
         Reading::NoColumn => 4294967296,
         Reading::Refused(n) => (n as u64) * 4294967296,
     }
+}
+
+// One build: the refusal number, 0 for done; the report has all numbers of the answer.
+#[no_mangle]
+pub extern "C" fn ivs_build(
+    axes: u32,
+    mode: u32,
+    job: &[u8],
+    work: &mut [u32],
+    out: &mut [u8],
+    ids: &mut [u32],
+    map: &mut [u32],
+    log: &mut [u32],
+    report: &mut [u64; 16],
+) -> u32
+    ensures { λ r. ⌜ r ≡ numberOf (answerOf axes mode (now (job .entry)) (length (now (work .entry))) (lengths (now (out .entry)) (now (ids .entry)) (now (map .entry)) (now (log .entry)))) ⌝ }
+    ensures { λ _. ⌜ now (report .exit) ≡ filled 0 (reportWords (answerOf axes mode (now (job .entry)) (length (now (work .entry))) (lengths (now (out .entry)) (now (ids .entry)) (now (map .entry)) (now (log .entry))))) (now (report .entry)) ⌝ }
+    ensures { λ _. ⌜ now (out .exit) ≡ outAfter axes mode (now (job .entry)) (length (now (work .entry))) (lengths (now (out .entry)) (now (ids .entry)) (now (map .entry)) (now (log .entry))) (now (out .entry)) ⌝ }
+    ensures { λ _. ⌜ now (ids .exit) ≡ idsAfter axes mode (now (job .entry)) (length (now (work .entry))) (lengths (now (out .entry)) (now (ids .entry)) (now (map .entry)) (now (log .entry))) (now (ids .entry)) ⌝ }
+    ensures { λ _. ⌜ now (map .exit) ≡ mapAfter axes mode (now (job .entry)) (length (now (work .entry))) (lengths (now (out .entry)) (now (ids .entry)) (now (map .entry)) (now (log .entry))) (now (map .entry)) ⌝ }
+    ensures { λ _. ⌜ now (log .exit) ≡ logAfter axes mode (now (job .entry)) (length (now (work .entry))) (lengths (now (out .entry)) (now (ids .entry)) (now (map .entry)) (now (log .entry))) (now (log .entry)) ⌝ }
+    ensures { λ _. ⌜ now (work .exit) ≡ workLeft axes mode (length (now (job .entry))) (now (work .entry)) ⌝ }
+{
+    let answer = build::build(axes, mode, job, work, out, ids, map, log);
+    tell(report, answer)
 }

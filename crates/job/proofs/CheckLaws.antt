@@ -15,12 +15,13 @@ use Rattle.job.specs.Inner.{Open}
 use Rattle.job.specs.Check.{checkedOf, workLeft}
 use Rattle.job.specs.declared.checking.Checked.the-variants.{Refused, Sound}
 
-early-first : (n : ℕ) (o : Outcome) → (n ≡ 0 → ⊥) → outcomeFrom n o ≡ refused n 0
+-- a refusal by the numbers answers, else the records do
+pub early-first : (n : ℕ) (o : Outcome) → (n ≡ 0 → ⊥) → outcomeFrom n o ≡ refused n 0
 unfolding outcomeFrom
 early-first zero o h = absurd (h refl)
 early-first (suc n) o h = refl
 
-none-early : (n : ℕ) (o : Outcome) → n ≡ 0 → outcomeFrom n o ≡ o
+pub none-early : (n : ℕ) (o : Outcome) → n ≡ 0 → outcomeFrom n o ≡ o
 unfolding outcomeFrom
 none-early zero o h = refl
 none-early (suc n) o h = absurd (omega arith)

@@ -39,7 +39,7 @@ placed-rising k v t (e ∷ b) h a d = go (λ l. placed-rising k v (suc (e .0)) b
         let n = d .0 in
         rw l (a .0, rec (omega arith))
 
-placed-all : (P : ℕ × ℕ → Type 0) (k v : ℕ) (b : Set) → P (k, v) → All P b → All P (placed k v b)
+pub placed-all : (P : ℕ × ℕ → Type 0) (k v : ℕ) (b : Set) → P (k, v) → All P b → All P (placed k v b)
 unfolding placed
 placed-all P k v [] p a = (p, tt)
 placed-all P k v (e ∷ b) p a = go (placed-all P k v b p (a .1)) (which (ltb k (e .0)))

@@ -8,3 +8,5 @@ pub mod ReadingLaws
 pub mod WholeLaws
 pub mod CheckLaws
 pub mod MeaningLaws
+pub mod SaidLaws
+pub mod SoundLaws

@@ -22,7 +22,7 @@ same-true (x ∷ a) (y ∷ b) h =
     let p = and-true (eqb x y) (sameRegion a b) h in
     ap₂ _∷_ (eqb-true x y (p .0)) (same-true a b (p .1))
 
-like-here : (c : Region) (l : List Region) → like c l < length l → c ≡ getD l (like c l) []
+pub like-here : (c : Region) (l : List Region) → like c l < length l → c ≡ getD l (like c l) []
 unfolding like
 like-here c [] h = absurd (omega arith)
 like-here c (d ∷ l) h = go (λ t. like-here c l t) (which (sameRegion c d)) h

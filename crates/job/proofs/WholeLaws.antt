@@ -20,10 +20,10 @@ use Rattle.sets.specs.Lent.{entries, startOf, countOf, setOf, Held, setsIn}
 use Rattle.sets.proofs.HeldLaws.{sets-length, sets-at}
 use Rattle.job.specs.declared.tables.Tables.{Tables}
 use Rattle.job.specs.Sets.{Region, regionList, sameRegion, like, firstLike, has}
-use Rattle.job.specs.Job.{Said, inAxes, inSets, regionsOnly, refused, fine, walk, outcome, outcomeFrom}
+use Rattle.job.specs.Job.{Said, inAxes, inSets, regionsOnly, refused, fine, walk}
 use Rattle.job.specs.Inner.{AxesRead}
-use Rattle.job.specs.Lent.{slotIn, Uses, Stamps, Zeroed, FirstsOf, Good, Holds, Room, tablesAt, Prepared, SetsHeld, SetsRead, JobHeld, JobRead, JobAnswer}
-use Rattle.job.specs.Refusals.{publishedWork, earlyNo}
+use Rattle.job.specs.Lent.{slotIn, Uses, Stamps, Zeroed, FirstsOf, Good, Holds, Room, tablesAt, Prepared, SetsHeld, SetsRead, JobHeld, JobRead}
+use Rattle.job.specs.Refusals.{publishedWork}
 use Rattle.job.proofs.RegionLaws.{regions-length}
 use Rattle.job.proofs.HoldLaws.{stamps-none}
 use Rattle.job.proofs.GoodLaws.{good-start}
@@ -131,6 +131,7 @@ module _ (axes mode : ℕ) (job : List ℕ) (records nr at : ℕ) (old mid new :
           (λ k l.
           let q : k < uses = omega (arith, length-seg (4 * records) uses new long) in
           getD-seg (4 * records) uses new k q ∙ s .held .uses-are .table k (omega (arith, s .held .uses-count)));
+      uses-are = s .held .uses-count;
       held = record {
         room = omega (arith, length-new);
         rows = omega (arith, s .held .rows-low, s .start-in);
@@ -174,42 +175,7 @@ job-read-by t axes mode job records nr at old mid new e a p nr′ at′ sets val
     (subst (λ (x : Tables). SetsRead axes mode job records at x mid new nr′ at′ sets values uses) e r) g room
     (omega (arith, span at axes 6, a .within)) (regions-fit at axes records (a .within))
 
--- ---- refusals 1 to 4, and then the records
-
+-- the published work has the words of the tables
 pub work-enough : (n work : ℕ) → publishedWork n ≤ work → 16 * n ≤ work
 unfolding publishedWork
 work-enough n work h = omega arith
-
-module _ (axes mode : ℕ) (job old : List ℕ) (nr : ℕ) (e : nr ≡ earlyNo axes mode (length job) (length old)) where
-  outcome-on : nr ≡ 0 → outcome axes mode job (length old) ≡ walk axes mode job job (length job / 12) 0 inAxes
-  unfolding outcome outcomeFrom
-  outcome-on z = rw (sym e ∙ z)
-
-  outcome-early : (n : ℕ) → n ≡ earlyNo axes mode (length job) (length old) → (n ≡ 0 → ⊥) → outcome axes mode job (length old) ≡ refused n 0
-  unfolding outcome outcomeFrom
-  outcome-early zero f d = absurd (d refl)
-  outcome-early (suc n) f d = rw (← f)
-
-  pub answer-early : (nr ≡ 0 → ⊥) → JobAnswer axes mode job old old nr 0 0 0 0 0
-  answer-early d = record {
-    bad = λ _. outcome-early nr e d;
-    fine-is = λ z. absurd (d z);
-    good = λ z. absurd (d z);
-    untouched = λ _. refl;
-    only = only-refl ((0, 16 * (length job / 12)) ∷ []) old;
-  }
-
-  pub answer-read : (new : List ℕ) (nr′ at regions sets values uses : ℕ) → nr ≡ 0
-      → JobRead axes mode job (length job / 12) old new nr′ at regions sets values uses → JobAnswer axes mode job old new nr′ at regions sets values uses
-  answer-read new nr′ at regions sets values uses z r = record {
-    bad = λ d. outcome-on z ∙ r .bad d;
-    fine-is = λ _. outcome-on z;
-    good = r .good;
-    untouched = λ d. absurd (d (sym e ∙ z));
-    only = r .only;
-  }
-
-  pub answer-by : (axes′ : ℕ) → axes′ ≡ axes → (new : List ℕ) (nr′ at regions sets values uses : ℕ) → nr ≡ 0
-      → JobRead axes′ mode job (length job / 12) old new nr′ at regions sets values uses → JobAnswer axes mode job old new nr′ at regions sets values uses
-  answer-by axes′ a new nr′ at regions sets values uses z r =
-      answer-read new nr′ at regions sets values uses z (subst (λ (x : ℕ). JobRead x mode job (length job / 12) old new nr′ at regions sets values uses) a r)

@@ -11,8 +11,8 @@ use Rattle.sets.specs.Set.{Set, Ascending, Proper}
 use Rattle.sets.specs.Lent.{entries, startOf, countOf, setOf, Held, setsIn}
 use lib.Dec.{eqb}
 use Rattle.job.specs.Records.{recordBytes, regionOf, valueWord}
-use Rattle.job.specs.Refusals.{valueNo, earlyNo}
-use Rattle.job.specs.Job.{Said, afterValue, afterEnd, inAxes, inSets, regionsOnly, refused, fine, walk, outcome}
+use Rattle.job.specs.Refusals.{valueNo}
+use Rattle.job.specs.Job.{Said, afterValue, afterEnd, inAxes, inSets, regionsOnly, refused, fine, walk}
 use Rattle.job.specs.declared.tables.Tables.{Tables}
 use Rattle.job.specs.Sets.{Region, coordinates, regionList, firstLike, has, withUse, indexIn, placed}
 
@@ -195,6 +195,7 @@ pub record JobHeld (axes mode : ℕ) (job : List ℕ) (records : ℕ) (new : Lis
   pub sets-are : setsIn 0 sets new ≡ said .sets
   pub values-are : said .values ≡ values
   pub used-are : seg (4 * records) uses new ≡ said .used
+  pub uses-are : length (said .used) ≡ uses
   pub held : Held new 0 sets uses (4 * records)
 
 pub record JobRead (axes mode : ℕ) (job : List ℕ) (records : ℕ) (old new : List ℕ) (no at regions sets values uses : ℕ) : Type 0 where
@@ -207,11 +208,3 @@ pub record Prepared (axes regions records : ℕ) (job old new : List ℕ) : Type
   pub holds : Holds new (tablesAt records axes regions) (regionsOnly (regionList axes regions job)) 0 0 (2 * records) 0
   pub room : Room (tablesAt records axes regions) records (length new)
   pub only : Only ((0, 16 * records) ∷ []) old new
-
--- A job is refused by `no` at `at`, by the numbers (1 to 4, with work untouched) or by its records; or (no is 0) work holds what it says.
-pub record JobAnswer (axes mode : ℕ) (job old new : List ℕ) (no at regions sets values uses : ℕ) : Type 0 where
-  pub bad : (no ≡ 0 → ⊥) → outcome axes mode job (length old) ≡ refused no at
-  pub fine-is : no ≡ 0 → outcome axes mode job (length old) ≡ walk axes mode job job (length job / recordBytes) 0 inAxes
-  pub good : no ≡ 0 → JobHeld axes mode job (length job / recordBytes) new regions sets values uses
-  pub untouched : (earlyNo axes mode (length job) (length old) ≡ 0 → ⊥) → new ≡ old
-  pub only : Only ((0, 16 * (length job / recordBytes)) ∷ []) old new

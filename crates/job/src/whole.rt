@@ -1,17 +1,15 @@
 // A job's records, whole: axis records, first regions, sets.
 use crate::axes::axes_end;
-use crate::early::early_no;
 use crate::reading::read_sets;
 use crate::regions::find_firsts;
 use crate::tables::Tables;
 use crate::tables::zero_part;
-use laws::wide;
 ghost use mathlib.Core.Path.{_≡_};
 ghost use Prim.Native.Nat.{ℕ, _+_, _*_, _/_, _%_, _<_, _≤_};
 ghost use lib.ListN.{length};
 ghost use Rattle.job.specs.Sets.{regionList};
 ghost use Rattle.job.specs.Job.{regionsOnly};
-ghost use Rattle.job.specs.Lent.{Holds, Prepared, tablesAt, JobRead, JobAnswer};
+ghost use Rattle.job.specs.Lent.{Holds, Prepared, tablesAt, JobRead};
 
 // A refusal number with its place, or 0 and the counts.
 pub struct JobEnd {
@@ -78,22 +76,4 @@ pub fn read_job(job: &[u8], axes: usize, mode: u32, records: usize, work: &mut [
         values: s.values,
         uses: s.uses,
     }
-}
-
-// A job, from its bytes to its sets: refusals 1 to 9, or work holds its sets.
-pub fn check_job(axes: u32, mode: u32, job: &[u8], work: &mut [u32]) -> JobEnd
-    ensures { λ r. ⌜ JobAnswer axes mode (now (job .entry)) (now (work .entry)) (now (work .exit)) (r .no) (r .at) (r .regions) (r .sets) (r .values) (r .uses) ⌝ }
-{
-    let no = early_no(axes, mode, job.len(), work.len());
-    if no != 0 {
-        return JobEnd {
-            no,
-            at: 0,
-            regions: 0,
-            sets: 0,
-            values: 0,
-            uses: 0,
-        };
-    }
-    read_job(job, wide(axes), mode, job.len() / 12, work)
 }

@@ -20,11 +20,12 @@ use Rattle.laws.proofs.Cases.{lt-or-ge}
 use Rattle.shapes.specs.Shape.{Shape}
 use Rattle.shapes.specs.Width.{widthOf, costOf}
 use Rattle.shapes.proofs.WidthLaws.{width-holds}
-use Rattle.rows.specs.Store.{columnAt, columnBytes}
+use Rattle.reader.specs.Store.{columnAt, columnBytes}
 use Rattle.rows.specs.Columns.{columnsOf, fours, wordCount, bytesFor}
 use Rattle.rows.specs.Row.{Set, valueIn, cellsOf, rowOf, Widths, Covers}
 use Rattle.rows.specs.Lent.{rowBytes, cellWords}
-use Rattle.rows.proofs.RowLaws.{at-zero, at-step, bytes-range, row-length, getD-map}
+use Rattle.reader.proofs.ColumnLaws.{at-zero, at-step, bytes-range}
+use Rattle.rows.proofs.RowLaws.{row-length, getD-map}
 use Rattle.rows.proofs.ColumnsLaws.{bytes-are}
 
 -- a row of the definition is the columns' words, each at the width that the word count gives its column

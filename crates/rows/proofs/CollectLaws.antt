@@ -1,27 +1,24 @@
 -- Laws of finding a shape's columns and of the table by which they are looked up. Assumes nothing.
 use mathlib.Core.Path.{_≡_, refl, sym, ap, _∙_}
-use mathlib.Core.Bool.{Bool, true, false}
+use mathlib.Core.Bool.{true}
 use mathlib.Core.List.{List, [], _∷_, _++_, append-assoc}
-use Prim.Native.Nat.{ℕ, zero, suc, _+_, _-_, _*_, _≤_, _<_}
-use native.Mathlib.Nat.{add-zero}
+use Prim.Native.Nat.{ℕ, suc, _+_, _-_, _≤_, _<_}
 use native.Mathlib.Numerals.{add-one}
 use native.Mathlib.Omega.{arith}
-use lib.Dec.{eqb, ltb}
-use lib.ListN.{length, getD, take, drop, set, replicate, length-append, length-set, length-replicate}
-use lib.Seq.{drop-cons, drop-length, take-suc, take-length, length-take-le, getD-set-same, getD-set-other, getD-take, drop-drop, take-at, drop-at}
+use lib.Dec.{eqb}
+use lib.ListN.{length, getD, take, drop, set, replicate, length-append, length-set}
+use lib.Seq.{drop-cons, drop-length, take-suc, take-length, length-take-le, getD-set-same, getD-set-other, getD-take}
 use borrow.Author.Tests.{lt-ltb, le-ltb, eq-eqb, ne-eqb, eqb-true, eqb-false}
-use Rattle.laws.specs.Pick.{pick}
 use Rattle.laws.specs.Bytes.{over}
-use Rattle.laws.proofs.BytesLaws.{over-drop, over-length}
 use Rattle.laws.proofs.Cases.{Which, which}
 use Rattle.laws.proofs.Cases.Which.{holds, fails}
 use Rattle.shapes.specs.Shape.{Shape}
-use Rattle.rows.specs.declared.column.Column.{Column}
-use Rattle.rows.specs.declared.column.Column.the-variants.{At, Missing}
-use Rattle.rows.specs.Store.{columnsOk, find}
+use Rattle.reader.specs.declared.column.Column.the-variants.{At}
+use Rattle.reader.specs.Store.{columnsOk, find}
 use Rattle.rows.specs.Columns.{addIf, ofWidth, columnsOf, fours, twoes, wordCount}
 use Rattle.rows.specs.Lent.{placeNo, Placed, Put, Formed}
-use Rattle.rows.proofs.StoreLaws.{ok-once, ok-below, zeros-at}
+use Rattle.reader.proofs.ColumnLaws.{find-snoc, find-end}
+use Rattle.reader.proofs.StoreLaws.{ok-once, ok-below, zeros-at}
 use Rattle.rows.proofs.OverLaws.{over-none, over-join, over-front, set-over}
 
 -- ---- one width
@@ -156,19 +153,6 @@ module _ (s : Shape) (old a b c : List ℕ) (x y z : ℕ) (few : length s < 3276
       record { word-is = rw (le-ltb 0 (fours s) e) (omega (arith, p .end, q .end)); count-is = count-end; is = all-put }
 
 -- ---- the table of places
-
--- one column more at the end
-find-snoc : (x i : ℕ) (l : List ℕ) (y : ℕ) → (y ≡ x → ⊥) → find x i (l ++ (y ∷ [])) ≡ find x i l
-unfolding find
-find-snoc x i [] y n = rw (ne-eqb y x n)
-find-snoc x i (z ∷ l) y n = rw (find-snoc x (i + 1) l y n)
-
-find-end : (x i : ℕ) (l : List ℕ) → ((k : ℕ) → k < length l → getD l k 0 ≡ x → ⊥) → find x i (l ++ (x ∷ [])) ≡ At (i + length l)
-unfolding find
-find-end x i [] n = rw (eq-eqb x x refl, add-zero)
-find-end x i (z ∷ l) n =
-    let e : i + 1 + length l ≡ i + suc (length l) = omega arith in
-    rw (ne-eqb z x (n 0 (omega arith)), find-end x (i + 1) l (λ k h. n (suc k) (omega arith)), e)
 
 -- the first j columns are in the table
 pub record Marking (cols places : List ℕ) (n j : ℕ) : Type 0 where

@@ -17,11 +17,11 @@ use Rattle.laws.proofs.Cases.{Which, which, lt-or-ge, Tri, tri}
 use Rattle.laws.proofs.Cases.Which.{holds, fails}
 use Rattle.laws.proofs.Cases.Tri.{below, same, above}
 use Rattle.shapes.specs.Shape.{Shape}
-use Rattle.rows.specs.declared.column.Column.{Column}
-use Rattle.rows.specs.declared.column.Column.the-variants.{At, Missing}
-use Rattle.rows.specs.Store.{columnBytes, columnsOk, find, absent}
+use Rattle.reader.specs.declared.column.Column.{Column}
+use Rattle.reader.specs.declared.column.Column.the-variants.{At, Missing}
+use Rattle.reader.specs.Store.{columnBytes, columnsOk, find, absent}
 use Rattle.rows.specs.Columns.{addIf, ofWidth, columnsOf, fours, twoes, wordCount, bytesFor}
-use Rattle.rows.proofs.StoreLaws.{ok-intro, ok-once, find-below, find-at, absent-at, absent-intro}
+use Rattle.reader.proofs.StoreLaws.{ok-intro, ok-once, find-below, find-at, absent-at, absent-intro}
 
 two-append : {A : Type 0} (R : A → A → Type 0) (l m : List A) → EachTwo R l → EachTwo R m → All (λ x. All (R x) m) l → EachTwo R (l ++ m)
 two-append R [] m p q h = q

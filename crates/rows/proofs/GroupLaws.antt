@@ -11,12 +11,12 @@ use Rattle.laws.specs.Bounded.{tabulate}
 use Rattle.laws.specs.Range.{seg}
 use Rattle.laws.proofs.BoundedLaws.{tabulate-same}
 use Rattle.shapes.specs.Shape.{Shape}
-use Rattle.rows.specs.Store.{columnsOk}
+use Rattle.reader.specs.Store.{columnsOk}
 use Rattle.rows.specs.Columns.{columnsOf, wordCount}
 use Rattle.rows.specs.Row.{Set}
 use Rattle.rows.specs.Placing.{Final, joinAll, runCount, subtableOf}
 use Rattle.rows.specs.Lent.{Put, Formed, tableBytes, runAt, runsBytes, chain}
-use Rattle.rows.proofs.StoreLaws.{ok-intro, ok-below, ok-once}
+use Rattle.reader.proofs.StoreLaws.{ok-intro, ok-below, ok-once}
 use Rattle.rows.proofs.ColumnsLaws.{columns-ok, word-below}
 use Rattle.rows.proofs.CollectLaws.{columns-count, columns-most}
 use Rattle.rows.proofs.PutLaws.{Putting, put-start, put-more, put-done}

@@ -1,5 +1,3 @@
-pub mod StoreLaws
-pub mod Worked
 pub mod WorkedBytes
 pub mod RowLaws
 pub mod ColumnsLaws
@@ -15,5 +13,6 @@ pub mod SizeLaws
 pub mod SpotLaws
 pub mod PlacedLaws
 pub mod MapLaws
+pub mod PlainLaws
 pub mod TableBack
 pub mod StoreBack

@@ -22,7 +22,7 @@ use Rattle.laws.proofs.Cases.{same-or-not, Which, which}
 use Rattle.laws.proofs.Cases.Which.{holds, fails}
 use Rattle.shapes.specs.Shape.{Shape}
 use Rattle.shapes.specs.Group.{maxItems}
-use Rattle.rows.specs.Store.{columnAt}
+use Rattle.reader.specs.Store.{columnAt}
 use Rattle.rows.specs.Columns.{columnsOf, wordCount}
 use Rattle.rows.specs.Row.{Set}
 use Rattle.rows.specs.Placing.{Final, joinAll, runCount, runsOf, allRuns, names, keptOf, newIndex, indexBytes, subtableOf, offsetsOf, listOf, placed, storeOf}

@@ -14,7 +14,7 @@ use Rattle.laws.specs.Range.{seg}
 use Rattle.laws.specs.Every.{All}
 use Rattle.laws.proofs.BytesLaws.{bytes-length, over-length}
 use Rattle.laws.proofs.RangeLaws.{seg-cons, seg-none, length-seg, seg-all}
-use Rattle.rows.specs.Store.{columnAt, columnsOk}
+use Rattle.reader.specs.Store.{columnAt, columnsOk}
 use Rattle.rows.specs.Row.{Set, valueIn}
 use Rattle.rows.specs.Placing.{indexBytes}
 use Rattle.rows.specs.Lent.{headerBytes, Put, Stored, setAt, rowBytes, cellWords, rowsBytes, headBytes, tableBytes}

@@ -1,82 +1,26 @@
--- Laws of a row's bytes: where columns lie, what laying a value changes, and that reading gives it back. Assumes nothing.
+-- Laws of a row's bytes: what laying a value changes, and the tests of the code that lays them. Assumes nothing.
 use mathlib.Core.Path.{_≡_, refl, sym, ap, _∙_}
-use mathlib.Core.Bool.{Bool, true, false}
+use mathlib.Core.Bool.{true}
 use mathlib.Core.List.{List, [], _∷_, _++_, append-assoc, map}
-use Prim.Native.Nat.{ℕ, zero, suc, _+_, _-_, _*_, _/_, _%_, _^_, _≤_, _<_}
-use native.Mathlib.Nat.{add-zero, add-suc}
-use native.Mathlib.Decide.{decLt}
-use native.Mathlib.Numerals.{add-one}
+use Prim.Native.Nat.{ℕ, zero, suc, _+_, _-_, _*_, _≤_, _<_}
+use native.Mathlib.Nat.{add-zero}
 use native.Mathlib.Omega.{arith}
-use lib.Dec.{ltb, eqb}
-use lib.IntN.{ℤ, pos, negsuc}
 use lib.ListN.{length, getD, take, drop, set, replicate, length-append, length-set, length-map, length-replicate, replicate-append-replicate, take-append-drop}
-use lib.Seq.{take-at, drop-at, drop-cons, set-split, getD-set-same, getD-set-other, ext-getD, length-take-le, split-at}
-use borrow.Author.Tests.{lt-ltb, le-ltb, eq-eqb, ne-eqb, eqb-true, eqb-false}
-use Rattle.laws.specs.Pick.{pick}
-use Rattle.laws.specs.Bytes.{be, bytesOf, over}
-use Rattle.laws.specs.Signed.{fits, signed, twos, zeroWord, value}
-use Rattle.laws.proofs.BytesLaws.{bytes-length, be-bytes, be-drop}
-use Rattle.laws.proofs.SignedLaws.{sign-back, value-below, value-above}
-use Rattle.laws.proofs.Cases.{Which, which, true-false, Tri, tri}
-use Rattle.laws.proofs.Cases.Which.{holds, fails}
+use lib.Seq.{take-at, drop-at, set-split, getD-set-same, getD-set-other, ext-getD, length-take-le, split-at}
+use borrow.Author.Tests.{eq-eqb, ne-eqb}
+use Rattle.laws.specs.Bytes.{bytesOf, over}
+use Rattle.laws.specs.Signed.{twos, zeroWord, value}
+use Rattle.laws.proofs.BytesLaws.{bytes-length}
+use Rattle.laws.proofs.SignedLaws.{value-below, value-above}
+use Rattle.laws.proofs.Cases.{Tri, tri}
 use Rattle.laws.proofs.Cases.Tri.{below, same, above}
-use Rattle.rows.specs.declared.column.Column.{Column}
-use Rattle.rows.specs.declared.column.Column.the-variants.{At, Missing}
-use Rattle.rows.specs.Store.{columnAt, columnBytes, columnsOk, find, absent}
+use Rattle.reader.specs.declared.column.Column.{Column}
+use Rattle.reader.specs.declared.column.Column.the-variants.{At, Missing}
+use Rattle.reader.specs.Store.{columnAt, columnBytes, columnsOk, find, absent}
 use Rattle.rows.specs.Row.{Set, wordIn, valueIn}
 use Rattle.rows.specs.Lent.{entriesAt, rowBytes, cellWords, placeNo, Placed}
-use Rattle.rows.proofs.StoreLaws.{find-below, find-at, absent-at, ok-once, ok-below}
-
--- ---- where columns lie
-
-pub at-zero : (word : ℕ) → columnAt word 0 ≡ 0
-unfolding columnAt
-at-zero word = go (decLt word 32768) (decLt 0 (word % 32768))
-  where
-    go : Dec (word < 32768) → Dec (0 < word % 32768) → columnAt word 0 ≡ 0
-    go (yes a) (yes b) = simp (lt-ltb word 32768 a, lt-ltb 0 (word % 32768) b)
-    go (yes a) (no b) = simp (lt-ltb word 32768 a, le-ltb 0 (word % 32768) (omega arith)) (omega arith)
-    go (no a) (yes b) = simp (le-ltb word 32768 (omega arith), lt-ltb 0 (word % 32768) b)
-    go (no a) (no b) = simp (le-ltb word 32768 (omega arith), le-ltb 0 (word % 32768) (omega arith)) (omega arith)
-
--- column j ends where column j + 1 begins
-pub at-step : (word j : ℕ) → columnAt word (j + 1) ≡ columnAt word j + columnBytes word j
-unfolding columnAt columnBytes
-at-step word j = go (decLt word 32768) (decLt j (word % 32768)) (decLt (j + 1) (word % 32768))
-  where
-    go : Dec (word < 32768) → Dec (j < word % 32768) → Dec (j + 1 < word % 32768) → columnAt word (j + 1) ≡ columnAt word j + columnBytes word j
-    go (yes a) (yes b) (yes d) = simp (lt-ltb word 32768 a, lt-ltb j (word % 32768) b, lt-ltb (j + 1) (word % 32768) d) (omega arith)
-    go (yes a) (yes b) (no d) = simp (lt-ltb word 32768 a, lt-ltb j (word % 32768) b, le-ltb (j + 1) (word % 32768) (omega arith)) (omega arith)
-    go (yes a) (no b) (yes d) = absurd (omega arith)
-    go (yes a) (no b) (no d) = simp (lt-ltb word 32768 a, le-ltb j (word % 32768) (omega arith), le-ltb (j + 1) (word % 32768) (omega arith)) (omega arith)
-    go (no a) (yes b) (yes d) = simp (le-ltb word 32768 (omega arith), lt-ltb j (word % 32768) b, lt-ltb (j + 1) (word % 32768) d) (omega arith)
-    go (no a) (yes b) (no d) = simp (le-ltb word 32768 (omega arith), lt-ltb j (word % 32768) b, le-ltb (j + 1) (word % 32768) (omega arith)) (omega arith)
-    go (no a) (no b) (yes d) = absurd (omega arith)
-    go (no a) (no b) (no d) = simp (le-ltb word 32768 (omega arith), le-ltb j (word % 32768) (omega arith), le-ltb (j + 1) (word % 32768) (omega arith)) (omega arith)
-
-at-add : (word j d : ℕ) → columnAt word j ≤ columnAt word (j + d)
-at-add word j zero = rw add-zero (omega arith)
-at-add word j (suc d) =
-    let e : j + suc d ≡ j + d + 1 = omega arith in
-    rw (e, at-step) (omega (arith, at-add word j d))
-
-at-le : (word j n : ℕ) → j ≤ n → columnAt word j ≤ columnAt word n
-at-le word j n h =
-    let e : j + (n - j) ≡ n = omega arith in
-    rw e at (at-add word j (n - j))
-
-pub at-fits : (word j n : ℕ) → j < n → columnAt word j + columnBytes word j ≤ columnAt word n
-at-fits word j n h = omega (arith, at-step word j, at-le word (j + 1) n (omega arith))
-
-pub bytes-range : (word j : ℕ) → (0 < columnBytes word j) × (columnBytes word j ≤ 4)
-unfolding columnBytes
-bytes-range word j = go (decLt word 32768) (decLt j (word % 32768))
-  where
-    go : Dec (word < 32768) → Dec (j < word % 32768) → (0 < columnBytes word j) × (columnBytes word j ≤ 4)
-    go (yes a) (yes b) = simp (lt-ltb word 32768 a, lt-ltb j (word % 32768) b) (omega arith)
-    go (yes a) (no b) = simp (lt-ltb word 32768 a, le-ltb j (word % 32768) (omega arith)) (omega arith)
-    go (no a) (yes b) = simp (le-ltb word 32768 (omega arith), lt-ltb j (word % 32768) b) (omega arith)
-    go (no a) (no b) = simp (le-ltb word 32768 (omega arith), le-ltb j (word % 32768) (omega arith)) (omega arith)
+use Rattle.reader.proofs.ColumnLaws.{at-zero, at-step, at-le}
+use Rattle.reader.proofs.StoreLaws.{find-below, find-at, absent-at, ok-once, ok-below}
 
 -- ---- bytes of a row
 

@@ -18,7 +18,7 @@ use Rattle.laws.proofs.RangeLaws.{seg-none, length-seg, seg-drop, seg-all, all-
 use Rattle.laws.proofs.Cases.{lt-or-ge}
 use Rattle.shapes.specs.Shape.{Shape}
 use Rattle.shapes.specs.Group.{maxItems}
-use Rattle.rows.specs.Store.{columnAt, columnsOk}
+use Rattle.reader.specs.Store.{columnAt, columnsOk}
 use Rattle.rows.specs.Columns.{columnsOf, wordCount}
 use Rattle.rows.specs.Row.{Set, rowOf}
 use Rattle.rows.specs.Placing.{Final, joinAll, runCount, runsOf, indexBytes, rowsOf, subtableOf}

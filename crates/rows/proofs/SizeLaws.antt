@@ -20,7 +20,7 @@ use Rattle.laws.proofs.RangeLaws.{length-seg}
 use Rattle.laws.proofs.Cases.{lt-or-ge}
 use Rattle.shapes.specs.Shape.{Shape}
 use Rattle.shapes.specs.Group.{maxItems}
-use Rattle.rows.specs.Store.{columnAt}
+use Rattle.reader.specs.Store.{columnAt}
 use Rattle.rows.specs.Columns.{columnsOf, wordCount}
 use Rattle.shapes.specs.Group.{groupCost}
 use Rattle.shapes.specs.Lent.{Narrow, Measured, costOf}

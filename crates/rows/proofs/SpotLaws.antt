@@ -16,7 +16,7 @@ use Rattle.laws.proofs.BagLaws.{weigh-append}
 use Rattle.laws.proofs.BytesLaws.{bytes-length}
 use Rattle.laws.proofs.RangeLaws.{length-seg}
 use Rattle.shapes.specs.Group.{maxItems}
-use Rattle.rows.specs.Store.{columnAt}
+use Rattle.reader.specs.Store.{columnAt}
 use Rattle.rows.specs.Placing.{Final, joinAll, runCount}
 use Rattle.rows.specs.Lent.{FormOf, Put, Spotted, chain, finalAt, groupSizes, runSizes, spotOf, spotsOf, tableSize, total}
 use Rattle.rows.proofs.PutLaws.{Putting, put-start, put-more, put-done}

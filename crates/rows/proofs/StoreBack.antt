@@ -24,15 +24,15 @@ use Rattle.laws.proofs.Cases.{Which, which, lt-or-ge, same-or-not, Tri, tri}
 use Rattle.laws.proofs.Cases.Which.{holds, fails}
 use Rattle.laws.proofs.Cases.Tri.{below, same, above}
 use Rattle.shapes.specs.Shape.{Shape}
-use Rattle.rows.specs.declared.column.Column.{Column}
-use Rattle.rows.specs.declared.column.Column.the-variants.{At, Missing}
-use Rattle.rows.specs.declared.reader.Reading.{Reading}
-use Rattle.rows.specs.declared.reader.Reading.the-variants.{Written, NoColumn, Refused}
-use Rattle.rows.specs.Store.{listAt, axisCount, regionCount, headerOk, find, absent, columnsOk, columnAt, readSubtable, readStore, valueOf}
+use Rattle.reader.specs.declared.column.Column.{Column}
+use Rattle.reader.specs.declared.column.Column.the-variants.{At, Missing}
+use Rattle.reader.specs.declared.reader.Reading.{Reading}
+use Rattle.reader.specs.declared.reader.Reading.the-variants.{Written, NoColumn, Refused}
+use Rattle.reader.specs.Store.{listAt, axisCount, regionCount, headerOk, find, absent, columnsOk, columnAt, readSubtable, readStore, valueOf}
 use Rattle.rows.specs.Columns.{columnsOf, wordCount}
 use Rattle.rows.specs.Row.{Set, valueIn, Widths, Covers}
 use Rattle.rows.specs.Placing.{Final, allRuns, names, keptOf, newIndex, joinAll, offsetsOf, listOf, placed, subtableOf, storeOf}
-use Rattle.rows.proofs.StoreLaws.{find-below, find-at, absent-at, ok-intro, ok-once}
+use Rattle.reader.proofs.StoreLaws.{find-below, find-at, absent-at, ok-intro, ok-once}
 use Rattle.rows.proofs.ColumnsLaws.{columns-in, columns-ok, columns-has, columns-lack, find-is}
 use Rattle.rows.proofs.RowLaws.{getD-map}
 use Rattle.rows.proofs.RegionLaws.{kept-in, kept-out, kept-most}
@@ -188,7 +188,7 @@ module _ (axes k : ℕ) (coords : List ℕ) (ts : List (List ℕ)) (axes-few : a
   format-is : be 2 store 0 ≡ 1
   format-is = ap (λ (l : List ℕ). be 2 l 0) whole ∙ be-bytes [] (bytesOf 4 (8 + 4 * n) ++ (bytesOf 2 n ++ tail)) 2 1 0 refl
 
-  list-is : be 4 store 2 ≡ 8 + 4 * n
+  pub list-is : be 4 store 2 ≡ 8 + 4 * n
   list-is = ap (λ (l : List ℕ). be 4 l 2) whole ∙ be-bytes (bytesOf 2 1) (bytesOf 2 n ++ tail) 4 (8 + 4 * n) 2 (bytes-length 2 1) ∙ mod-eq-of-lt (omega arith)
 
   count-is : be 2 store 6 ≡ n
@@ -198,7 +198,7 @@ module _ (axes k : ℕ) (coords : List ℕ) (ts : List (List ℕ)) (axes-few : a
       ap (λ (l : List ℕ). be 2 l 6) (whole ∙ sym (append-assoc (bytesOf 2 1) (bytesOf 4 (8 + 4 * n)) (bytesOf 2 n ++ tail)))
       ∙ be-bytes pre tail 2 n 6 l ∙ mod-eq-of-lt few
 
-  from-list : drop (8 + 4 * n) store ≡ list ++ joinAll ts
+  pub from-list : drop (8 + 4 * n) store ≡ list ++ joinAll ts
   from-list =
       let pre = head ++ offsetsOf begin ts in
       let l : length pre ≡ 8 + 4 * n = length-append head (offsetsOf begin ts) ∙ omega (arith, head-long, offsets-long begin ts) in
@@ -225,7 +225,7 @@ module _ (axes k : ℕ) (coords : List ℕ) (ts : List (List ℕ)) (axes-few : a
       ∙ ap (λ (l : List ℕ). be 2 l 2) (from-list ∙ append-assoc (bytesOf 2 axes) (bytesOf 2 k ++ coords) (joinAll ts) ∙ ap (λ (l : List ℕ). bytesOf 2 axes ++ l) (append-assoc (bytesOf 2 k) coords (joinAll ts)))
       ∙ be-bytes (bytesOf 2 axes) (coords ++ joinAll ts) 2 k 2 (bytes-length 2 axes) ∙ mod-eq-of-lt k-few
 
-  axis-count : axisCount store ≡ axes
+  pub axis-count : axisCount store ≡ axes
   axis-count = ap (be 2 store) list-is ∙ axes-are
 
   pub header-good : headerOk store ≡ true

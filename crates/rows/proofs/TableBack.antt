@@ -1,29 +1,29 @@
 -- What is written reads back: every row and region of a subtable that stands in a store. Assumes nothing.
-use mathlib.Core.Path.{_≡_, refl, sym, ap, ap₂, _∙_}
-use mathlib.Core.Bool.{Bool, true, false, not, _&&_}
+use mathlib.Core.Path.{_≡_, refl, sym, ap, _∙_}
+use mathlib.Core.Bool.{true, false}
 use mathlib.Core.List.{List, [], _∷_, _++_, append-assoc, map}
-use Prim.Native.Nat.{ℕ, zero, suc, _+_, _-_, _*_, _%_, _^_, _≤_, _<_}
-use native.Mathlib.Nat.{add-zero, add-assoc, mod-eq-of-lt, zero-mul, suc-mul}
+use Prim.Native.Nat.{ℕ, zero, suc, _+_, _-_, _*_, _≤_, _<_}
+use native.Mathlib.Nat.{mod-eq-of-lt, zero-mul, suc-mul}
 use native.Mathlib.Omega.{arith}
-use lib.Dec.{eqb, leb}
+use lib.Dec.{leb}
 use lib.ListN.{length, getD, drop, length-append, length-drop, length-map}
 use lib.Seq.{drop-drop, drop-at}
 use borrow.Author.Tests.{le-leb, lt-leb, ne-eqb}
 use Rattle.laws.specs.Bytes.{be, bytesOf}
-use Rattle.laws.specs.Signed.{signed, twos}
+use Rattle.laws.specs.Signed.{twos}
 use Rattle.laws.proofs.BytesLaws.{bytes-length, be-bytes, be-drop}
 use Rattle.laws.specs.Every.{All}
 use Rattle.shapes.specs.Shape.{Shape}
-use Rattle.rows.specs.declared.column.Column.{Column}
-use Rattle.rows.specs.declared.column.Column.the-variants.{At, Missing}
-use Rattle.rows.specs.declared.reader.Reading.{Reading}
-use Rattle.rows.specs.declared.reader.Reading.the-variants.{Written, NoColumn, Refused}
-use Rattle.rows.specs.Store.{words, regionCount, find, columnsOk, columnAt, columnBytes, fullColumns, itemCount, wordAt, columnCount, regionsAt, subtableOk, cell, inColumn, readSubtable}
+use Rattle.reader.specs.declared.column.Column.{Column}
+use Rattle.reader.specs.declared.column.Column.the-variants.{At, Missing}
+use Rattle.reader.specs.declared.reader.Reading.the-variants.{Written, NoColumn}
+use Rattle.reader.specs.Store.{words, regionCount, find, columnsOk, columnAt, columnBytes, fullColumns, itemCount, wordAt, columnCount, regionsAt, subtableOk, cell, inColumn, readSubtable}
 use Rattle.rows.specs.Columns.{columnsOf, wordCount}
 use Rattle.rows.specs.Row.{Set, valueIn, rowOf, Widths, Covers}
 use Rattle.rows.specs.Placing.{indexBytes, subtableOf}
-use Rattle.rows.specs.Lent.{rowBytes, rowsBytes, cellWords, headBytes, tableBytes}
-use Rattle.rows.proofs.StoreLaws.{find-below}
+use Rattle.rows.specs.Lent.{rowBytes, rowsBytes, cellWords}
+use Rattle.reader.proofs.ColumnLaws.{words-drop}
+use Rattle.reader.proofs.StoreLaws.{find-below}
 use Rattle.rows.proofs.ColumnsLaws.{word-below, word-full}
 use Rattle.rows.proofs.CollectLaws.{columns-count, columns-most}
 use Rattle.rows.proofs.RowLaws.{row-length}
@@ -32,11 +32,6 @@ use Rattle.rows.proofs.RunLaws.{table-is, table-some}
 use Rattle.rows.proofs.BackLaws.{row-is, row-back}
 
 -- ---- numbers of two bytes
-
-words-drop : (a : ℕ) (s : List ℕ) (b n : ℕ) → words (drop a s) b n ≡ words s (a + b) n
-unfolding words
-words-drop a s b zero = refl
-words-drop a s b (suc n) = rw (be-drop 2 a s b, words-drop a s (b + 2) n, ← add-assoc)
 
 index-words : (number : ℕ → ℕ) (pre cols rest : List ℕ) (at : ℕ) → length pre ≡ at → All (λ r. number r < 65536) cols
     → words (pre ++ (indexBytes number cols ++ rest)) at (length cols) ≡ map number cols

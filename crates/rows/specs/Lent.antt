@@ -10,9 +10,9 @@ use lib.ListN.{length, getD, set, take, drop}
 use Rattle.laws.specs.Bytes.{bytesOf, over}
 use Rattle.shapes.specs.Shape.{Shape}
 use Rattle.laws.specs.Signed.{twos}
-use Rattle.rows.specs.declared.column.Column.{Column}
-use Rattle.rows.specs.declared.column.Column.the-variants.{At, Missing}
-use Rattle.rows.specs.Store.{columnAt, columnBytes, columnsOk, find}
+use Rattle.reader.specs.declared.column.Column.{Column}
+use Rattle.reader.specs.declared.column.Column.the-variants.{At, Missing}
+use Rattle.reader.specs.Store.{columnAt, columnBytes, columnsOk, find}
 use Rattle.rows.specs.Columns.{columnsOf, wordCount}
 use Rattle.rows.specs.Row.{Set, valueIn}
 use Rattle.laws.specs.Bounded.{tabulate}

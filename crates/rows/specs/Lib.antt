@@ -1,4 +1,3 @@
-pub mod Store
 pub mod Columns
 pub mod Row
 pub mod Placing

@@ -1,15 +1,15 @@
 // Lays a set into its row. The row's writer gets the part of the output that starts at its row, and nothing else of the store.
 use crate::bytes::put;
-use crate::column::Column;
-use crate::column::column_at;
-use crate::column::column_bytes;
 use crate::column::column_of;
+use reader::Column;
+use reader::column_at;
+use reader::column_bytes;
 ghost use mathlib.Core.Path.{_≡_};
 ghost use mathlib.Core.List.{List, [], _++_};
 ghost use Prim.Native.Nat.{_+_, _*_, _≤_, _<_};
 ghost use lib.ListN.{length, take, drop, replicate};
 ghost use Rattle.laws.specs.Signed.{twos, value};
-ghost use Rattle.rows.specs.Store.{columnAt};
+ghost use Rattle.reader.specs.Store.{columnAt};
 ghost use Rattle.rows.specs.Lent.{Placed, entriesAt, rowBytes, cellWords};
 
 // A word of work as two's complement.

@@ -1,11 +1,11 @@
 // How many bytes the subtables take, worked out without writing, and where each begins.
 use crate::bytes::put;
 use crate::column::Form;
-use crate::column::column_at;
 use crate::column::columns;
 use crate::groups::REGIONS;
 use crate::subtable::run_count;
 use crate::subtable::run_items;
+use reader::column_at;
 ghost use mathlib.Core.Path.{_≡_};
 ghost use Prim.Native.Nat.{ℕ, _+_, _-_, _*_, _≤_, _<_, min};
 ghost use lib.ListN.{length};

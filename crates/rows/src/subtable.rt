@@ -1,8 +1,8 @@
 // Writes one subtable: item count, word count, region count, region indexes, rows. Each function puts its bytes from a place on and
 // answers where they end.
 use crate::bytes::put;
-use crate::column::column_at;
 use crate::row::write_row;
+use reader::column_at;
 use shapes::Encoding;
 ghost use mathlib.Core.Path.{_≡_};
 ghost use mathlib.Core.Bool.{true};
@@ -11,7 +11,7 @@ ghost use mathlib.Core.List.{_++_};
 ghost use lib.ListN.{length, drop};
 ghost use Rattle.laws.specs.Range.{seg};
 ghost use Rattle.laws.specs.Every.{All};
-ghost use Rattle.rows.specs.Store.{columnAt, columnsOk};
+ghost use Rattle.reader.specs.Store.{columnAt, columnsOk};
 ghost use Rattle.shapes.specs.Group.{maxItems};
 ghost use Rattle.rows.specs.Placing.{indexBytes, runCount};
 ghost use Rattle.rows.specs.Lent.{Placed, Put, Stored, cellWords, headBytes, numberIn, rowBytes, rowsBytes, runsBytes, setAt, tableBytes};

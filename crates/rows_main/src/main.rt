@@ -1,6 +1,6 @@
 // Reads a list of stores from standard input, damaged ones among them, and writes what the reader answers for each. A case is a line of
 // hexadecimal bytes: outer, inner, region, then the store. Blanks are skipped, and so is the rest of a line from a '#' on.
-use rows::Reading;
+use reader::Reading;
 ghost use Prim.Native.Nat.{_≤_};
 
 fn nibble(b: u8) -> u8
@@ -61,7 +61,7 @@ fn answer(case: &[u8], n: usize) {
     if case.len() < n {
         return;
     }
-    show(rows::read(&case[3..n], wide(case[0]), wide(case[1]), wide(case[2])));
+    show(reader::read(&case[3..n], wide(case[0]), wide(case[1]), wide(case[2])));
 }
 
 // How far the text is read: the bytes of the case so far, the first half of the next one (16 for none), and whether a '#' was seen.

@@ -1,12 +1,12 @@
 //! The reader on damaged stores. (Good ones: [`crate::laws::rows_read_back`].)
 
-use crate::Tally;
+use crate::{proved, Tally};
 use jobs::{damage, random, Rng};
 use plain::{number, read, Sizes};
 
 /// Some places of a damaged store of each seed, read: an answer always comes, and
 /// it is the answer to a longer store that begins with this one, unless it is
-/// BAD_STORE.
+/// BAD_STORE; and the proved reader gives the same.
 pub fn damaged(seeds: impl Iterator<Item = u64>, readings: usize) -> Tally {
     let mut tally = Tally::default();
     for seed in seeds {
@@ -16,7 +16,7 @@ pub fn damaged(seeds: impl Iterator<Item = u64>, readings: usize) -> Tally {
         let Ok(done) = plain::build(job.axes as u32, mode, &job.to_bytes(), &Sizes::PLENTY) else {
             continue;
         };
-        for _ in 0..readings {
+        for reading in 0..readings {
             let store = damage::store(rng, &done.store);
             let longer = [&store[..], &[0; 7]].concat();
             let ask = places(rng, done.counts.subtables, done.counts.regions_kept);
@@ -29,7 +29,16 @@ pub fn damaged(seeds: impl Iterator<Item = u64>, readings: usize) -> Tally {
             } else {
                 Err(format!("seed {seed}, {ask:?}: {short:?}, longer {long:?}"))
             };
-            tally.count(outcome);
+            // Some of them where the library is emulated, which is slow.
+            let asked = !ivs::EMULATED || reading % 16 == 0;
+            let proved = |()| {
+                if asked {
+                    proved::read(&store, ask)
+                } else {
+                    Ok(())
+                }
+            };
+            tally.count(outcome.and_then(proved));
         }
     }
     tally

@@ -6,7 +6,7 @@ use Rattle.ivs.proofs.ivs_read.Tie as tie
 use Rattle.ivs.proofs.ivs_read.Reads as reads
 use Rattle.ivs.proofs.ivs_read.Lts as lts
 use Rattle.ivs.proofs.bits.Reads as bits-reads
-use Rattle.rows.proofs.read.Reads as read-reads
+use Rattle.reader.proofs.read.Reads as read-reads
 
 read-requires : tie.Need-read-requires
 read-requires c κs = search needs

@@ -5,7 +5,7 @@ use denote.Ref.{now}
 use lib.ListN.{length, getD, replicate}
 use Rattle.laws.proofs.Products.{product}
 use Rattle.rows.specs.Lent.{markedIn}
-use Rattle.rows.proofs.StoreLaws.{zeros-at}
+use Rattle.reader.proofs.StoreLaws.{zeros-at}
 use Rattle.rows.proofs.RegionLaws.{marks-none, kept-most}
 use native.Mathlib.Omega.{arith}
 use borrow.Author.Needs.{needs}

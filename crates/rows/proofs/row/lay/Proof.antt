@@ -3,10 +3,11 @@ use Prim.Native.Nat.{_+_, _*_, _-_, _<_}
 use denote.Ref.{now}
 use lib.ListN.{length, getD}
 use Rattle.laws.specs.Bytes.{bytesOf, over}
-use Rattle.rows.specs.declared.column.Column.the-variants.{At}
-use Rattle.rows.specs.Store.{find, columnAt, columnBytes}
-use Rattle.rows.proofs.StoreLaws.{find-below}
-use Rattle.rows.proofs.RowLaws.{Laying, lay-start, lay-skip, lay-put, lay-done, at-fits}
+use Rattle.reader.specs.declared.column.Column.the-variants.{At}
+use Rattle.reader.specs.Store.{find, columnAt, columnBytes}
+use Rattle.reader.proofs.StoreLaws.{find-below}
+use Rattle.reader.proofs.ColumnLaws.{at-fits}
+use Rattle.rows.proofs.RowLaws.{Laying, lay-start, lay-skip, lay-put, lay-done}
 use borrow.Author.Needs.{needs}
 use native.Mathlib.Omega.{arith}
 use Rattle.rows.proofs.row.lay.Statement.{statement}
@@ -14,8 +15,8 @@ use Rattle.rows.proofs.row.lay.Tie as tie
 use Rattle.rows.proofs.row.lay.Reads as reads
 use Rattle.rows.proofs.row.lay.Lts as lts
 use Rattle.rows.proofs.bytes.put.Reads as put-reads
-use Rattle.rows.proofs.column.column_at.Reads as column-at-reads
-use Rattle.rows.proofs.column.column_bytes.Reads as column-bytes-reads
+use Rattle.reader.proofs.column_at.Reads as column-at-reads
+use Rattle.reader.proofs.column_bytes.Reads as column-bytes-reads
 use Rattle.rows.proofs.column.column_of.Reads as column-of-reads
 use Rattle.rows.proofs.row.twos.Reads as twos-reads
 

@@ -10,7 +10,7 @@ use Rattle.rows.proofs.row.write_row.Statement.{statement}
 use Rattle.rows.proofs.row.write_row.Tie as tie
 use Rattle.rows.proofs.row.write_row.Reads as reads
 use Rattle.rows.proofs.row.write_row.Lts as lts
-use Rattle.rows.proofs.column.column_at.Reads as column-at-reads
+use Rattle.reader.proofs.column_at.Reads as column-at-reads
 use Rattle.rows.proofs.row.clear.Reads as clear-reads
 use Rattle.rows.proofs.row.lay.Reads as lay-reads
 

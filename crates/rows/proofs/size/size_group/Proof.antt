@@ -6,7 +6,7 @@ use Rattle.rows.proofs.size.size_group.Statement.{statement}
 use Rattle.rows.proofs.size.size_group.Tie as tie
 use Rattle.rows.proofs.size.size_group.Reads as reads
 use Rattle.rows.proofs.size.size_group.Lts as lts
-use Rattle.rows.proofs.column.column_at.Reads as column-at-reads
+use Rattle.reader.proofs.column_at.Reads as column-at-reads
 use Rattle.rows.proofs.size.form_of.Reads as form-of-reads
 use Rattle.rows.proofs.size.size_runs.Reads as size-runs-reads
 

@@ -10,7 +10,7 @@ use Rattle.rows.proofs.size.write_group_spots.Statement.{statement}
 use Rattle.rows.proofs.size.write_group_spots.Tie as tie
 use Rattle.rows.proofs.size.write_group_spots.Reads as reads
 use Rattle.rows.proofs.size.write_group_spots.Lts as lts
-use Rattle.rows.proofs.column.column_at.Reads as column-at-reads
+use Rattle.reader.proofs.column_at.Reads as column-at-reads
 use Rattle.rows.proofs.size.form_of.Reads as form-of-reads
 use Rattle.rows.proofs.size.write_run_spots.Reads as write-run-spots-reads
 

@@ -4,7 +4,7 @@ use denote.Ref.{now}
 use lib.ListN.{length, drop}
 use Rattle.rows.specs.Placing.{indexBytes}
 use Rattle.rows.specs.Lent.{numberIn}
-use Rattle.rows.proofs.StoreLaws.{ok-below}
+use Rattle.reader.proofs.StoreLaws.{ok-below}
 use Rattle.rows.proofs.PutLaws.{Putting, put-start, indexes-more, indexes-done}
 use borrow.Author.Needs.{needs}
 use native.Mathlib.Omega.{arith}

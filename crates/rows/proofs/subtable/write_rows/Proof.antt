@@ -4,7 +4,7 @@ use denote.Ref.{now}
 use lib.ListN.{length, getD}
 use Rattle.laws.specs.Range.{seg}
 use Rattle.laws.proofs.RangeLaws.{seg-all}
-use Rattle.rows.specs.Store.{columnAt}
+use Rattle.reader.specs.Store.{columnAt}
 use Rattle.rows.specs.Lent.{Stored, rowBytes, rowsBytes, cellWords, setAt}
 use Rattle.rows.proofs.PutLaws.{Putting, part-over, rows-start, rows-room, rows-more, rows-done}
 use borrow.Author.Needs.{needs}
@@ -13,7 +13,7 @@ use Rattle.rows.proofs.subtable.write_rows.Statement.{statement}
 use Rattle.rows.proofs.subtable.write_rows.Tie as tie
 use Rattle.rows.proofs.subtable.write_rows.Reads as reads
 use Rattle.rows.proofs.subtable.write_rows.Lts as lts
-use Rattle.rows.proofs.column.column_at.Reads as column-at-reads
+use Rattle.reader.proofs.column_at.Reads as column-at-reads
 use Rattle.rows.proofs.subtable.write_set.Reads as write-set-reads
 
 abbrev Inv-loop : tie.InvT-loop

@@ -4,7 +4,7 @@ use denote.Ref.{now}
 use lib.ListN.{length}
 use Rattle.laws.specs.Range.{seg}
 use Rattle.laws.proofs.RangeLaws.{length-seg}
-use Rattle.rows.specs.Store.{columnAt}
+use Rattle.reader.specs.Store.{columnAt}
 use Rattle.rows.specs.Lent.{numberIn, setAt}
 use Rattle.rows.proofs.PutLaws.{index-length}
 use Rattle.rows.proofs.RunLaws.{empty-put, head-length, table-room, table-put}

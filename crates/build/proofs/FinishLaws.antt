@@ -1,0 +1,215 @@
+-- From packed sets in work to the answer of the definition: what writing asks for is there, what it leaves is what is to be left, and the tests of
+-- what is lent are the definition's. Assumes nothing.
+use mathlib.Core.Path.{_≡_, refl, sym, ap, ap₂, _∙_}
+use mathlib.Core.Bool.{true, false}
+use mathlib.Core.List.{List, [], _∷_, map}
+use Prim.Native.Nat.{ℕ, zero, suc, _+_, _-_, _*_, _≤_, _<_}
+use native.Mathlib.Omega.{arith}
+use lib.Dec.{eqb, leb}
+use lib.ListN.{length, getD, length-map}
+use borrow.Author.Tests.{le-leb, eq-eqb, ne-eqb}
+use Rattle.laws.specs.Bytes.{over}
+use Rattle.laws.specs.Every.{All}
+use Rattle.laws.specs.Bounded.{tabulate, upTo}
+use Rattle.laws.specs.Range.{seg}
+use Rattle.laws.proofs.EveryLaws.{all}
+use Rattle.laws.proofs.BoundedLaws.{length-tabulate}
+use Rattle.laws.proofs.RangeLaws.{length-seg}
+use Rattle.laws.proofs.SortLaws.{keep-same}
+use Rattle.groups.specs.Groups.{maxShapes}
+use Rattle.merging.specs.Model.{Entry}
+use Rattle.merging.specs.Held.{words}
+use Rattle.rows.specs.Placing.{Final, allRuns, idWords, names, keptOf, storeOf, forecastOf}
+use Rattle.rows.specs.Lent.{Drafted, Planned, Ready, coordsAt, coordsOf, finalAt, finalsAt, markedIn, setAt, sizesAt, stored}
+use Rattle.rows.proofs.RegionLaws.{kept-most}
+use Rattle.rows.proofs.PlacedLaws.{planned, draft-exact, tables-count}
+use Rattle.job.specs.Refusals.{firstFailed, shapesFull, idsShort, mapShort, logShort, outShort}
+use Rattle.encoder.specs.declared.places.Places.{Places}
+use Rattle.encoder.specs.declared.encoded.Encoded.{Encoded}
+use Rattle.encoder.specs.Packed.{Packed}
+use Rattle.encoder.specs.Lent.{relabel, PackedAt}
+use Rattle.build.specs.declared.answers.Report.{Report}
+use Rattle.build.specs.declared.answers.Built.the-variants.{Refused, Done}
+use Rattle.build.specs.Late.{Lent, storeFor, regionsKept, lateNo, reportOf, lateAnswer, ifDone, outLeft, idsLeft, mapLeft, logLeft}
+use Rattle.build.specs.Lent.{FinishFit, Finished, RoomFor, WordsFit, WordsWritten, lengths, reportIn, shortNo, storeIn}
+use Rattle.build.proofs.LoopLaws.{room-for}
+use Rattle.build.proofs.WordsLaws.{groups-to, handed, small}
+use Rattle.build.proofs.StoreLaws.{set-same, runs-count, kept-relabel, forecast-relabel, store-relabel, store-small}
+
+all-tabulate : {A : Type 0} (P : A → Type 0) (a n : ℕ) (f : ℕ → A) → ((k : ℕ) → a ≤ k → k < a + n → P (f k)) → All P (tabulate a n f)
+unfolding tabulate
+all-tabulate P a zero f h = tt
+all-tabulate P a (suc n) f h = (h a (omega arith) (omega arith), all-tabulate P (suc a) n f (λ k p q. h k (omega arith) (omega arith)))
+
+words-length : (l : List Entry) → length (words l) ≡ 3 * length l
+unfolding words
+words-length [] = refl
+words-length (e ∷ l) = omega (arith, words-length l)
+
+-- with so few groups, the first test of the definition holds
+late-same : (sets distinct groups bytes out ids map log : ℕ) → groups ≤ maxShapes
+    → shortNo sets distinct groups bytes out ids map log
+    ≡ firstFailed ((leb groups maxShapes, shapesFull) ∷ (leb sets ids, idsShort) ∷ (leb distinct map, mapShort) ∷ (leb (3 * (groups - 1)) log, logShort) ∷ (leb bytes out, outShort) ∷ [])
+unfolding shortNo firstFailed
+late-same sets distinct groups bytes out ids map log h = rw (le-leb groups maxShapes h)
+
+-- ---- what writing asks for
+
+pub words-fit : {axes starts : ℕ} {job : List ℕ} {p : Places} {e : Encoded} {w : List ℕ} → FinishFit axes starts job p e w → WordsFit p e w
+words-fit f = record { packed-as = f .packed-as; packed = f .packed; merges-few = f .merges-few; ids-below = f .ids-below }
+
+module _ {axes starts : ℕ} {job : List ℕ} {p : Places} {e : Encoded} {w : List ℕ} (fit : FinishFit axes starts job p e w) where
+  pub ready : Ready job axes starts w (p .regions) (p .heap) (e .count) 0
+  ready =
+      let k = fit .packed in
+      record {
+        axes-most = fit .axes-few;
+        regions-most = k .regions-few;
+        groups-most = k .finals-few;
+        rows = groups-to (words-fit fit);
+        starting = omega (arith, fit .starts-to, k .rows-to);
+        handed = handed (words-fit fit);
+        small = small (words-fit fit);
+        sourced = fit .sourced;
+      }
+
+  -- the log is as long as the merges need it
+  pub log-fits : {sets distinct bytes out ids map log : ℕ} → RoomFor sets distinct (e .groups) bytes out ids map log → 3 * e .merges ≤ log
+  log-fits r = omega (arith, r .log-room, fit .merges-few)
+
+  -- ---- what was drafted
+
+  module _ {marks numbers : List ℕ} {bytes runs kept : ℕ} (d : Drafted axes w (p .regions) (p .heap) (e .count) marks numbers bytes runs kept) where
+    pub kept-few : kept ≤ 256
+    kept-few = omega (arith, d .numbered .all, kept-most (markedIn marks) (p .regions), fit .packed .regions-few)
+
+    bytes-few : bytes < 4294967296
+    bytes-few = omega (arith, d .bytes-is, store-small (fit .packed-as) p e w (fit .packed) axes kept runs (fit .axes-few) kept-few (d .runs-is))
+
+    pub plan : Planned axes w (p .regions) (p .heap) (e .count) marks numbers runs kept
+    plan = planned job axes starts w (p .regions) (p .heap) (e .count) 0 marks numbers bytes runs kept ready d bytes-few
+
+    pub bytes-are : bytes ≡ length (storeIn axes starts job p e w)
+    bytes-are = draft-exact job axes starts w (p .regions) (p .heap) (e .count) 0 marks numbers bytes runs kept ready d bytes-few
+
+    -- none of the tests fails: there is room for the store
+    pub room : {code out ids map log : ℕ} → code ≡ shortNo (p .sets) (e .distinct) (e .groups) bytes out ids map log → code ≡ 0
+        → RoomFor (p .sets) (e .distinct) (e .groups) (length (storeIn axes starts job p e w)) out ids map log
+    room {code} {out} {ids} {map} {log} q z =
+        rw bytes-are at (room-for (p .sets) (e .distinct) (e .groups) bytes out ids map log (sym q ∙ z))
+
+    -- ---- the definition's words for it
+
+    module _ (k : Packed) (at : PackedAt k p e w) where
+      abbrev coords : List (List ℕ)
+      coords = coordsOf job axes w starts (p .regions)
+
+      abbrev groups : List Final
+      groups = finalsAt (p .regions) (p .heap) (e .count) w
+
+      abbrev id-of : ℕ → ℕ
+      id-of x = getD (k .ids) x 0
+
+      groups-all : All (λ (g : Final). All (λ x. x < p .sets) (g .ids)) groups
+      unfolding finalsAt finalAt
+      groups-all = all-tabulate (λ (g : Final). All (λ x. x < p .sets) (g .ids)) 0 (e .count) (λ g. finalAt (p .regions) w (p .heap + 3 * g)) (λ g l h. at .finals-in g (omega arith) .numbers)
+
+      pub store-is : storeIn axes starts job p e w ≡ storeFor axes coords k
+      unfolding storeFor
+      store-is =
+          store-relabel axes coords id-of (setAt 0 w) (λ x. getD (k .sets) x []) (p .sets) groups groups-all (λ x h. set-same 0 x w ∙ sym (at .sets-are x h))
+          ∙ ap (storeOf axes coords (λ x. getD (k .sets) x [])) (at .finals-are)
+
+      pub ids-long : length (k .ids) ≡ p .sets
+      ids-long = ap length (sym (at .ids-are)) ∙ length-seg (p .ids) (p .sets) w (omega (arith, at .ids-to, at .finals-to, at .rows-to))
+
+      pub late-is : (l : Lent) → shortNo (p .sets) (e .distinct) (e .groups) bytes (l .out) (l .ids) (l .map) (l .log) ≡ lateNo axes coords k l
+      unfolding lateNo
+      late-is l =
+          let b : bytes ≡ length (storeFor axes coords k) = bytes-are ∙ ap length store-is in
+          ap₂ (λ (m n : ℕ). shortNo m n (e .groups) bytes (l .out) (l .ids) (l .map) (l .log)) (sym ids-long) (at .distinct-is)
+          ∙ ap₂ (λ (m n : ℕ). shortNo (length (k .ids)) (length (k .sets)) m n (l .out) (l .ids) (l .map) (l .log)) (at .groups-is) b
+          ∙ late-same (length (k .ids)) (length (k .sets)) (k .groups) (length (storeFor axes coords k)) (l .out) (l .ids) (l .map) (l .log) (omega (arith, at .groups-is, at .groups-few))
+
+      shapes-few : (g : ℕ) → g < e .count → length (finalAt (p .regions) w (p .heap + 3 * g) .shape) < 32768
+      unfolding finalAt
+      shapes-few g h =
+          omega (arith, length-seg (getD w (p .heap + 3 * g) 0) (p .regions) w (omega (arith, at .finals-in g h .shape-to, at .rows-to)), at .regions-few)
+
+      runs-are : runs ≡ length (allRuns (k .finals))
+      unfolding sizesAt finalsAt
+      runs-are =
+          let f : ℕ → Final = (λ g. finalAt (p .regions) w (p .heap + 3 * g)) in
+          let number : ℕ → ℕ = (λ r. r) in
+          d .runs-is
+          ∙ sym (tables-count number (setAt 0 w) f (e .count) shapes-few)
+          ∙ length-map (allRuns (tabulate 0 (e .count) f)) _
+          ∙ sym (runs-count id-of (tabulate 0 (e .count) f))
+          ∙ ap (λ (gs : List Final). length (allRuns gs)) (at .finals-are)
+
+      kept-are : kept ≡ regionsKept coords k
+      unfolding regionsKept coordsOf
+      kept-are =
+          d .numbered .all
+          ∙ ap length (keep-same (markedIn marks) (λ r. names r groups) (upTo (p .regions)) (all (λ r. d .marked .is r) (upTo (p .regions))))
+          ∙ ap length (sym (kept-relabel (p .regions) id-of groups))
+          ∙ ap (λ (gs : List Final). length (keptOf (p .regions) gs)) (at .finals-are)
+          ∙ ap (λ (n : ℕ). length (keptOf n (k .finals))) (sym (length-tabulate 0 (p .regions) (λ r. coordsAt job axes (getD w (starts + r) 0))))
+
+      forecast-are : forecastOf axes kept groups ≡ forecastOf axes (regionsKept coords k) (k .finals)
+      forecast-are = sym (forecast-relabel axes kept id-of groups) ∙ ap₂ (forecastOf axes) kept-are (at .finals-are)
+
+      -- ---- the answers
+
+      report-is : reportIn axes p e w bytes runs kept ≡ reportOf axes coords k
+      unfolding reportIn reportOf
+      report-is =
+          let b : bytes ≡ length (storeFor axes coords k) = bytes-are ∙ ap length store-is in
+          (λ i. record {
+            bytes = b i;
+            subtables = runs-are i;
+            regions = kept-are i;
+            ids = at .distinct-is i;
+            groups = at .groups-is i;
+            merges = at .merges-is i;
+            weighed = at .weighed-is i;
+            before = at .before-is i;
+            after = at .after-is i;
+            forecast = forecast-are i;
+          })
+
+      pub refused-as : (code : ℕ) (out ids map log : List ℕ) → code ≡ shortNo (p .sets) (e .distinct) (e .groups) bytes (length out) (length ids) (length map) (length log) → (code ≡ 0 → ⊥)
+          → Finished axes coords k (lengths out ids map log) (Refused code 0) out ids map log out ids map log
+      unfolding lateAnswer outLeft idsLeft mapLeft logLeft ifDone
+      refused-as code out ids map log q z =
+          let l = lengths out ids map log in
+          let n : code ≡ lateNo axes coords k l = q ∙ late-is l in
+          let t : eqb (lateNo axes coords k l) 0 ≡ false = rw (← n) (ne-eqb code 0 z) in
+          record {
+            answer = rw (t, n);
+            out-is = rw t;
+            ids-is = rw t;
+            map-is = rw t;
+            log-is = rw t;
+          }
+
+      pub done-as : (code : ℕ) (r : Report) (out ids map log out′ ids′ map′ log′ : List ℕ) → code ≡ shortNo (p .sets) (e .distinct) (e .groups) bytes (length out) (length ids) (length map) (length log) → code ≡ 0
+          → out′ ≡ over out 0 (length (storeIn axes starts job p e w)) (storeIn axes starts job p e w) → r ≡ reportIn axes p e w bytes runs kept → WordsWritten p e w ids map log ids′ map′ log′
+          → Finished axes coords k (lengths out ids map log) (Done r) out ids map log out′ ids′ map′ log′
+      unfolding lateAnswer outLeft idsLeft mapLeft logLeft ifDone
+      done-as code r out ids map log out′ ids′ map′ log′ q z o m a =
+          let l = lengths out ids map log in
+          let t : eqb (lateNo axes coords k l) 0 ≡ true = eq-eqb (lateNo axes coords k l) 0 (sym (late-is l) ∙ sym q ∙ z) in
+          record {
+            answer = rw t (ap Done (m ∙ report-is));
+            out-is = rw t (o ∙ ap (λ (s : List ℕ). over out 0 (length s) s) store-is);
+            ids-is = rw t (a .ids-is ∙ ap₂ (λ (n : ℕ) (s : List ℕ). over ids 0 n s) (sym ids-long) (at .ids-are));
+            map-is = rw t (a .map-is ∙ ap (λ (gs : List Final). stored (idWords 0 (allRuns gs)) map) renamed);
+            log-is = rw t (a .log-is ∙ ap₂ (λ (n : ℕ) (s : List ℕ). over log 0 n s) log-long (at .log-are));
+          }
+        where
+          renamed : relabel (λ x. getD (seg (p .ids) (p .sets) w) x 0) groups ≡ k .finals
+          renamed = ap (λ (s : List ℕ). relabel (λ x. getD s x 0) groups) (at .ids-are) ∙ at .finals-are
+
+          log-long : 3 * e .merges ≡ length (words (k .log))
+          log-long = ap (λ (n : ℕ). 3 * n) (at .merges-is) ∙ sym (words-length (k .log))

@@ -1,0 +1,16 @@
+pub mod StoreLaws
+pub mod CoordLaws
+pub mod LoopLaws
+pub mod WordsLaws
+pub mod FinishLaws
+pub mod StartLaws
+pub mod NoneLaws
+pub mod PackLaws
+pub mod RecordsLaws
+pub mod ManyLaws
+pub mod PackedLaws
+pub mod RunSound
+pub mod Demand2
+pub mod ShortLaws
+pub mod ListBack
+pub mod ReadBack

@@ -1,0 +1,185 @@
+-- Sets packed by either mode are what the last part of a build asks for, and what that leaves is what the definitions say. Assumes nothing.
+use mathlib.Core.Path.{_≡_, refl, sym, ap, ap₂, subst, _∙_}
+use mathlib.Core.Logic.{⊎-elim}
+use mathlib.Core.Bool.{Bool, true, false}
+use mathlib.Core.List.{List, [], _∷_, map}
+use Prim.Native.Nat.{ℕ, zero, suc, _+_, _-_, _*_, _≤_, _<_}
+use native.Mathlib.Omega.{arith}
+use borrow.Author.Tests.{eq-eqb, ne-eqb, lt-leb}
+use lib.Dec.{eqb, leb}
+use lib.ListN.{length, getD}
+use Rattle.laws.specs.Pick.{pick}
+use Rattle.laws.specs.Every.{All}
+use Rattle.laws.specs.Bounded.{tabulate, upTo}
+use Rattle.laws.specs.Range.{Only, seg}
+use Rattle.laws.proofs.Cases.{same-or-not}
+use Rattle.laws.proofs.EveryLaws.{all-getD}
+use Rattle.laws.proofs.BoundedLaws.{tabulate-same, getD-tabulate}
+use Rattle.laws.proofs.RangeLaws.{getD-seg}
+use Rattle.shapes.specs.Group.{Group}
+use Rattle.sets.specs.Set.{Set}
+use Rattle.sets.specs.Ids.{sharedIds, distinct}
+use Rattle.sets.specs.Lent.{setsIn}
+use Rattle.sets.proofs.HeldLaws.{sets-length}
+use Rattle.groups.specs.Groups.{groupsOf}
+use Rattle.merging.specs.Model.{merged}
+use Rattle.merging.proofs.Theorems.{fewer, none-of-none}
+use Rattle.rows.specs.Lent as rows
+use Rattle.job.specs.Refusals.{firstFailed}
+use Rattle.job.specs.Job.{Said}
+use Rattle.encoder.specs.declared.places.Places.{Places}
+use Rattle.encoder.specs.declared.encoded.Encoded.{Encoded}
+use Rattle.encoder.specs.declared.encoded.Packing.{Packing}
+use Rattle.encoder.specs.declared.encoded.Packing.the-variants.{Full, Done}
+use Rattle.encoder.specs.Packed.{Packed, shared, own}
+use Rattle.encoder.specs.Places.{Laid}
+use Rattle.encoder.specs.Lent.{Fit, PackedAt, Shared, SharedAt, OwnAt}
+use Rattle.encoder.proofs.DenseIds.{ids-length, ids-below}
+use Rattle.build.specs.declared.answers.Built.{Built}
+use Rattle.build.specs.declared.answers.Built.the-variants.{Refused}
+use Rattle.build.specs.Late.{Lent, lateNo, lateAnswer, ifDone, outLeft, idsLeft, mapLeft, logLeft}
+use Rattle.build.specs.Build.{coordsOf, packedOf}
+use Rattle.build.specs.Lent.{FinishFit, Finished}
+use Rattle.build.specs.Collected.{Collected}
+
+-- ---- fewer merges than groups, and ids below their count
+
+merges-most : (xs : List Group) → length (merged xs .log) ≤ length xs - 1
+unfolding merged
+merges-most xs = ⊎-elim
+    (λ (z : length xs ≡ 0). omega (arith, none-of-none (length xs) xs z .0))
+    (λ n. omega (arith, fewer (length xs) xs (omega arith)))
+    (same-or-not (length xs) 0)
+
+shared-merges : (n : ℕ) (all : List Set) → length (shared n all .log) ≤ shared n all .groups - 1
+unfolding shared
+shared-merges n all = merges-most (groupsOf n all)
+
+shared-ids : (n : ℕ) (all : List Set) (x : ℕ) → x < length all → getD (shared n all .ids) x 0 < length (shared n all .sets)
+unfolding shared
+shared-ids n all x h = all-getD (λ (y : ℕ). y < length (distinct all)) (sharedIds all) x 0 (ids-below all) (omega (arith, ids-length all))
+
+own-ids : (n : ℕ) (all : List Set) (x : ℕ) → x < length all → getD (own n all .ids) x 0 < length (own n all .sets)
+unfolding own
+own-ids n all x h = let e = getD-tabulate 0 (length all) (λ k. k) 0 x h in omega arith
+
+own-merges : (n : ℕ) (all : List Set) → length (own n all .log) ≤ own n all .groups - 1
+unfolding own
+own-merges n all = omega arith
+
+-- ---- a refusal leaves everything as it was
+
+pub refused-late : (axes : ℕ) (coords : List (List ℕ)) (k : Packed) (l : Lent) (n : ℕ) (out ids map log : List ℕ) → lateNo axes coords k l ≡ suc n
+    → Finished axes coords k l (Refused (suc n) 0) out ids map log out ids map log
+unfolding lateAnswer outLeft idsLeft mapLeft logLeft ifDone
+refused-late axes coords k l n out ids map log e =
+    let z : eqb (lateNo axes coords k l) 0 ≡ false = ap (λ (x : ℕ). eqb x 0) e ∙ ne-eqb (suc n) 0 (λ x. omega arith) in
+    record { answer = rw (z, e); out-is = rw z; ids-is = rw z; map-is = rw z; log-is = rw z }
+
+too-many : (axes : ℕ) (coords : List (List ℕ)) (k : Packed) (l : Lent) → 1024 < k .groups → lateNo axes coords k l ≡ 10
+unfolding lateNo firstFailed
+too-many axes coords k l h = rw (lt-leb (k .groups) 1024 h)
+
+module _ {axes starts : ℕ} {job w : List ℕ} {p : Places} {s : Said} (c : Collected axes starts job p s w) where
+  abbrev all : List Set
+  all = setsIn 0 (p .sets) w
+
+  lies : Laid p (length w)
+  lies = c .fit .laid
+
+  shared-is : (mode : ℕ) → mode ≡ 0 → shared (p .regions) all ≡ packedOf mode s
+  unfolding packedOf
+  shared-is mode e = rw (eq-eqb mode 0 e, c .sets-are, c .regions-are) refl
+
+  own-is : (mode : ℕ) → (mode ≡ 0 → ⊥) → own (p .regions) all ≡ packedOf mode s
+  unfolding packedOf
+  own-is mode e = rw (ne-eqb mode 0 e, c .sets-are, c .regions-are) refl
+
+  module _ {w′ : List ℕ} (only : Only ((p .line, length w) ∷ []) w w′) where
+    kept : (i : ℕ) → i < p .line → getD w′ i 0 ≡ getD w i 0
+    kept i h = only .kept i (record { apart = λ x. absurd (omega arith) }, tt)
+
+    start-kept : (r : ℕ) → r < p .regions → getD w′ (starts + r) 0 ≡ getD w (starts + r) 0
+    start-kept r h = kept (starts + r) (omega (arith, c .starts-to))
+
+    coords-kept : rows.coordsOf job axes w′ starts (p .regions) ≡ coordsOf s
+    unfolding rows.coordsOf
+    coords-kept =
+        tabulate-same 0 (p .regions) (λ r. rows.coordsAt job axes (getD w′ (starts + r) 0)) (λ r. rows.coordsAt job axes (getD w (starts + r) 0))
+        (λ r a b. ap (rows.coordsAt job axes) (start-kept r (omega arith))) ∙ c .coords-are
+
+    module _ (k : Packed) (e : Encoded) (packed : PackedAt k p e w′) (merges : length (k .log) ≤ k .groups - 1)
+        (low : (x : ℕ) → x < length all → getD (k .ids) x 0 < length (k .sets)) where
+      pub finish-fit : FinishFit axes starts job p e w′
+      finish-fit = record {
+        axes-few = c .axes-few;
+        packed-as = k;
+        packed = packed;
+        starts-to = omega (arith, c .starts-to, lies);
+        sourced = λ r h. rw (start-kept r h) (c .sourced r h);
+        merges-few = omega (arith, packed .merges-is, packed .groups-is);
+        ids-below = λ x h.
+            let v : getD w′ (p .ids + x) 0 ≡ getD (k .ids) x 0 = sym (getD-seg (p .ids) (p .sets) w′ x h) ∙ ap (λ (l : List ℕ). getD l x 0) (packed .ids-are) in
+            let b = low x (omega (arith, sets-length 0 (p .sets) w)) in
+            omega (arith, packed .distinct-is);
+      }
+
+    finished : (k k′ : Packed) (l : Lent) (r : Built) (out ids map log out′ ids′ map′ log′ : List ℕ) → k ≡ k′
+        → Finished axes (rows.coordsOf job axes w′ starts (p .regions)) k l r out ids map log out′ ids′ map′ log′ → Finished axes (coordsOf s) k′ l r out ids map log out′ ids′ map′ log′
+    finished k k′ l r out ids map log out′ ids′ map′ log′ e f =
+        subst (λ (x : Packed). Finished axes (coordsOf s) x l r out ids map log out′ ids′ map′ log′) e
+        (subst (λ (z : List (List ℕ)). Finished axes z k l r out ids map log out′ ids′ map′ log′) coords-kept f)
+
+  -- ---- mode 0
+
+  module _ {w′ : List ℕ} {r : Packing} (h : SharedAt p w w′ r) where
+    result : (a : Packing) → r ≡ a → Shared p w w′ a
+    result a e = subst (λ (x : Packing). Shared p w w′ x) e (h .result)
+
+    pub pack-full : (mode : ℕ) → mode ≡ 0 → r ≡ Full → (l : Lent) (out ids map log : List ℕ) → Finished axes (coordsOf s) (packedOf mode s) l (Refused 10 0) out ids map log out ids map log
+    unfolding shared
+    pack-full mode z e l out ids map log =
+        let n = result Full e in
+        refused-late axes (coordsOf s) (packedOf mode s) l 9 out ids map log
+        (ap (λ (k : Packed). lateNo axes (coordsOf s) k l) (sym (shared-is mode z)) ∙ too-many axes (coordsOf s) (shared (p .regions) all) l n)
+
+    pub shared-fit : (e : Encoded) → r ≡ Done e → FinishFit axes starts job p e w′
+    shared-fit e q = finish-fit (h .only) (shared (p .regions) all) e (result (Done e) q) (shared-merges (p .regions) all) (shared-ids (p .regions) all)
+
+    pub shared-done : (mode : ℕ) → mode ≡ 0 → (e : Encoded) → r ≡ Done e → (l : Lent) (b : Built) (out ids map log out′ ids′ map′ log′ : List ℕ)
+        → ((k : Packed) → PackedAt k p e w′ → Finished axes (rows.coordsOf job axes w′ starts (p .regions)) k l b out ids map log out′ ids′ map′ log′)
+        → Finished axes (coordsOf s) (packedOf mode s) l b out ids map log out′ ids′ map′ log′
+    shared-done mode z e q l b out ids map log out′ ids′ map′ log′ f =
+        finished (h .only) (shared (p .regions) all) (packedOf mode s) l b out ids map log out′ ids′ map′ log′ (shared-is mode z) (f (shared (p .regions) all) (result (Done e) q))
+
+  -- ---- mode 1
+
+  module _ {w′ : List ℕ} {e : Encoded} (h : OwnAt p w w′ e) where
+    pub own-fit : FinishFit axes starts job p e w′
+    own-fit = finish-fit (h .only) (own (p .regions) all) e (h .result) (own-merges (p .regions) all) (own-ids (p .regions) all)
+
+    pub own-done : (mode : ℕ) → (mode ≡ 0 → ⊥) → (l : Lent) (b : Built) (out ids map log out′ ids′ map′ log′ : List ℕ)
+        → ((k : Packed) → PackedAt k p e w′ → Finished axes (rows.coordsOf job axes w′ starts (p .regions)) k l b out ids map log out′ ids′ map′ log′)
+        → Finished axes (coordsOf s) (packedOf mode s) l b out ids map log out′ ids′ map′ log′
+    own-done mode z l b out ids map log out′ ids′ map′ log′ f =
+        finished (h .only) (own (p .regions) all) (packedOf mode s) l b out ids map log out′ ids′ map′ log′ (own-is mode z) (f (own (p .regions) all) (h .result))
+
+  -- without sets
+  pub none-own : (mode : ℕ) → (mode ≡ 0 → ⊥) → p .sets ≡ 0 → (l : Lent) (b : Built) (out ids map log out′ ids′ map′ log′ : List ℕ)
+      → Finished axes [] (own 0 []) l b out ids map log out′ ids′ map′ log′ → Finished axes (coordsOf s) (packedOf mode s) l b out ids map log out′ ids′ map′ log′
+  none-own mode z n l b out ids map log out′ ids′ map′ log′ f =
+      let long : length (s .sets) ≡ 0 = ap length (sym (c .sets-are)) ∙ sets-length 0 (p .sets) w ∙ n in
+      let none : s .sets ≡ [] = empty (s .sets) long in
+      let idle : s .used ≡ [] = empty (s .used) (c .no-use long) in
+      subst (λ (x : Packed). Finished axes (coordsOf s) x l b out ids map log out′ ids′ map′ log′) (sym (own-none mode z none idle))
+      (subst (λ (x : List (List ℕ)). Finished axes x (own 0 []) l b out ids map log out′ ids′ map′ log′) (sym (coords-none idle)) f)
+    where
+      empty : {A : Type 0} (l : List A) → length l ≡ 0 → l ≡ []
+      empty [] e = refl
+      empty (x ∷ l) e = absurd (omega arith)
+
+      coords-none : s .used ≡ [] → coordsOf s ≡ []
+      coords-none e = unfold coordsOf in rw e
+
+      own-none : (mode : ℕ) → (mode ≡ 0 → ⊥) → s .sets ≡ [] → s .used ≡ [] → packedOf mode s ≡ own 0 []
+      own-none mode z a b = unfold packedOf in rw (ne-eqb mode 0 z, a, b)

@@ -1,0 +1,96 @@
+-- Demand 2 of both modes, from the sets of a job on: the n-th set's id is an id, its set is the n-th set, and its row gives that back. Assumes nothing.
+use mathlib.Core.Path.{_≡_, ap, _∙_}
+use mathlib.Core.List.{List, []}
+use Prim.Native.Nat.{ℕ, _*_, _≤_, _<_}
+use native.Mathlib.Omega.{arith}
+use lib.ListN.{length, getD}
+use Rattle.laws.specs.Every.{All}
+use Rattle.laws.specs.Bounded.{upTo}
+use Rattle.laws.proofs.BoundedLaws.{getD-tabulate}
+use Rattle.sets.specs.Set.{Set, Proper}
+use Rattle.sets.proofs.IdLaws.{id-at, id-below, distinct-most}
+use Rattle.groups.specs.Groups.{groupsOf}
+use Rattle.encoder.specs.Packed.{Packed, shared, own}
+use Rattle.encoder.proofs.DenseIds.{set-of-id}
+use Rattle.build.proofs.PackedLaws.{Words, shared-good, own-good}
+use Rattle.build.proofs.Demand2.{Demand2}
+use Rattle.build.proofs.ShortLaws.{runs-most, reads-back}
+use Rattle.build.proofs.ListBack.{ListBack, list-back}
+
+-- "The n-th word of ids is the n-th set's id."
+pub record IdOf (jobs : List Set) (k : Packed) (n : ℕ) : Type 0 where
+  pub below : getD (k .ids) n 0 < length (k .sets)
+  pub is : getD (k .sets) (getD (k .ids) n 0) [] ≡ getD jobs n []
+
+-- the store and the map of a job's sets give each of them back
+pub record GivesBack (axes regions : ℕ) (coords : List (List ℕ)) (jobs : List Set) (k : Packed) : Type 0 where
+  pub ids : (n : ℕ) → n < length jobs → IdOf jobs k n
+  -- "Read by the OpenType rules, each id's row gives back its adjustment for every region, and zero for one it never named."
+  pub reads : Demand2 axes regions coords k
+  -- and the regions that are read are those of the list's coordinates
+  pub list : ListBack axes regions coords k
+
+-- "A set drops its zeros", names regions of the job, and has values of 32 bits; each region has six bytes an axis
+pub record Sized (axes regions : ℕ) (coords : List (List ℕ)) (jobs : List Set) : Type 0 where
+  pub proper : All (Proper regions) jobs
+  pub words : All (λ (s : Set). Words s) jobs
+  pub coords-are : length coords ≡ regions
+  pub coords-whole : All (λ (c : List ℕ). length c ≡ 6 * axes) coords
+  pub axes-few : axes ≤ 64
+  pub regions-few : regions ≤ 256
+  pub sets-few : length jobs ≤ 1048576
+
+module _ (axes regions : ℕ) (coords : List (List ℕ)) (jobs : List Set) (s : Sized axes regions coords jobs) where
+  shared-ids : (n : ℕ) → n < length jobs → IdOf jobs (shared regions jobs) n
+  unfolding shared
+  shared-ids n h = record { below = rw (id-at jobs n h) (id-below jobs n h); is = set-of-id jobs n h }
+
+  own-ids : (n : ℕ) → n < length jobs → IdOf jobs (own regions jobs) n
+  unfolding own
+  own-ids n h =
+      let e : getD (upTo (length jobs)) n 0 ≡ n = getD-tabulate 0 (length jobs) (λ i. i) 0 n h ∙ omega arith in
+      record { below = omega arith; is = ap (λ (i : ℕ). getD jobs i []) e }
+
+  shared-sets : length (shared regions jobs .sets) ≤ 1048576
+  unfolding shared
+  shared-sets = omega (arith, distinct-most jobs, s .sets-few)
+
+  shared-groups : length (groupsOf regions jobs) ≤ 1024 → shared regions jobs .groups ≤ 1024
+  unfolding shared
+  shared-groups h = h
+
+  own-sets : length (own regions jobs .sets) ≤ 1048576
+  unfolding own
+  own-sets = s .sets-few
+
+  own-groups : own regions jobs .groups ≤ 1024
+  unfolding own
+  own-groups = omega arith
+
+  -- THE LAW of mode 0: where no more than 1,024 shapes are there
+  pub shared-back : length (groupsOf regions jobs) ≤ 1024 → GivesBack axes regions coords jobs (shared regions jobs)
+  shared-back h = record {
+    ids = shared-ids;
+    reads = reads-back axes regions coords (shared regions jobs) (shared-good regions jobs (s .proper) (s .words)) (s .coords-are) (s .coords-whole)
+        (s .axes-few) (s .regions-few) (shared-groups h) shared-sets;
+    list = list-back axes regions coords (shared regions jobs) (s .coords-are) (s .coords-whole) (s .axes-few) (s .regions-few)
+        (omega (
+          arith,
+          runs-most axes regions coords (shared regions jobs) (shared-good regions jobs (s .proper) (s .words)) (s .coords-are) (s .coords-whole)
+              (s .axes-few) (s .regions-few) (shared-groups h) shared-sets,
+        ));
+  }
+
+  -- THE LAW of mode 1
+  pub own-back : GivesBack axes regions coords jobs (own regions jobs)
+  own-back = record {
+    ids = own-ids;
+    reads = reads-back axes regions coords (own regions jobs) (own-good regions jobs (s .proper) (s .words)) (s .coords-are) (s .coords-whole)
+        (s .axes-few) (s .regions-few) own-groups own-sets;
+    list = list-back axes regions coords (own regions jobs) (s .coords-are) (s .coords-whole) (s .axes-few) (s .regions-few)
+        (omega (
+          arith,
+          runs-most axes regions coords (own regions jobs) (own-good regions jobs (s .proper) (s .words)) (s .coords-are) (s .coords-whole)
+              (s .axes-few) (s .regions-few) own-groups own-sets,
+        ));
+  }

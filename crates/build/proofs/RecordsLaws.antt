@@ -1,0 +1,183 @@
+-- A job whose records are read: its sets are held, its regions' starts noted, and the tables laid out behind them. Assumes nothing.
+use mathlib.Core.Path.{_≡_, refl, sym, ap, subst, _∙_}
+use mathlib.Core.List.{List, [], _∷_, map}
+use Prim.Native.Nat.{ℕ, zero, suc, _+_, _*_, _/_, _≤_, _<_, min}
+use native.Mathlib.Omega.{arith}
+use lib.ListN.{length, getD}
+use Rattle.laws.specs.Every.{All}
+use Rattle.laws.specs.Range.{Only, seg}
+use Rattle.laws.proofs.Products.{row-fits}
+use Rattle.laws.proofs.EveryLaws.{all-getD}
+use Rattle.laws.proofs.RangeLaws.{getD-seg}
+use Rattle.sets.specs.Set.{Set}
+use Rattle.sets.specs.Lent.{Held, setsIn}
+use Rattle.sets.proofs.HeldLaws.{Kept, kept-only, held-kept, sets-same, sets-length}
+use Rattle.rows.specs.Lent as rows
+use Rattle.job.specs.Refusals.{publishedWork, earlyNo}
+use Rattle.job.specs.Sets.{Region, regionList}
+use Rattle.job.specs.Job.{Said, Outcome, refused, fine, inAxes, walk, outcomeFrom, outcome}
+use Rattle.job.specs.Lent.{JobHeld, JobRead}
+use Rattle.job.proofs.CheckLaws.{early-first, none-early}
+use Rattle.job.proofs.SaidLaws.{Counts, counts, room-of, no-use}
+use Rattle.encoder.specs.declared.places.Places.{Places}
+use Rattle.encoder.specs.Places.{PlacesAt}
+use Rattle.encoder.proofs.PlacesLaws.{laid}
+use Rattle.build.specs.declared.answers.Built.{Built}
+use Rattle.build.specs.declared.answers.Built.the-variants.{Refused}
+use Rattle.build.specs.Late.{Lent}
+use Rattle.build.specs.Build.{regionBytes, coordsOf, packedOf, answerFrom, answerOf, leftFrom, outAfter, idsAfter, mapAfter, logAfter}
+use Rattle.build.specs.Lent.{Finished, lengths}
+use Rattle.build.specs.Collected.{StartsAt, Collected, RecordsBuilt}
+use Rattle.build.proofs.CoordLaws.{coords-are}
+
+-- ---- sets held below one word are held below a later one
+
+held-more : {w : List ℕ} {n regions end : ℕ} (end′ : ℕ) → Held w 0 n regions end → end ≤ end′ → end′ ≤ length w → Held w 0 n regions end′
+held-more end′ h a b = record {
+  room = b;
+  rows = omega (arith, h .rows);
+  body = λ x l. omega (arith, h .body x l);
+  ascending = h .ascending;
+  proper = h .proper;
+}
+
+-- ---- where a region's coordinates end
+
+-- region x of n regions of so many axes, in so many records
+in-job : (axes n x records a : ℕ) → x < n → a < axes → n * axes ≤ records → 12 * axes * x + 4 + 12 * a + 6 ≤ 12 * records
+in-job axes n x records a h k m =
+    let f = row-fits axes n x h in
+    let e : 12 * axes * x ≡ 12 * (x * axes) = omega arith in
+    omega arith
+
+module _ {axes mode records : ℕ} {job w w₁ : List ℕ} (some : 0 < axes) (few : axes ≤ 64) (bytes : (k : ℕ) → getD job k 0 < 256)
+    (room : 12 * records ≤ length job) (most : records ≤ 1048576) (work : publishedWork records ≤ length w)
+    {nr at regions sets values uses : ℕ} (r : JobRead axes mode job records w w₁ nr at regions sets values uses) (z : nr ≡ 0) where
+  abbrev held : JobHeld axes mode job records w₁ regions sets values uses
+  held = r .good z
+
+  abbrev pub says : Said
+  says = r .good z .said
+
+  cs : Counts axes job records (r .good z .said)
+  cs = counts axes mode job records says some bytes (held .is)
+
+  sets-long : length (r .good z .said .sets) ≡ sets
+  sets-long = ap length (sym (held .sets-are)) ∙ sets-length 0 sets w₁
+
+  sum-few : sets + uses ≤ records
+  sum-few = omega (arith, room-of axes job records says some cs .0, sets-long, held .uses-are)
+
+  pub uses-few : uses ≤ 256
+  uses-few = omega (arith, room-of axes job records says some cs .2, held .uses-are)
+
+  one-more : 0 < uses → sets + uses + 1 ≤ records
+  one-more h = omega (arith, room-of axes job records says some cs .1 (omega (arith, held .uses-are)), sets-long, held .uses-are)
+
+  published : 16 * records + 4 * (min records 1024 * min records 1024) ≤ length w₁
+  unfolding publishedWork
+  published = omega (arith, r .only .long)
+
+  pub starts-room : 4 * records + uses ≤ length w₁
+  starts-room = omega (arith, published, sum-few)
+
+  used-word : (i : ℕ) → i < uses → getD w₁ (4 * records + i) 0 ≡ getD (r .good z .said .used) i 0
+  used-word i h = sym (getD-seg (4 * records) uses w₁ i h) ∙ ap (λ (l : List ℕ). getD l i 0) (held .used-are)
+
+  used-low : (i : ℕ) → i < uses → getD (r .good z .said .used) i 0 < length (r .good z .said .regions)
+  used-low i h = all-getD (λ (q : ℕ). q < length (r .good z .said .regions)) (says .used) i 0 (cs .used-low) (omega (arith, held .uses-are))
+
+  pub starts-low : (i : ℕ) → i < uses → getD w₁ (4 * records + i) 0 < 256
+  starts-low i h = omega (arith, used-word i h, used-low i h, cs .regions-few)
+
+  pub sets-few : sets ≤ 1048576
+  sets-few = omega (arith, sum-few)
+
+  pub base-few : 4 * records + uses ≤ 5242880
+  base-few = omega (arith, sum-few)
+
+  module _ {w₂ : List ℕ} (t : StartsAt (4 * records) uses axes w₁ w₂) {p : Places} (q : PlacesAt (4 * records + uses) sets uses p) where
+    kept : Kept (4 * records) w₁ w₂
+    kept = kept-only (t .only) (omega arith, tt)
+
+    start-word : (i : ℕ) → i < uses → getD w₂ (4 * records + i) 0 ≡ 12 * axes * getD (r .good z .said .used) i 0 + 4
+    start-word i h = t .is i h ∙ ap (λ (x : ℕ). 12 * axes * x + 4) (used-word i h)
+
+    regions-fit : length (r .good z .said .regions) * axes ≤ records
+    regions-fit = omega (arith, cs .records-are)
+
+    held₂ : Held w₂ 0 (p .sets) (p .regions) (p .line)
+    held₂ = rw (q .sets-is, q .regions-is, q .line-is) (held-more (4 * records + uses) (held-kept (held .held) kept) (omega arith) (omega (arith, starts-room, t .only .long)))
+
+    job-long : 12 * axes * length (r .good z .said .regions) ≤ length job
+    job-long =
+        let n = length (says .regions) in
+        let e : 12 * axes * n ≡ 12 * (n * axes) = omega arith in
+        omega (arith, regions-fit)
+
+    coords₂ : rows.coordsOf job axes w₂ (4 * records) (length (r .good z .said .used)) ≡ coordsOf (r .good z .said)
+    unfolding coordsOf
+    coords₂ =
+        coords-are job bytes axes (length (says .regions)) job-long w₂ (4 * records) (says .used) (cs .used-low) (λ i h. start-word i (omega (arith, held .uses-are)))
+        ∙ ap (λ (l : List Region). map (λ x. regionBytes (getD l x [])) (says .used)) (sym (cs .regions-are))
+
+    pub collected : Collected axes (4 * records) job p (r .good z .said) w₂
+    collected = record {
+      fit = record {
+        laid = laid (4 * records + uses) sets uses records (length w₂) p q (omega arith) most uses-few sum-few one-more (omega (arith, published, t .only .long));
+        held = held₂;
+      };
+      axes-few = few;
+      starts-to = omega (arith, q .regions-is, q .line-is);
+      sets-are = ap (λ (n : ℕ). setsIn 0 n w₂) (q .sets-is) ∙ sets-same (held .held) kept ∙ held .sets-are;
+      regions-are = held .uses-are ∙ sym (q .regions-is);
+      sourced = λ i h.
+          let l : i < uses = omega (arith, q .regions-is) in
+          rw (start-word i l) (record { inside = λ a k. omega (arith, in-job axes (length (says .regions)) (getD (says .used) i 0) records a (used-low i l) k regions-fit) });
+      coords-are = ap (rows.coordsOf job axes w₂ (4 * records)) (q .regions-is ∙ sym (held .uses-are)) ∙ coords₂;
+      no-use = no-use axes mode job records says some bytes (held .is);
+    }
+
+-- ---- answers
+
+pub records-refused : (axes mode : ℕ) (o : Outcome) (n at : ℕ) (out ids map log : List ℕ) → o ≡ refused n at → RecordsBuilt axes mode o (Refused n at) out ids map log out ids map log
+unfolding answerFrom leftFrom
+records-refused axes mode o n at out ids map log e = rw e (record { answer = refl; out-is = refl; ids-is = refl; map-is = refl; log-is = refl })
+
+pub records-built : (axes mode : ℕ) (o : Outcome) (s : Said) (b : Built) (out ids map log out′ ids′ map′ log′ : List ℕ) → o ≡ fine s
+    → Finished axes (coordsOf s) (packedOf mode s) (lengths out ids map log) b out ids map log out′ ids′ map′ log′ → RecordsBuilt axes mode o b out ids map log out′ ids′ map′ log′
+unfolding answerFrom leftFrom
+records-built axes mode o s b out ids map log out′ ids′ map′ log′ e f =
+    rw e (record { answer = f .answer; out-is = f .out-is; ids-is = f .ids-is; map-is = f .map-is; log-is = f .log-is })
+
+-- ---- the whole
+
+-- what a build answers and leaves, but for work
+pub record Whole (axes mode : ℕ) (job : List ℕ) (work : ℕ) (b : Built) (out ids map log out′ ids′ map′ log′ : List ℕ) : Type 0 where
+  pub answer : b ≡ answerOf axes mode job work (lengths out ids map log)
+  pub out-is : out′ ≡ outAfter axes mode job work (lengths out ids map log) out
+  pub ids-is : ids′ ≡ idsAfter axes mode job work (lengths out ids map log) ids
+  pub map-is : map′ ≡ mapAfter axes mode job work (lengths out ids map log) map
+  pub log-is : log′ ≡ logAfter axes mode job work (lengths out ids map log) log
+
+by-outcome : (axes mode : ℕ) (job : List ℕ) (work : ℕ) (o : Outcome) (b : Built) (out ids map log out′ ids′ map′ log′ : List ℕ) → outcome axes mode job work ≡ o
+    → RecordsBuilt axes mode o b out ids map log out′ ids′ map′ log′ → Whole axes mode job work b out ids map log out′ ids′ map′ log′
+unfolding answerOf outAfter idsAfter mapAfter logAfter
+by-outcome axes mode job work o b out ids map log out′ ids′ map′ log′ e f =
+    record { answer = rw e (f .answer); out-is = rw e (f .out-is); ids-is = rw e (f .ids-is); map-is = rw e (f .map-is); log-is = rw e (f .log-is) }
+
+module _ (axes mode : ℕ) (job : List ℕ) (work n : ℕ) (e : n ≡ earlyNo axes mode (length job) work) where
+  pub whole-early : (n ≡ 0 → ⊥) → (out ids map log : List ℕ) → Whole axes mode job work (Refused n 0) out ids map log out ids map log
+  unfolding outcome
+  whole-early h out ids map log =
+      by-outcome axes mode job work (refused n 0) (Refused n 0) out ids map log out ids map log
+      (ap (λ (k : ℕ). outcomeFrom k (walk axes mode job job (length job / 12) 0 inAxes)) (sym e) ∙ early-first n (walk axes mode job job (length job / 12) 0 inAxes) h)
+      (records-refused axes mode (refused n 0) n 0 out ids map log refl)
+
+  pub whole-late : n ≡ 0 → (a : ℕ) → a ≡ axes → (b : Built) (out ids map log out′ ids′ map′ log′ : List ℕ)
+      → RecordsBuilt a mode (walk a mode job job (length job / 12) 0 inAxes) b out ids map log out′ ids′ map′ log′ → Whole axes mode job work b out ids map log out′ ids′ map′ log′
+  unfolding outcome
+  whole-late z a q b out ids map log out′ ids′ map′ log′ f =
+      by-outcome axes mode job work (walk axes mode job job (length job / 12) 0 inAxes) b out ids map log out′ ids′ map′ log′
+      (none-early (earlyNo axes mode (length job) work) (walk axes mode job job (length job / 12) 0 inAxes) (sym e ∙ z))
+      (subst (λ (x : ℕ). RecordsBuilt x mode (walk x mode job job (length job / 12) 0 inAxes) b out ids map log out′ ids′ map′ log′) q f)

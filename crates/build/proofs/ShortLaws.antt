@@ -1,0 +1,120 @@
+-- How large the store of packed sets can be: few runs, and fewer bytes than 32 bits can count. Assumes nothing.
+use mathlib.Core.Path.{_≡_, ap, _∙_}
+use mathlib.Core.List.{List, [], _∷_, _++_, map}
+use Prim.Native.Nat.{ℕ, _+_, _*_, _^_, _≤_, _<_}
+use native.Mathlib.Omega.{arith}
+use lib.ListN.{length, getD, take, drop, length-append, length-map}
+use Rattle.laws.specs.Every.{All}
+use Rattle.laws.specs.Bytes.{bytesOf}
+use Rattle.laws.proofs.BytesLaws.{bytes-length}
+use Rattle.laws.proofs.BoundedLaws.{length-tabulate}
+use Rattle.laws.proofs.EveryLaws.{all-imp}
+use Rattle.laws.proofs.Products.{product}
+use Rattle.shapes.specs.Shape.{Shape}
+use Rattle.shapes.specs.Group.{maxItems}
+use Rattle.sets.specs.Set.{Set}
+use Rattle.reader.specs.Store.{columnAt}
+use Rattle.rows.specs.Columns.{columnsOf, wordCount}
+use Rattle.rows.specs.Placing.{Final, joinAll, runCount, runsOf, allRuns, names, keptOf, newIndex, subtableOf, listOf, storeOf}
+use Rattle.rows.proofs.CollectLaws.{columns-count, columns-most}
+use Rattle.rows.proofs.RegionLaws.{kept-most}
+use Rattle.rows.proofs.PlacedLaws.{sub-length}
+use Rattle.rows.proofs.SizeLaws.{runs-few}
+use Rattle.rows.proofs.StoreBack.{store-long}
+use Rattle.encoder.specs.Packed.{Packed}
+use Rattle.build.specs.Late.{storeFor}
+use Rattle.build.proofs.StoreLaws.{row-most, table-most}
+use Rattle.build.proofs.PackedLaws.{rowIds, Good, rows-most}
+use Rattle.build.proofs.RunSound.{runs-rows, runs-sound}
+use Rattle.build.proofs.Demand2.{coords-long, Demand2, demand2}
+
+-- ---- runs
+
+ids-most : (gs : List Final) (n : ℕ) → length (rowIds gs) ≤ n → All (λ (g : Final). length (g .ids) ≤ n) gs
+unfolding joinAll
+ids-most [] n h = tt
+ids-most (g ∷ gs) n h =
+    let e = length-append (g .ids) (rowIds gs) in
+    (omega arith, ids-most gs n (omega arith))
+
+group-runs : (g : Final) → length (runsOf g) ≡ runCount (length (g .ids))
+unfolding runsOf
+group-runs g = length-tabulate 0 (runCount (length (g .ids))) (λ k. record { shape = g .shape; ids = take maxItems (drop (maxItems * k) (g .ids)) })
+
+all-runs : (gs : List Final) → All (λ (g : Final). length (g .ids) ≤ 1048576) gs → length (allRuns gs) ≤ 17 * length gs
+unfolding allRuns joinAll
+all-runs [] h = omega arith
+all-runs (g ∷ gs) h =
+    let a = runs-few (length (g .ids)) (h .0) in
+    omega (arith, length-append (runsOf g) (allRuns gs), group-runs g, all-runs gs (h .1))
+
+-- ---- subtables
+
+module _ (number : ℕ → ℕ) (set : ℕ → Set) where
+  table-few : (s : Shape) (xs : List ℕ) → length s ≤ 256 → length (subtableOf number set s xs) ≤ 518 + 1024 * length xs
+  table-few s xs h =
+      let c : length (columnsOf s) ≤ 256 = omega (arith, columns-count s, columns-most s) in
+      let r : columnAt (wordCount s) (length (columnsOf s)) ≤ 1024 = omega (arith, row-most (wordCount s) (length (columnsOf s))) in
+      omega (arith, sub-length number set s xs (omega arith), table-most (length (columnsOf s)) (columnAt (wordCount s) (length (columnsOf s))) (length xs) c r)
+
+  abbrev table : Final → List ℕ
+  table r = subtableOf number set (r .shape) (r .ids)
+
+  tables-few : (rs : List Final) → All (λ (r : Final). length (r .shape) ≤ 256) rs → length (joinAll (map table rs)) ≤ 518 * length rs + 1024 * length (rowIds rs)
+  unfolding joinAll
+  tables-few [] h = omega arith
+  tables-few (r ∷ rs) h =
+      let a = table-few (r .shape) (r .ids) (h .0) in
+      omega (arith, length-append (table r) (joinAll (map table rs)), length-append (r .ids) (rowIds rs), tables-few rs (h .1))
+
+-- ---- in all
+
+module _ (axes regions : ℕ) (coords : List (List ℕ)) (k : Packed) (good : Good regions k) (coords-are : length coords ≡ regions)
+    (coords-whole : All (λ (c : List ℕ). length c ≡ 6 * axes) coords) (axes-few : axes ≤ 64) (regions-few : regions ≤ 256)
+    (groups-few : k .groups ≤ 1024) (sets-few : length (k .sets) ≤ 1048576) where
+  abbrev gs : List Final
+  gs = k .finals
+
+  abbrev set : ℕ → Set
+  set y = getD (k .sets) y []
+
+  pub runs-most : length (allRuns (k .finals)) ≤ 17408
+  runs-most = omega (arith, all-runs gs (ids-most gs 1048576 (omega (arith, rows-most regions k good))), good .finals-few groups-few)
+
+  abbrev kept : ℕ
+  kept = length (keptOf (length coords) gs)
+
+  abbrev body : List ℕ
+  body = joinAll (map (λ r. getD coords r []) (keptOf (length coords) gs))
+
+  abbrev tables : List (List ℕ)
+  tables = map (table (newIndex gs) set) (allRuns gs)
+
+  kept-few : kept ≤ 256
+  kept-few = omega (arith, kept-most (λ r. names r gs) (length coords))
+
+  tables-count : length tables ≡ length (allRuns gs)
+  tables-count = length-map (allRuns gs) (table (newIndex gs) set)
+
+  store-is : length (storeFor axes coords k) ≡ 8 + 4 * length tables + length (bytesOf 2 axes ++ (bytesOf 2 kept ++ body)) + length (joinAll tables)
+  unfolding storeFor storeOf listOf
+  store-is = store-long axes kept body tables (omega arith) (omega (arith, kept-few)) (coords-long axes coords gs coords-whole) (omega (arith, tables-count, runs-most))
+
+  list-is : length (bytesOf 2 axes ++ (bytesOf 2 kept ++ body)) ≡ 4 + length body
+  list-is = length-append (bytesOf 2 axes) (bytesOf 2 kept ++ body) ∙ omega (arith, length-append (bytesOf 2 kept) body, bytes-length 2 axes, bytes-length 2 kept)
+
+  body-few : length body ≤ 98304
+  body-few = omega (arith, coords-long axes coords gs coords-whole, product 384 256 {a = 6 * axes} {b = kept} (omega arith) kept-few)
+
+  tables-most : length (joinAll tables) ≤ 518 * length (allRuns gs) + 1024 * length (k .sets)
+  tables-most =
+      let narrow : All (λ (r : Final). length (r .shape) ≤ 256) (allRuns gs) =
+      all-imp (λ (r : Final) s. omega (arith, s .long)) (allRuns gs) (runs-sound regions k good coords coords-are) in
+      omega (arith, tables-few (newIndex gs) set (allRuns gs) narrow, ap length (runs-rows gs), rows-most regions k good)
+
+  pub store-short : length (storeFor axes coords k) < 256 ^ 4
+  store-short = omega (arith, store-is, list-is, body-few, tables-most, tables-count, runs-most)
+
+  -- so a job of at most 1,048,576 records and 1,024 shapes reads back
+  pub reads-back : Demand2 axes regions coords k
+  reads-back = demand2 axes regions coords k good coords-are coords-whole axes-few regions-few (omega (arith, runs-most)) store-short

@@ -1,0 +1,347 @@
+-- From packed sets in work to the store of the definition: the same groups by the numbers of sets or by ids have one store, as many runs and one
+-- forecast; rows that were replaced by ids are those groups; and the store of a build fits 32 bits. Assumes nothing.
+use mathlib.Core.Path.{_≡_, refl, sym, ap, ap₂, _∙_}
+use mathlib.Core.Bool.{Bool, not, _||_}
+use mathlib.Core.List.{List, [], _∷_, _++_, append-assoc, append-nil, map}
+use mathlib.Core.Logic.{⊎-elim}
+use Prim.Native.Nat.{ℕ, zero, suc, _+_, _-_, _*_, _≤_, _<_, min}
+use native.Mathlib.Nat.{mul-le-mul-left}
+use native.Mathlib.Numerals.{add-one}
+use native.Mathlib.Omega.{arith}
+use lib.Dec.{eqb}
+use lib.ListN.{length, getD, take, drop, length-append, length-map, length-take}
+use lib.Seq.{ext-getD}
+use Rattle.laws.specs.Bag.{weigh, sum}
+use Rattle.laws.specs.Pick.{pick}
+use Rattle.laws.specs.Every.{All}
+use Rattle.laws.specs.Bytes.{bytesOf}
+use Rattle.laws.specs.Bounded.{tabulate, upTo}
+use Rattle.laws.specs.Range.{seg}
+use Rattle.laws.specs.Sorting.{keep}
+use Rattle.laws.proofs.EveryLaws.{all-append}
+use Rattle.laws.proofs.ListLaws.{map-append, getD-map-in}
+use Rattle.laws.proofs.BoundedLaws.{tabulate-same, tabulate-snoc, length-tabulate}
+use Rattle.laws.proofs.BagLaws.{weigh-append}
+use Rattle.laws.proofs.Cases.{same-or-not}
+use Rattle.laws.proofs.Products.{product}
+use Rattle.laws.proofs.RangeLaws.{length-seg, getD-seg, only-seg, seg-all}
+use Rattle.shapes.specs.Shape.{Shape}
+use Rattle.shapes.specs.Group.{maxItems, groupCost}
+use Rattle.sets.specs.Lent.{entries, setOf}
+use Rattle.reader.specs.Store.{columnAt}
+use Rattle.rows.specs.Columns.{columnsOf, wordCount}
+use Rattle.rows.specs.Row.{Set, rowOf}
+use Rattle.rows.specs.Placing.{Final, joinAll, runCount, runsOf, allRuns, names, keptOf, newIndex, indexBytes, rowsOf, subtableOf, listOf, placed, storeOf, modelOf, modelled, forecastOf}
+use Rattle.rows.specs.Lent.{entriesAt, setAt, chain, finalAt, finalsAt, groupSizes, runSizes, sizesAt, tableSize, total, Drafted, Planned}
+use Rattle.rows.proofs.CollectLaws.{columns-count, columns-most}
+use Rattle.reader.proofs.ColumnLaws.{at-zero, at-step, bytes-range}
+use Rattle.rows.proofs.SizeLaws.{size-none, size-some, runs-few}
+use Rattle.rows.proofs.PlacedLaws.{map-tabulate}
+use Rattle.encoder.specs.declared.places.Places.{Places}
+use Rattle.encoder.specs.declared.encoded.Encoded.{Encoded}
+use Rattle.encoder.specs.Packed.{Packed}
+use Rattle.encoder.specs.Lent.{relabel, groupAt, FinalIn, PackedAt}
+use Rattle.build.specs.Lent.{RowsNamed}
+
+-- ---- sets in work, by either definition
+
+entries-same : (a n : ℕ) (w : List ℕ) → entriesAt a n w ≡ entries a n w
+unfolding entriesAt entries
+entries-same a zero w = refl
+entries-same a (suc n) w = ap (λ (l : Set). (getD w a 0, getD w (a + 1) 0) ∷ l) (entries-same (a + 2) n w)
+
+pub set-same : (index x : ℕ) (w : List ℕ) → setAt index w x ≡ setOf index x w
+unfolding setAt setOf
+set-same index x w = entries-same (getD w (index + 2 * x) 0) (getD w (index + 2 * x + 1) 0) w
+
+-- ---- groups with other numbers for their sets
+
+take-map : (f : ℕ → ℕ) (n : ℕ) (l : List ℕ) → take n (map f l) ≡ map f (take n l)
+take-map f zero l = refl
+take-map f (suc n) [] = refl
+take-map f (suc n) (x ∷ l) = ap (λ (m : List ℕ). f x ∷ m) (take-map f n l)
+
+drop-map : (f : ℕ → ℕ) (n : ℕ) (l : List ℕ) → drop n (map f l) ≡ map f (drop n l)
+drop-map f zero l = refl
+drop-map f (suc n) [] = refl
+drop-map f (suc n) (x ∷ l) = drop-map f n l
+
+-- one group
+abbrev labelled : (ℕ → ℕ) → Final → Final
+labelled f g = record { shape = g .shape; ids = map f (g .ids) }
+
+group-runs : (f : ℕ → ℕ) (g : Final) → runsOf (labelled f g) ≡ relabel f (runsOf g)
+unfolding runsOf relabel
+group-runs f g =
+    let F : ℕ → Final = (λ k. record { shape = g .shape; ids = take maxItems (drop (maxItems * k) (map f (g .ids))) }) in
+    let G : ℕ → Final = (λ k. record { shape = g .shape; ids = take maxItems (drop (maxItems * k) (g .ids)) }) in
+    ap (λ (n : ℕ). tabulate 0 (runCount n) F) (length-map (g .ids) f)
+    ∙ tabulate-same 0 (runCount (length (g .ids))) F (λ k. labelled f (G k))
+    (λ k p q. ap (λ (l : List ℕ). record { shape = g .shape; ids = l }) (ap (take maxItems) (drop-map f (maxItems * k) (g .ids)) ∙ take-map f maxItems (drop (maxItems * k) (g .ids))))
+    ∙ sym (map-tabulate (labelled f) 0 (runCount (length (g .ids))) G)
+
+pub runs-relabel : (f : ℕ → ℕ) (gs : List Final) → allRuns (relabel f gs) ≡ relabel f (allRuns gs)
+unfolding allRuns joinAll relabel
+runs-relabel f [] = refl
+runs-relabel f (g ∷ gs) =
+    ap₂ _++_ (group-runs f g) (runs-relabel f gs)
+    ∙ sym (map-append (labelled f) (runsOf g) (joinAll (map runsOf gs)))
+
+pub runs-count : (f : ℕ → ℕ) (gs : List Final) → length (allRuns (relabel f gs)) ≡ length (allRuns gs)
+unfolding relabel
+runs-count f gs = ap length (runs-relabel f gs) ∙ length-map (allRuns gs) (labelled f)
+
+pub names-relabel : (r : ℕ) (f : ℕ → ℕ) (gs : List Final) → names r (relabel f gs) ≡ names r gs
+unfolding names relabel
+names-relabel r f [] = refl
+names-relabel r f (g ∷ gs) = ap (λ (b : Bool). not (eqb (getD (g .shape) r 0) 0) || b) (names-relabel r f gs)
+
+keep-same : (p q : ℕ → Bool) (l : List ℕ) → ((x : ℕ) → p x ≡ q x) → keep p l ≡ keep q l
+unfolding keep
+keep-same p q [] h = refl
+keep-same p q (x ∷ l) h = rw (h x, keep-same p q l h)
+
+pub kept-relabel : (n : ℕ) (f : ℕ → ℕ) (gs : List Final) → keptOf n (relabel f gs) ≡ keptOf n gs
+kept-relabel n f gs = keep-same (λ r. names r (relabel f gs)) (λ r. names r gs) (upTo n) (λ r. names-relabel r f gs)
+
+model-relabel : (f : ℕ → ℕ) (g : Final) → modelOf (labelled f g) ≡ modelOf g
+unfolding modelOf
+model-relabel f g = ap (λ (n : ℕ). pick (eqb n 0) 4 (groupCost (record { shape = g .shape; sets = n }))) (length-map (g .ids) f)
+
+modelled-relabel : (f : ℕ → ℕ) (gs : List Final) → modelled (relabel f gs) ≡ modelled gs
+unfolding modelled relabel
+modelled-relabel f [] = refl
+modelled-relabel f (g ∷ gs) = ap₂ _+_ (model-relabel f g) (modelled-relabel f gs)
+
+pub forecast-relabel : (axes kept : ℕ) (f : ℕ → ℕ) (gs : List Final) → forecastOf axes kept (relabel f gs) ≡ forecastOf axes kept gs
+unfolding forecastOf
+forecast-relabel axes kept f gs = ap (λ (m : ℕ). 12 + 6 * axes * kept + m) (modelled-relabel f gs)
+
+-- ---- the store
+
+module _ (P : ℕ → Type 0) where
+  all-take : (n : ℕ) (l : List ℕ) → All P l → All P (take n l)
+  all-take zero l h = tt
+  all-take (suc n) [] h = tt
+  all-take (suc n) (x ∷ l) h = (h .0, all-take n l (h .1))
+
+  all-drop : (n : ℕ) (l : List ℕ) → All P l → All P (drop n l)
+  all-drop zero l h = h
+  all-drop (suc n) [] h = tt
+  all-drop (suc n) (x ∷ l) h = all-drop n l (h .1)
+
+  -- what holds of the ids of groups holds of their runs'
+  group-all : (g : Final) → All P (g .ids) → All (λ (r : Final). All P (r .ids)) (runsOf g)
+  unfolding runsOf tabulate
+  group-all g h = go 0 (runCount (length (g .ids)))
+    where
+      go : (a n : ℕ) → All (λ (r : Final). All P (r .ids)) (tabulate a n (λ k. record { shape = g .shape; ids = take maxItems (drop (maxItems * k) (g .ids)) }))
+      go a zero = tt
+      go a (suc n) = (all-take maxItems (drop (maxItems * a) (g .ids)) (all-drop (maxItems * a) (g .ids) h), go (suc a) n)
+
+  runs-all : (gs : List Final) → All (λ (g : Final). All P (g .ids)) gs → All (λ (g : Final). All P (g .ids)) (allRuns gs)
+  unfolding allRuns joinAll
+  runs-all [] h = tt
+  runs-all (g ∷ gs) h = all-append (λ (r : Final). All P (r .ids)) (runsOf g) (joinAll (map runsOf gs)) (group-all g (h .0)) (runs-all gs (h .1))
+
+index-same : (p q : ℕ → ℕ) (l : List ℕ) → ((r : ℕ) → p r ≡ q r) → indexBytes p l ≡ indexBytes q l
+unfolding indexBytes
+index-same p q [] h = refl
+index-same p q (r ∷ l) h = ap₂ (λ (x : ℕ) (m : List ℕ). bytesOf 2 x ++ m) (h r) (index-same p q l h)
+
+module _ (f : ℕ → ℕ) (set set′ : ℕ → Set) (n : ℕ) (same : (x : ℕ) → x < n → set x ≡ set′ (f x)) where
+  rows-relabel : (s : Shape) (xs : List ℕ) → All (λ x. x < n) xs → rowsOf set s xs ≡ rowsOf set′ s (map f xs)
+  unfolding rowsOf
+  rows-relabel s [] h = refl
+  rows-relabel s (x ∷ xs) h = ap₂ (λ (e : Set) (m : List ℕ). rowOf s e ++ m) (same x (h .0)) (rows-relabel s xs (h .1))
+
+  module _ (number number′ : ℕ → ℕ) (numbers : (r : ℕ) → number r ≡ number′ r) where
+    table-relabel : (s : Shape) (xs : List ℕ) → All (λ x. x < n) xs → subtableOf number set s xs ≡ subtableOf number′ set′ s (map f xs)
+    unfolding subtableOf
+    table-relabel s [] h = refl
+    table-relabel s (x ∷ xs) h = rw (length-map xs f, index-same number number′ (columnsOf s) numbers, rows-relabel s (x ∷ xs) h)
+
+    tables-relabel : (rs : List Final) → All (λ (r : Final). All (λ x. x < n) (r .ids)) rs
+        → map (λ (r : Final). subtableOf number set (r .shape) (r .ids)) rs ≡ map (λ (r : Final). subtableOf number′ set′ (r .shape) (r .ids)) (relabel f rs)
+    unfolding relabel
+    tables-relabel [] h = refl
+    tables-relabel (r ∷ rs) h = ap₂ _∷_ (table-relabel (r .shape) (r .ids) (h .0)) (tables-relabel rs (h .1))
+
+pub store-relabel : (axes : ℕ) (coords : List (List ℕ)) (f : ℕ → ℕ) (set set′ : ℕ → Set) (n : ℕ) (gs : List Final)
+    → All (λ (g : Final). All (λ x. x < n) (g .ids)) gs → ((x : ℕ) → x < n → set x ≡ set′ (f x))
+    → storeOf axes coords set gs ≡ storeOf axes coords set′ (relabel f gs)
+unfolding storeOf
+store-relabel axes coords f set set′ n gs h same =
+    let T : Final → List ℕ = (λ (r : Final). subtableOf (newIndex (relabel f gs)) set′ (r .shape) (r .ids)) in
+    ap₂ (λ (k : List ℕ) (t : List (List ℕ)). placed (listOf axes coords k) t)
+    (sym (kept-relabel (length coords) f gs))
+    (tables-relabel f set set′ n same (newIndex gs) (newIndex (relabel f gs)) (λ r. ap length (sym (kept-relabel r f gs))) (allRuns gs) (runs-all (λ x. x < n) gs h)
+    ∙ ap (map T) (sym (runs-relabel f gs)))
+
+-- ---- rows that became ids
+
+module _ (p : Places) (count : ℕ) (old new : List ℕ) (named : RowsNamed (p .rows) (p .sets) (p .ids) old new) (ins : (g : ℕ) → g < count → FinalIn p old g)
+    (groups-to : p .heap + 3 * count ≤ p .rows) (ids-to : p .ids + p .sets ≤ p .heap) (rows-to : p .rows + p .sets ≤ length old) where
+  abbrev id-of : ℕ → ℕ
+  id-of x = getD (seg (p .ids) (p .sets) old) x 0
+
+  -- all before the rows stays
+  before : (k : ℕ) → k < p .rows → getD new k 0 ≡ getD old k 0
+  before k h = named .only .kept k (record { apart = λ q. absurd (omega arith) }, tt)
+
+  row-named : (k : ℕ) → p .rows ≤ k → k < p .rows + p .sets → getD old k 0 < p .sets → getD new k 0 ≡ id-of (getD old k 0)
+  row-named k a b h =
+      let e : p .rows + (k - p .rows) ≡ k = omega arith in
+      (rw e at (named .at (k - p .rows) (omega arith) (rw e h))) ∙ sym (getD-seg (p .ids) (p .sets) old (getD old k 0) h)
+
+  -- a part of the rows
+  part-named : (a n : ℕ) → p .rows ≤ a → a + n ≤ p .rows + p .sets → All (λ x. x < p .sets) (seg a n old) → seg a n new ≡ map id-of (seg a n old)
+  part-named a n f t h =
+      let lo : length (seg a n old) ≡ n = length-seg a n old (omega arith) in
+      let ln : length (seg a n new) ≡ n = length-seg a n new (omega (arith, named .only .long)) in
+      ext-getD 0 (seg a n new) (map id-of (seg a n old)) (ln ∙ sym lo ∙ sym (length-map (seg a n old) id-of))
+      (λ k l.
+      let b : k < n = omega arith in
+      getD-seg a n new k b
+      ∙ row-named (a + k) (omega arith) (omega arith) (seg-all (λ x. x < p .sets) n a old (omega arith) h (a + k) (omega arith) (omega arith))
+      ∙ ap id-of (sym (getD-seg a n old k b))
+      ∙ sym (getD-map-in id-of (seg a n old) k 0 0 (omega arith)))
+
+  group-named : (g : ℕ) → g < count → finalAt (p .regions) new (groupAt p g) ≡ labelled id-of (finalAt (p .regions) old (groupAt p g))
+  unfolding finalAt
+  group-named g h =
+      let f = ins g h in
+      let a = getD old (groupAt p g) 0 in
+      let b = getD old (groupAt p g + 1) 0 in
+      let n = getD old (groupAt p g + 2) 0 in
+      let shape-is : seg (getD new (groupAt p g) 0) (p .regions) new ≡ seg a (p .regions) old =
+      rw (before (groupAt p g) (omega arith))
+      (only-seg (named .only) a (p .regions) (omega (arith, f .shape-to)) (λ k q r. (record { apart = λ z. absurd (omega (arith, f .shape-to)) }, tt))) in
+      let ids-are : seg (getD new (groupAt p g + 1) 0) (getD new (groupAt p g + 2) 0) new ≡ map id-of (seg b n old) =
+      rw (before (groupAt p g + 1) (omega arith), before (groupAt p g + 2) (omega arith))
+      (part-named b n (f .rows-from) (f .rows-to) (f .numbers)) in
+      (λ i. record { shape = shape-is i; ids = ids-are i })
+
+  pub finals-named : finalsAt (p .regions) (p .heap) count new ≡ relabel (λ x. getD (seg (p .ids) (p .sets) old) x 0) (finalsAt (p .regions) (p .heap) count old)
+  unfolding finalsAt relabel
+  finals-named =
+      tabulate-same 0 count (λ g. finalAt (p .regions) new (p .heap + 3 * g)) (λ g. labelled id-of (finalAt (p .regions) old (p .heap + 3 * g))) (λ g q r. group-named g (omega arith))
+      ∙ sym (map-tabulate (labelled id-of) 0 count (λ g. finalAt (p .regions) old (p .heap + 3 * g)))
+
+-- ---- the store fits 32 bits
+
+-- a column has at most 4 bytes
+pub row-most : (word n : ℕ) → columnAt word n ≤ 4 * n
+row-most word zero = omega (arith, at-zero word)
+row-most word (suc n) = omega (arith, ap (columnAt word) (add-one n), at-step word n, bytes-range word n .1, row-most word n)
+
+pub table-most : (n row items : ℕ) → n ≤ 256 → row ≤ 1024 → tableSize n row items ≤ 518 + 1024 * items
+table-most n row items a b = ⊎-elim
+    (λ (e : items ≡ 0). omega (arith, size-none n row items e))
+    (λ d. omega (arith, size-some n row items d, mul-le-mul-left items b))
+    (same-or-not items 0)
+
+module _ (n row count : ℕ) (few : n ≤ 256) (short : row ≤ 1024) where
+  abbrev run-size : ℕ → ℕ
+  run-size k = tableSize n row (min maxItems (count - maxItems * k))
+
+  -- the items of the runs from k on add up to what is left
+  runs-most : (m k : ℕ) → total (tabulate k m run-size) ≤ 518 * m + 1024 * (count - maxItems * k)
+  unfolding tabulate weigh
+  runs-most zero k = omega arith
+  runs-most (suc m) k = omega (arith, runs-most m (suc k), table-most n row (min maxItems (count - maxItems * k)) few short)
+
+  sizes-most : count ≤ 1048576 → total (runSizes n row count) ≤ 8806 + 1024 * count
+  unfolding runSizes
+  sizes-most h = omega (arith, runs-most (runCount count) 0, runs-few count h)
+
+  sizes-few : count ≤ 1048576 → length (runSizes n row count) ≤ 17
+  unfolding runSizes
+  sizes-few h = omega (arith, length-tabulate 0 (runCount count) run-size, runs-few count h)
+
+join-snoc : (ls : List (List ℕ)) (l : List ℕ) → joinAll (ls ++ (l ∷ [])) ≡ joinAll ls ++ l
+unfolding joinAll
+join-snoc [] l = append-nil l
+join-snoc (m ∷ ls) l = rw (join-snoc ls l, append-assoc)
+
+chain-snoc : (f : ℕ → List ℕ) (n : ℕ) → chain f (suc n) ≡ chain f n ++ f n
+unfolding chain
+chain-snoc f n =
+    let e : 0 + n ≡ n = omega arith in
+    ap (λ (k : ℕ). joinAll (tabulate 0 k f)) (sym (add-one n))
+    ∙ ap joinAll (tabulate-snoc 0 n f)
+    ∙ join-snoc (tabulate 0 n f) (f (0 + n))
+    ∙ ap (λ (k : ℕ). joinAll (tabulate 0 n f) ++ f k) e
+
+module _ (f : ℕ → List ℕ) (c : ℕ → ℕ) where
+  chain-most : (n : ℕ) → ((g : ℕ) → g < n → total (f g) ≤ 8806 + 1024 * c g) → total (chain f n) ≤ 8806 * n + 1024 * sum c n
+  unfolding sum
+  chain-most zero h = unfold chain in unfold tabulate in unfold joinAll in unfold weigh in omega arith
+  chain-most (suc n) h =
+      omega (arith, ap total (chain-snoc f n) ∙ weigh-append (λ (x : ℕ). x) (chain f n) (f n), h n (omega arith), chain-most n (λ g l. h g (omega arith)))
+
+  chain-few : (n : ℕ) → ((g : ℕ) → g < n → length (f g) ≤ 17) → length (chain f n) ≤ 17 * n
+  chain-few zero h = unfold chain in unfold tabulate in unfold joinAll in omega arith
+  chain-few (suc n) h = omega (arith, ap length (chain-snoc f n) ∙ length-append (chain f n) (f n), h n (omega arith), chain-few n (λ g l. h g (omega arith)))
+
+module _ (k : Packed) (p : Places) (e : Encoded) (w : List ℕ) (packed : PackedAt k p e w) where
+  abbrev the-group : ℕ → Final
+  the-group g = finalAt (p .regions) w (p .heap + 3 * g)
+
+  abbrev sets-of : ℕ → ℕ
+  sets-of g = getD w (p .heap + 3 * g + 2) 0
+
+  module _ (g : ℕ) (h : g < e .count) where
+    group-sets : length (the-group g .ids) ≡ sets-of g
+    unfolding finalAt
+    group-sets = length-seg (getD w (p .heap + 3 * g + 1) 0) (sets-of g) w (omega (arith, packed .finals-in g h .rows-to, packed .rows-to))
+
+    sets-few : length (the-group g .ids) ≤ 1048576
+    sets-few = omega (arith, group-sets, packed .finals-in g h .rows-from, packed .finals-in g h .rows-to, packed .sets-few)
+
+    columns-few : length (columnsOf (the-group g .shape)) ≤ 256
+    columns-few = omega (arith, columns-count (the-group g .shape), columns-most (the-group g .shape), shape-few, packed .regions-few)
+      where
+        shape-few : length (the-group g .shape) ≤ p .regions
+        shape-few = unfold finalAt in unfold seg in omega (arith, length-take (p .regions) (drop (getD w (p .heap + 3 * g) 0) w))
+
+    row-few : columnAt (wordCount (the-group g .shape)) (length (columnsOf (the-group g .shape))) ≤ 1024
+    row-few = omega (arith, row-most (wordCount (the-group g .shape)) (length (columnsOf (the-group g .shape))), columns-few)
+
+    group-most : total (groupSizes (the-group g)) ≤ 8806 + 1024 * sets-of g
+    unfolding groupSizes
+    group-most =
+        let s = the-group g .shape in
+        let n = length (the-group g .ids) in
+        omega (arith, sizes-most (length (columnsOf s)) (columnAt (wordCount s) (length (columnsOf s))) n columns-few row-few sets-few, group-sets)
+
+    group-few : length (groupSizes (the-group g)) ≤ 17
+    unfolding groupSizes
+    group-few =
+        let s = the-group g .shape in
+        sizes-few (length (columnsOf s)) (columnAt (wordCount s) (length (columnsOf s))) (length (the-group g .ids)) columns-few row-few sets-few
+
+  pub store-small : (axes kept runs : ℕ) → axes ≤ 64 → kept ≤ 256 → runs ≡ length (sizesAt (p .regions) (p .heap) (e .count) w)
+      → 8 + 4 * runs + (4 + 6 * axes * kept) + total (sizesAt (p .regions) (p .heap) (e .count) w) < 4294967296
+  unfolding sizesAt
+  store-small axes kept runs a b r =
+      let most = chain-most (λ g. groupSizes (the-group g)) sets-of (e .count) group-most in
+      let few = chain-few (λ g. groupSizes (the-group g)) sets-of (e .count) group-few in
+      let list = product 384 256 {a = 6 * axes} {b = kept} (omega arith) b in
+      omega (arith, packed .rows-few, packed .sets-few, packed .finals-few)
+
+-- ---- what was drafted can be written
+
+pub planned-of : (axes : ℕ) (w : List ℕ) (regions groups count : ℕ) (marks numbers : List ℕ) (bytes runs kept : ℕ)
+    → Drafted axes w regions groups count marks numbers bytes runs kept
+    → 8 + 4 * runs + (4 + 6 * axes * kept) + total (sizesAt regions groups count w) < 4294967296
+    → Planned axes w regions groups count marks numbers runs kept
+planned-of axes w regions groups count marks numbers bytes runs kept d h = record {
+  marks-room = d .marks-room;
+  numbers-room = d .numbers-room;
+  marked = d .marked;
+  numbered = d .numbered;
+  runs-is = d .runs-is;
+  runs-few = d .runs-few;
+  short = h;
+}

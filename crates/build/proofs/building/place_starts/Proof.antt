@@ -1,0 +1,90 @@
+use Prim.Native.Nat.{_-_}
+use Rattle.build.proofs.StartLaws.{Starting, starts-begin, start-fits, starts-more, starts-done}
+use borrow.Author.Needs.{needs}
+use native.Mathlib.Omega.{arith}
+use Rattle.build.proofs.building.place_starts.Statement.{statement}
+use Rattle.build.proofs.building.place_starts.Tie as tie
+use Rattle.build.proofs.building.place_starts.Reads as reads
+use Rattle.build.proofs.building.place_starts.Lts as lts
+use Rattle.laws.proofs.wide.Reads as wide-reads
+
+abbrev Inv-loop : tie.InvT-loop
+Inv-loop work₀ at n axes i₀ work i = Starting at n axes work₀ work i
+
+abbrev μ-loop : tie.MeasureT-loop
+μ-loop work₀ at n axes i₀ work i = n - i
+
+loop-holds : tie.Need-loop-holds Inv-loop μ-loop
+loop-holds c = starts-begin (c .before .pre .0)
+
+add-wide : tie.Need-add-wide Inv-loop μ-loop
+add-wide c = omega arith
+
+mul-wide : tie.Need-mul-wide Inv-loop μ-loop
+mul-wide c = omega arith
+
+slice-read-wide : tie.Need-slice-read-wide Inv-loop μ-loop
+slice-read-wide c = omega arith
+
+wide-requires : tie.Need-wide-requires Inv-loop μ-loop
+wide-requires c κs = search needs
+
+mul-work : tie.Need-mul-work Inv-loop μ-loop
+mul-work c = omega arith
+
+mul-work-2 : tie.Need-mul-work-2 Inv-loop μ-loop
+mul-work-2 c = omega (arith, start-fits (c .before .before .before .before .before .pre .0) (c .before .before .before .loop .inv) (c .before .before .before .before .before .pre .1 .0) (c .before .before .before .before .before .pre .1 .1) (omega arith) _ (c .wide .ensures))
+
+add-work : tie.Need-add-work Inv-loop μ-loop
+add-work c = omega (arith, start-fits (c .before .before .before .before .before .pre .0) (c .before .before .before .loop .inv) (c .before .before .before .before .before .pre .1 .0) (c .before .before .before .before .before .pre .1 .1) (omega arith) _ (c .wide .ensures))
+
+cast-work : tie.Need-cast-work Inv-loop μ-loop
+cast-work c = omega (arith, start-fits (c .before .before .before .before .before .pre .0) (c .before .before .before .loop .inv) (c .before .before .before .before .before .pre .1 .0) (c .before .before .before .before .before .pre .1 .1) (omega arith) _ (c .wide .ensures))
+
+add-work-2 : tie.Need-add-work-2 Inv-loop μ-loop
+add-work-2 c = omega arith
+
+mul-work-3 : tie.Need-mul-work-3 Inv-loop μ-loop
+mul-work-3 c = omega arith
+
+slice-write-work : tie.Need-slice-write-work Inv-loop μ-loop
+slice-write-work c = omega arith
+
+add-i : tie.Need-add-i Inv-loop μ-loop
+add-i c = omega arith
+
+loop-less : tie.Need-loop-less Inv-loop μ-loop
+loop-less c = omega arith
+
+loop-again : tie.Need-loop-again Inv-loop μ-loop
+loop-again c = starts-more (c .before .before .before .before .before .pre .0) (c .before .before .before .loop .inv) (omega arith) _ (c .wide .ensures)
+
+same-length : tie.Need-same-length Inv-loop μ-loop
+same-length c = omega arith
+
+returns : tie.Need-returns Inv-loop μ-loop
+returns c = starts-done (c .before .before .before .pre .0) (c .before .loop .inv) (omega arith)
+
+pub place-starts-spec : {M : Type 1} → statement M
+place-starts-spec =
+    tie.close
+    (tie.spec
+    Inv-loop
+    μ-loop
+    loop-holds
+    add-wide
+    mul-wide
+    slice-read-wide
+    wide-requires
+    mul-work
+    mul-work-2
+    add-work
+    cast-work
+    add-work-2
+    mul-work-3
+    slice-write-work
+    add-i
+    loop-less
+    loop-again
+    same-length
+    returns)

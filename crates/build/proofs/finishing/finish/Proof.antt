@@ -1,0 +1,96 @@
+use Rattle.build.proofs.WordsLaws.{groups-to, handed, small}
+use Rattle.build.proofs.FinishLaws.{words-fit, log-fits, kept-few, plan, room, refused-as, done-as}
+use borrow.Author.Needs.{needs}
+use Rattle.build.proofs.finishing.finish.Statement.{statement}
+use Rattle.build.proofs.finishing.finish.Tie as tie
+use Rattle.build.proofs.finishing.finish.Reads as reads
+use Rattle.build.proofs.finishing.finish.Lts as lts
+use Rattle.build.proofs.finishing.report.Reads as report-reads
+use Rattle.build.proofs.finishing.short_no.Reads as short-no-reads
+use Rattle.build.proofs.finishing.write_out.Reads as write-out-reads
+use Rattle.build.proofs.finishing.write_words.Reads as write-words-reads
+use Rattle.rows.proofs.draft.Reads as draft-reads
+
+slice-aggregate-draft : tie.Need-slice-aggregate-draft
+slice-aggregate-draft c = search needs
+
+slice-aggregate-draft-2 : tie.Need-slice-aggregate-draft-2
+slice-aggregate-draft-2 c = search needs
+
+draft-requires : tie.Need-draft-requires
+draft-requires c κs =
+    let q = c .before .before .before .before .before .before .before .before .before .pre in
+    let f = words-fit q in
+    let k = q .packed in
+    (q .axes-few, (k .regions-few, (k .finals-few, (groups-to f, (handed f, (small f, (k .regions-few, k .regions-few)))))))
+
+short-no-requires : tie.Need-short-no-requires
+short-no-requires c κs = c .before .before .before .before .before .before .before .before .before .before .before .before .pre .packed .groups-few
+
+same-length : tie.Need-same-length
+same-length c = search needs
+
+returns : tie.Need-returns
+returns c k at = refused-as (c .before .before .before .before .before .before .before .before .before .before .before .before .before .before .pre) (c .before .before .before .before .draft .ensures) k at _ _ _ _ _ (c .before .short-no .ensures) (c .if1 .taken)
+
+slice-aggregate-write-out : tie.Need-slice-aggregate-write-out
+slice-aggregate-write-out c = search needs
+
+slice-aggregate-write-out-2 : tie.Need-slice-aggregate-write-out-2
+slice-aggregate-write-out-2 c = search needs
+
+write-out-requires : tie.Need-write-out-requires
+write-out-requires c κs =
+    let q = c .before .before .before .before .before .before .before .before .before .before .before .before .before .before .before .before .before .before .pre in
+    let d = c .before .before .before .before .before .before .before .before .draft .ensures in
+    (q, (plan q d, room q d (c .before .before .before .before .before .short-no .ensures) (c .before .before .before .before .if1 .left) .out-room))
+
+report-requires : tie.Need-report-requires
+report-requires c κs = let q = c .before .before .before .before .before .before .before .before .before .before .before .before .before .before .before .before .before .before .before .before .before .before .pre in (q .axes-few, (kept-few q (c .before .before .before .before .before .before .before .before .before .before .before .before .draft .ensures), words-fit q))
+
+write-words-requires : tie.Need-write-words-requires
+write-words-requires c κs =
+    let q = c .before .before .before .before .before .before .before .before .before .before .before .before .before .before .before .before .before .before .before .before .before .before .before .before .before .before .before .pre in
+    let r = room q (c .before .before .before .before .before .before .before .before .before .before .before .before .before .before .before .before .before .draft .ensures) (c .before .before .before .before .before .before .before .before .before .before .before .before .before .before .short-no .ensures) (c .before .before .before .before .before .before .before .before .before .before .before .before .before .if1 .left) in
+    (words-fit q, (r .ids-room, (r .map-room, log-fits q r)))
+
+same-length-2 : tie.Need-same-length-2
+same-length-2 c = search needs
+
+same-length-3 : tie.Need-same-length-3
+same-length-3 c = search needs
+
+same-length-4 : tie.Need-same-length-4
+same-length-4 c = search needs
+
+same-length-5 : tie.Need-same-length-5
+same-length-5 c = search needs
+
+same-length-6 : tie.Need-same-length-6
+same-length-6 c = search needs
+
+returns-2 : tie.Need-returns-2
+returns-2 c k at =
+    done-as (c .before .before .before .before .before .before .before .before .before .before .before .before .before .before .before .before .before .before .before .before .before .before .before .before .before .before .before .before .before .before .before .before .before .before .before .before .pre) (c .before .before .before .before .before .before .before .before .before .before .before .before .before .before .before .before .before .before .before .before .before .before .before .before .before .before .draft .ensures) k at _ _ _ _ _ _ _ _ _ _ (c .before .before .before .before .before .before .before .before .before .before .before .before .before .before .before .before .before .before .before .before .before .before .before .short-no .ensures) (c .before .before .before .before .before .before .before .before .before .before .before .before .before .before .before .before .before .before .before .before .before .before .if1 .left) (c .before .before .before .before .before .before .before .before .before .before .before .before .before .before .before .before .before .write-out .ensures) (c .before .before .before .before .before .before .before .before .before .before .before .before .before .report .ensures) (c .before .before .before .before .before .before .before .before .write-words .ensures)
+
+pub finish-spec : {M : Type 1} → statement M
+finish-spec =
+    tie.close
+    (tie.spec
+    slice-aggregate-draft
+    slice-aggregate-draft-2
+    draft-requires
+    short-no-requires
+    same-length
+    returns
+    slice-aggregate-write-out
+    slice-aggregate-write-out-2
+    write-out-requires
+    report-requires
+    write-words-requires
+    same-length-2
+    same-length-3
+    same-length-4
+    same-length-5
+    same-length-6
+    returns-2)

@@ -1,0 +1,19 @@
+use Rattle.build.proofs.FinishLaws.{ready}
+use borrow.Author.Needs.{needs}
+use Rattle.build.proofs.finishing.write_out.Statement.{statement}
+use Rattle.build.proofs.finishing.write_out.Tie as tie
+use Rattle.build.proofs.finishing.write_out.Reads as reads
+use Rattle.build.proofs.finishing.write_out.Lts as lts
+use Rattle.rows.proofs.write_store.Reads as write-store-reads
+
+write-store-requires : tie.Need-write-store-requires
+write-store-requires c κs = let q = c .before .before .before .before .before .before .pre in (ready (q .0), (q .1 .0, q .1 .1))
+
+same-length : tie.Need-same-length
+same-length c = search needs
+
+returns : tie.Need-returns
+returns c = c .before .before .write-store .ensures .is
+
+pub write-out-spec : {M : Type 1} → statement M
+write-out-spec = tie.close (tie.spec write-store-requires same-length returns)

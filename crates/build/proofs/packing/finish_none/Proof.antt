@@ -1,0 +1,47 @@
+use Rattle.encoder.specs.Packed.{own}
+use mathlib.Core.List.{[]}
+use Rattle.build.proofs.NoneLaws.{none-packed, none-fit, none-done}
+use native.Mathlib.Omega.{arith}
+use borrow.Author.Needs.{needs}
+use Rattle.build.proofs.packing.finish_none.Statement.{statement}
+use Rattle.build.proofs.packing.finish_none.Tie as tie
+use Rattle.build.proofs.packing.finish_none.Reads as reads
+use Rattle.build.proofs.packing.finish_none.Lts as lts
+use Rattle.build.proofs.finishing.finish.Reads as finish-reads
+
+array-write-null : tie.Need-array-write-null
+array-write-null c = search needs
+
+slice-aggregate-finish : tie.Need-slice-aggregate-finish
+slice-aggregate-finish c = search needs
+
+finish-requires : tie.Need-finish-requires
+finish-requires c κs = none-fit _ _ (c .before .before .before .before .before .before .before .before .before .before .pre)
+
+same-length : tie.Need-same-length
+same-length c = search needs
+
+same-length-2 : tie.Need-same-length-2
+same-length-2 c = search needs
+
+same-length-3 : tie.Need-same-length-3
+same-length-3 c = search needs
+
+same-length-4 : tie.Need-same-length-4
+same-length-4 c = search needs
+
+returns : tie.Need-returns
+returns c = none-done _ _ _ _ _ _ _ _ _ _ _ _ (c .before .before .before .before .before .before .before .before .before .finish .ensures (own 0 []) none-packed)
+
+pub finish-none-spec : {M : Type 1} → statement M
+finish-none-spec =
+    tie.close
+    (tie.spec
+    array-write-null
+    slice-aggregate-finish
+    finish-requires
+    same-length
+    same-length-2
+    same-length-3
+    same-length-4
+    returns)

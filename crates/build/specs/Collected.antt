@@ -1,0 +1,43 @@
+-- What the steps of a build ask and leave: a job's sets held in work, with where its regions' coordinates stand. Assumes nothing.
+use mathlib.Core.Path.{_≡_}
+use mathlib.Core.List.{List, [], _∷_}
+use Prim.Native.Nat.{ℕ, _+_, _*_, _≤_, _<_}
+use lib.ListN.{length, getD}
+use Rattle.laws.specs.Range.{Only}
+use Rattle.sets.specs.Lent.{setsIn}
+use Rattle.rows.specs.Lent as rows
+use Rattle.job.specs.Job.{Said, Outcome}
+use Rattle.encoder.specs.Lent.{Fit}
+use Rattle.encoder.specs.declared.places.Places.{Places}
+use Rattle.build.specs.declared.answers.Built.{Built}
+use Rattle.build.specs.Late.{outLeft, idsLeft, mapLeft, logLeft}
+use Rattle.build.specs.Lent.{lengths}
+use Rattle.build.specs.Build.{coordsOf, packedOf, answerFrom, leftFrom}
+
+-- n words from `at` on were numbers of regions, and are where in the job the coordinates of these start
+pub record StartsAt (at n axes : ℕ) (old new : List ℕ) : Type 0 where
+  pub only : Only ((at, n) ∷ []) old new
+  pub is : (i : ℕ) → i < n → getD new (at + i) 0 ≡ 12 * axes * getD old (at + i) 0 + 4
+
+-- work holds what a job says
+pub record Collected (axes starts : ℕ) (job : List ℕ) (p : Places) (s : Said) (w : List ℕ) : Type 0 where
+  pub fit : Fit p w
+  pub axes-few : axes ≤ 64
+  pub starts-to : starts + p .regions ≤ p .line
+  pub sets-are : setsIn 0 (p .sets) w ≡ s .sets
+  pub regions-are : length (s .used) ≡ p .regions
+  pub sourced : (r : ℕ) → r < p .regions → rows.Sourced axes job (getD w (starts + r) 0)
+  pub coords-are : rows.coordsOf job axes w starts (p .regions) ≡ coordsOf s
+  pub no-use : length (s .sets) ≡ 0 → length (s .used) ≡ 0
+
+pub record PackFit (axes starts : ℕ) (job : List ℕ) (p : Places) (w : List ℕ) : Type 0 where
+  pub said : Said
+  pub collected : Collected axes starts job p said w
+
+-- what the records say is answered, and everything lent is as it says
+pub record RecordsBuilt (axes mode : ℕ) (o : Outcome) (r : Built) (out ids map log out′ ids′ map′ log′ : List ℕ) : Type 0 where
+  pub answer : r ≡ answerFrom axes mode (lengths out ids map log) o
+  pub out-is : out′ ≡ leftFrom (λ s. outLeft axes (coordsOf s) (packedOf mode s) (lengths out ids map log) out) out o
+  pub ids-is : ids′ ≡ leftFrom (λ s. idsLeft axes (coordsOf s) (packedOf mode s) (lengths out ids map log) ids) ids o
+  pub map-is : map′ ≡ leftFrom (λ s. mapLeft axes (coordsOf s) (packedOf mode s) (lengths out ids map log) map) map o
+  pub log-is : log′ ≡ leftFrom (λ s. logLeft axes (coordsOf s) (packedOf mode s) (lengths out ids map log) log) log o

@@ -1,0 +1,86 @@
+-- What is written of a sound job, once its sets are packed, and when it is refused after all. Document 01, "Refusal numbers": "Then 8, then 10 to 14
+-- in order." Assumes nothing.
+use mathlib.Core.List.{List, [], _∷_}
+use Prim.Native.Nat.{ℕ, _-_, _*_}
+use lib.Dec.{eqb, leb}
+use lib.ListN.{length, getD}
+use Rattle.laws.specs.Pick.{pick}
+use Rattle.laws.specs.Bytes.{over}
+use Rattle.groups.specs.Groups.{maxShapes}
+use Rattle.merging.specs.Held.{words}
+use Rattle.rows.specs.Placing.{storeOf, allRuns, idWords, keptOf, forecastOf}
+use Rattle.rows.specs.Lent.{stored}
+use Rattle.job.specs.Refusals.{firstFailed, shapesFull, idsShort, mapShort, logShort, outShort}
+use Rattle.encoder.specs.Packed.{Packed}
+use Rattle.build.specs.declared.answers.Report.{Report}
+use Rattle.build.specs.declared.answers.Built.{Built}
+use Rattle.build.specs.declared.answers.Built.the-variants.{Refused, Done}
+
+-- below, `coords` are the coordinates of the regions by region index, as bytes
+
+-- the store: each id's row is its set
+unfoldable pub storeFor : ℕ → List (List ℕ) → Packed → List ℕ
+storeFor axes coords k = storeOf axes coords (λ x. getD (k .sets) x []) (k .finals)
+
+-- how many regions the store keeps
+unfoldable pub regionsKept : List (List ℕ) → Packed → ℕ
+regionsKept coords k = length (keptOf (length coords) (k .finals))
+
+-- how long everything is that is lent
+pub record Lent : Type 0 where
+  pub out : ℕ
+  pub ids : ℕ
+  pub map : ℕ
+  pub log : ℕ
+
+-- SHAPES_FULL "mode 0, more than 1,024 distinct shapes"; IDS_SHORT "fewer words than end records"; MAP_SHORT "fewer words than distinct ids";
+-- LOG_SHORT "mode 0, N at least 1, fewer than 3 x (N-1) words"; OUT_SHORT "fewer bytes than the store takes". (In mode 1 N is 0.)
+unfoldable pub lateNo : ℕ → List (List ℕ) → Packed → Lent → ℕ
+lateNo axes coords k l =
+    firstFailed
+    ((leb (k .groups) maxShapes, shapesFull)
+    ∷ (leb (length (k .ids)) (l .ids), idsShort)
+    ∷ (leb (length (k .sets)) (l .map), mapShort)
+    ∷ (leb (3 * (k .groups - 1)) (l .log), logShort)
+    ∷ (leb (length (storeFor axes coords k)) (l .out), outShort)
+    ∷ [])
+
+-- "Done (0) gives: store bytes, subtables (the count in the store, a null one included), regions kept, distinct ids, N, merges, pairs weighed,
+-- modelled size before and after merging, forecast."
+unfoldable pub reportOf : ℕ → List (List ℕ) → Packed → Report
+reportOf axes coords k = record {
+  bytes = length (storeFor axes coords k);
+  subtables = length (allRuns (k .finals));
+  regions = regionsKept coords k;
+  ids = length (k .sets);
+  groups = k .groups;
+  merges = length (k .log);
+  weighed = k .weighed;
+  before = k .before;
+  after = k .after;
+  forecast = forecastOf axes (regionsKept coords k) (k .finals);
+}
+
+-- "The place is .. 0"
+unfoldable pub lateAnswer : ℕ → List (List ℕ) → Packed → Lent → Built
+lateAnswer axes coords k l = pick (eqb (lateNo axes coords k l) 0) (Done (reportOf axes coords k)) (Refused (lateNo axes coords k l) 0)
+
+-- ---- what is left in everything lent: "A refusal has .. output, ids, map and log untouched"; past what is written all is as it was
+
+unfoldable pub ifDone : ℕ → List ℕ → List ℕ → List ℕ
+ifDone n new old = pick (eqb n 0) new old
+
+unfoldable pub outLeft : ℕ → List (List ℕ) → Packed → Lent → List ℕ → List ℕ
+outLeft axes coords k l old = ifDone (lateNo axes coords k l) (over old 0 (length (storeFor axes coords k)) (storeFor axes coords k)) old
+
+-- "The n-th word of ids is the n-th set's id."
+unfoldable pub idsLeft : ℕ → List (List ℕ) → Packed → Lent → List ℕ → List ℕ
+idsLeft axes coords k l old = ifDone (lateNo axes coords k l) (over old 0 (length (k .ids)) (k .ids)) old
+
+-- "The id's map word is outer x 65,536 + inner."
+unfoldable pub mapLeft : ℕ → List (List ℕ) → Packed → Lent → List ℕ → List ℕ
+mapLeft axes coords k l old = ifDone (lateNo axes coords k l) (stored (idWords 0 (allRuns (k .finals))) old) old
+
+-- "The log gets first number, second number, gain."
+unfoldable pub logLeft : ℕ → List (List ℕ) → Packed → Lent → List ℕ → List ℕ
+logLeft axes coords k l old = ifDone (lateNo axes coords k l) (over old 0 (length (words (k .log))) (words (k .log))) old

@@ -1,0 +1,4 @@
+pub mod Late
+pub mod Build
+pub mod Lent
+pub mod Collected

@@ -1,0 +1,209 @@
+// The last part of a build: sizes, refusals 11 to 14, and only then the first word and byte written.
+use crate::answers::Built;
+use crate::answers::Report;
+use encoder::Encoded;
+use encoder::Places;
+use rows::Plan;
+use rows::draft;
+use rows::forecast;
+use rows::write_map;
+use rows::write_store;
+ghost use mathlib.Core.Path.{_≡_};
+ghost use Prim.Native.Nat.{_+_, _-_, _*_, _≤_};
+ghost use lib.ListN.{length};
+ghost use Rattle.laws.specs.Range.{seg};
+ghost use Rattle.laws.specs.Bytes.{over};
+ghost use Rattle.rows.specs.Lent.{Planned, coordsOf};
+ghost use Rattle.encoder.specs.Packed.{Packed};
+ghost use Rattle.encoder.specs.Lent.{PackedAt};
+ghost use Rattle.build.specs.Lent.{FinishFit, Finished, RowsNamed, WordsFit, WordsWritten, lengths, reportIn, shortNo, storeIn};
+
+// The most regions of a store.
+const REGIONS: usize = 256;
+
+// Rows are numbers of sets until now: each becomes the id of its set. Words that are no set's number belong to no row, and stay.
+fn name_rows(work: &mut [u32], rows: usize, n: usize, ids: usize)
+    requires { ⌜ ids + n ≤ rows ⌝ }
+    requires { ⌜ rows + n ≤ length (now work) ⌝ }
+    ensures { λ _. ⌜ RowsNamed rows n ids (now (work .entry)) (now (work .exit)) ⌝ }
+{
+    let mut q: usize = 0;
+    while q < n {
+        let x = work[rows + q] as usize;
+        if x < n {
+            work[rows + q] = work[ids + x];
+            q += 1;
+        } else {
+            q += 1;
+        }
+    }
+}
+
+// The n words from `from` on become the first of what is lent.
+fn copy_words(work: &[u32], from: usize, n: usize, to: &mut [u32])
+    requires { ⌜ from + n ≤ length (now work) ⌝ }
+    requires { ⌜ n ≤ length (now to) ⌝ }
+    ensures { λ _. ⌜ now (to .exit) ≡ over (now (to .entry)) 0 n (seg from n (now (work .entry))) ⌝ }
+{
+    let mut i: usize = 0;
+    while i < n {
+        to[i] = work[from + i];
+        i += 1;
+    }
+}
+
+// The words of log that are asked for: three for each merge that so many groups can have. In mode 1 there are no groups, and no log.
+fn log_need(groups: usize) -> usize
+    requires { ⌜ groups ≤ 1024 ⌝ }
+    ensures { λ r. ⌜ r ≡ 3 * (groups - 1) ⌝ }
+{
+    if groups == 0 {
+        return 0;
+    }
+    3 * (groups - 1)
+}
+
+// The first of refusals 11 to 14 that applies, 0 where none does.
+fn short_no(
+    p: Places,
+    e: Encoded,
+    bytes: usize,
+    out: usize,
+    ids: usize,
+    map: usize,
+    log: usize,
+) -> usize
+    requires { ⌜ e .groups ≤ 1024 ⌝ }
+    ensures { λ r. ⌜ r ≡ shortNo (p .sets) (e .distinct) (e .groups) bytes out ids map log ⌝ }
+{
+    if ids < p.sets {
+        return 11;
+    }
+    if map < e.distinct {
+        return 12;
+    }
+    if log < log_need(e.groups) {
+        return 13;
+    }
+    if out < bytes {
+        return 14;
+    }
+    0
+}
+
+// Writes the store of what is packed, as it was planned.
+fn write_out(
+    out: &mut [u8],
+    job: &[u8],
+    axes: usize,
+    starts: usize,
+    work: &[u32],
+    p: Places,
+    e: Encoded,
+    marks: &[u32],
+    numbers: &[u32],
+    plan: Plan,
+)
+    requires { ⌜ FinishFit axes starts (now job) p e (now work) ⌝ }
+    requires { ⌜ Planned axes (now work) (p .regions) (p .heap) (e .count) (now marks) (now numbers) (plan .runs) (plan .kept) ⌝ }
+    requires { ⌜ length (storeIn axes starts (now job) p e (now work)) ≤ length (now out) ⌝ }
+    ensures { λ _. ⌜ now (out .exit) ≡ over (now (out .entry)) 0 (length (storeIn axes starts (now (job .entry)) p e (now (work .entry)))) (storeIn axes starts (now (job .entry)) p e (now (work .entry))) ⌝ }
+{
+    write_store(
+        out,
+        job,
+        axes,
+        starts,
+        work,
+        p.regions,
+        p.heap,
+        e.count,
+        0,
+        marks,
+        numbers,
+        plan.runs,
+        plan.kept,
+    );
+}
+
+// Writes ids, log and map. The map comes last: its words stand at ids, and the rows, which are numbers of sets until then, become ids for it.
+fn write_words(
+    work: &mut [u32],
+    p: Places,
+    e: Encoded,
+    ids: &mut [u32],
+    map: &mut [u32],
+    log: &mut [u32],
+)
+    requires { ⌜ WordsFit p e (now work) ⌝ }
+    requires { ⌜ p .sets ≤ length (now ids) ⌝ }
+    requires { ⌜ e .distinct ≤ length (now map) ⌝ }
+    requires { ⌜ 3 * e .merges ≤ length (now log) ⌝ }
+    ensures { λ _. ⌜ WordsWritten p e (now (work .entry)) (now (ids .entry)) (now (map .entry)) (now (log .entry)) (now (ids .exit)) (now (map .exit)) (now (log .exit)) ⌝ }
+{
+    copy_words(work, p.ids, p.sets, ids);
+    copy_words(work, p.log, 3 * e.merges, log);
+    name_rows(work, p.rows, p.sets, p.ids);
+    write_map(work, p.regions, p.heap, e.count, 0, map);
+}
+
+// What a done build answers: the counts as they were packed and planned, and the forecast.
+fn report(axes: usize, work: &[u32], p: Places, e: Encoded, plan: Plan) -> Report
+    requires { ⌜ axes ≤ 64 ⌝ }
+    requires { ⌜ plan .kept ≤ 256 ⌝ }
+    requires { ⌜ WordsFit p e (now work) ⌝ }
+    ensures { λ r. ⌜ r ≡ reportIn axes p e (now (work .entry)) (plan .bytes) (plan .runs) (plan .kept) ⌝ }
+{
+    let model = forecast(axes, plan.kept, work, p.regions, p.heap, e.count, 0);
+    Report {
+        bytes: plan.bytes,
+        subtables: plan.runs,
+        regions: plan.kept,
+        ids: e.distinct,
+        groups: e.groups,
+        merges: e.merges,
+        weighed: e.weighed,
+        before: e.before,
+        after: e.after,
+        forecast: model,
+    }
+}
+
+// Finishes a build whose sets are packed in work. All is measured before anything is written, so that a refusal leaves what is lent as it
+// was; and the store and the report come before the words, which rename the rows in work.
+pub fn finish(
+    axes: usize,
+    job: &[u8],
+    work: &mut [u32],
+    starts: usize,
+    p: Places,
+    e: Encoded,
+    out: &mut [u8],
+    ids: &mut [u32],
+    map: &mut [u32],
+    log: &mut [u32],
+) -> Built
+    requires { ⌜ FinishFit axes starts (now job) p e (now work) ⌝ }
+    ensures { λ r. ⌜ ((k : Packed) → PackedAt k p e (now (work .entry)) → Finished axes (coordsOf (now (job .entry)) axes (now (work .entry)) starts (p .regions)) k (lengths (now (out .entry)) (now (ids .entry)) (now (map .entry)) (now (log .entry))) r (now (out .entry)) (now (ids .entry)) (now (map .entry)) (now (log .entry)) (now (out .exit)) (now (ids .exit)) (now (map .exit)) (now (log .exit))) ⌝ }
+{
+    let mut marks = [0u32; REGIONS];
+    let mut numbers = [0u32; REGIONS];
+    let plan = draft(
+        axes,
+        work,
+        p.regions,
+        p.heap,
+        e.count,
+        0,
+        &mut marks,
+        &mut numbers,
+    );
+    let no = short_no(p, e, plan.bytes, out.len(), ids.len(), map.len(), log.len());
+    if no != 0 {
+        return Built::Refused(no, 0);
+    }
+    write_out(out, job, axes, starts, work, p, e, &marks, &numbers, plan);
+    let done = report(axes, work, p, e, plan);
+    write_words(work, p, e, ids, map, log);
+    Built::Done(done)
+}

@@ -1,0 +1,9 @@
+pub mod PlacesLaws
+pub mod DenseIds
+pub mod LivingLaws
+pub mod NumberLaws
+pub mod ArrangeLaws
+pub mod ReadyLaws
+pub mod SharedLaws
+pub mod ShareLaws
+pub mod OwnLaws

@@ -1,0 +1,163 @@
+-- Mode 0 from its start: ids, groups, then what SharedLaws.antt says. Assumes nothing.
+use mathlib.Core.Path.{_≡_, refl, sym, ap, subst, _∙_}
+use mathlib.Core.List.{List, [], _∷_}
+use Prim.Native.Nat.{ℕ, _+_, _*_, _≤_, _<_, min}
+use native.Mathlib.Omega.{arith}
+use lib.ListN.{length, getD}
+use Rattle.laws.specs.Bounded.{upTo}
+use Rattle.laws.specs.Range.{Only, seg}
+use Rattle.laws.specs.Sorting.{sorted}
+use Rattle.laws.proofs.RangeLaws.{apart-part, only-trans, only-weaken, seg-ext}
+use Rattle.laws.proofs.SortMap.{sorted-same}
+use Rattle.sets.specs.Set.{Set}
+use Rattle.sets.specs.Ids.{place, sharedIds, distinct}
+use Rattle.sets.specs.Lent.{setOf, setsIn, atMost, Held, IdsFit, Identified}
+use Rattle.sets.proofs.FirstLaws.{up-all}
+use Rattle.sets.proofs.IdLaws.{distinct-most}
+use Rattle.sets.proofs.HeldLaws.{Kept, kept-only, kept-trans, set-same, sets-same, most-same, held-kept, sets-length}
+use Rattle.groups.specs.declared.grouping.Added.{Added}
+use Rattle.groups.specs.declared.grouping.Added.the-variants.{Groups, Full}
+use Rattle.groups.specs.Groups.{shapeOf, groupsOf}
+use Rattle.groups.specs.Table as tab
+use Rattle.groups.proofs.GroupLaws.{groups-few}
+use Rattle.groups.proofs.AddSteps.{groups-length}
+use Rattle.encoder.specs.declared.places.Places.{Places}
+use Rattle.encoder.specs.declared.encoded.Encoded.{Encoded}
+use Rattle.encoder.specs.declared.encoded.Packing.{Packing}
+use Rattle.encoder.specs.declared.encoded.Packing.the-variants as packing
+use Rattle.encoder.specs.Packed.{shared}
+use Rattle.encoder.specs.Places.{Laid}
+use Rattle.encoder.specs.Lent.{Fit, PackedAt, SharedAt}
+use Rattle.encoder.specs.Arranged.{shapesAt, JoinFit, JoinedGroups}
+
+module _ {p : Places} {w : List ℕ} (f : Fit p w) where
+  lies : Laid p (length w)
+  lies = f .laid
+
+  pub share-ids : IdsFit w 0 (p .sets) (p .line) (p .first) (p .ids)
+  share-ids = record {
+    regions = p .regions;
+    end = p .line;
+    held = f .held;
+    few = omega (arith, lies);
+    behind = omega arith;
+    at-to = omega (arith, lies);
+    first-to = omega (arith, lies);
+    room = omega (arith, lies);
+  }
+
+  module _ {w₁ : List ℕ} {ids : ℕ} (d : Identified 0 (p .sets) (p .line) (p .first) (p .ids) w w₁ ids) where
+    kept₁ : Kept (p .line) w w₁
+    kept₁ = kept-only (d .only) (omega arith, (omega (arith, lies), (omega (arith, lies), tt)))
+
+    sets₁ : setsIn 0 (p .sets) w₁ ≡ setsIn 0 (p .sets) w
+    sets₁ = sets-same (f .held) kept₁
+
+    firsts₁ : (x : ℕ) → x < p .sets → getD w₁ (p .first + x) 0 ≡ place (setOf 0 x w₁) (setsIn 0 (p .sets) w₁)
+    firsts₁ x h = rw (sets₁, set-same (f .held) kept₁ x h) (d .firsts x h)
+
+    pub share-group : tab.GroupFit (shapesAt p) 0 (p .sets) (p .first) (p .kinds) w₁
+    share-group =
+        let long = d .only .long in
+        record {
+          end = p .line;
+          held = held-kept (f .held) kept₁;
+          behind = omega (arith, lies);
+          first-to = omega (arith, lies);
+          kinds-to = omega (arith, lies);
+          laid = record {
+            slots-to = lies .slots-to;
+            order-to = lies .order-to;
+            counts-to = omega (arith, lies);
+            few = omega (arith, lies);
+            narrow = omega (arith, lies);
+          };
+          few = omega (arith, lies);
+          firsts = firsts₁;
+        }
+
+    module _ {w₂ : List ℕ} {r : Added} (g : tab.GroupedAt (shapesAt p) 0 (p .sets) (p .first) (p .kinds) w₁ w₂ r) where
+      low₂ : (i : ℕ) → i < p .kinds → getD w₂ i 0 ≡ getD w₁ i 0
+      low₂ i h = kept-only {end = p .kinds} (g .only) (omega arith, (omega (arith, lies), (omega (arith, lies), (omega (arith, lies), tt)))) .below i h
+
+      kept₂ : Kept (p .line) w₁ w₂
+      kept₂ = record { long = g .only .long; below = λ i h. low₂ i (omega (arith, lies)) }
+
+      kept : Kept (p .line) w w₂
+      kept = kept-trans kept₁ kept₂
+
+      sets₂ : setsIn 0 (p .sets) w₂ ≡ setsIn 0 (p .sets) w
+      sets₂ = sets-same (f .held) kept
+
+      groups-most : length (groupsOf (p .regions) (setsIn 0 (p .sets) w)) ≤ p .sets
+      groups-most = omega (arith, groups-few (p .regions) (setsIn 0 (p .sets) w), distinct-most (setsIn 0 (p .sets) w), sets-length 0 (p .sets) w)
+
+      only₂ : Only ((p .line, length w) ∷ []) w w₂
+      only₂ =
+          let long = d .only .long in
+          only-trans {rs = (p .line, length w) ∷ []}
+          (only-weaken (λ k u. (apart-part (u .0) (omega arith) (omega (arith, lies)), (apart-part (u .0) (omega (arith, lies)) (omega (arith, lies)), (apart-part (u .0) (omega (arith, lies)) (omega (arith, lies)), tt)))) (d .only))
+          (only-weaken (λ k u. (
+            apart-part (u .0) (omega (arith, lies)) (omega (arith, lies)),
+            (
+              apart-part (u .0) (omega (arith, lies)) (omega (arith, lies)),
+              (
+                apart-part (u .0) (omega (arith, lies)) (omega (arith, lies)),
+                (apart-part (u .0) (omega (arith, lies)) (omega (arith, lies)), tt),
+              ),
+            ),
+          )) (g .only))
+
+      result : (a : Added) → r ≡ a → tab.Result (shapesAt p) 0 (p .sets) (p .kinds) w₁ w₂ a
+      result a e = subst (λ (x : Added). tab.Result (shapesAt p) 0 (p .sets) (p .kinds) w₁ w₂ x) e (g .result)
+
+      pub share-full : r ≡ Full → SharedAt p w w₂ packing.Full
+      share-full e =
+          let n = rw sets₁ at (result Full e) in
+          record {
+            only = only₂;
+            result = omega (arith, lies .room-is, groups-most);
+            shapes-few = λ e q. absurd (let z : _≡_ {A = ℕ} 0 1 = cc in omega arith);
+          }
+
+      module _ (groups : ℕ) (e : r ≡ Groups groups) where
+        abbrev into : tab.GroupedInto (shapesAt p) 0 (p .sets) (p .kinds) w₁ w₂ groups
+        into = result (Groups groups) e
+
+        line₂ : seg (p .line) (p .sets) w₂ ≡ sorted (atMost w₂ 0) (upTo (p .sets))
+        line₂ =
+            seg-ext (p .line) (p .line) (p .sets) w₂ w₁ (omega (arith, lies, kept .long)) (omega (arith, lies, d .only .long)) (λ i h. low₂ (p .line + i) (omega (arith, lies)))
+            ∙ d .line
+            ∙ sorted-same (λ (x : ℕ). x < p .sets) (atMost w 0) (atMost w₂ 0) (λ x y h k. sym (most-same (f .held) kept x y h k)) (upTo (p .sets)) (up-all (p .sets))
+
+        ids₂ : seg (p .ids) (p .sets) w₂ ≡ sharedIds (setsIn 0 (p .sets) w₂)
+        ids₂ =
+            seg-ext (p .ids) (p .ids) (p .sets) w₂ w₁ (omega (arith, lies, kept .long)) (omega (arith, lies, d .only .long)) (λ i h. low₂ (p .ids + i) (omega (arith, lies)))
+            ∙ d .given ∙ ap sharedIds (sym sets₂)
+
+        pub share-join : JoinFit p groups ids w₂
+        share-join = record {
+          laid = rw (kept .long) lies;
+          held = held-kept (f .held) kept;
+          line-is = line₂;
+          firsts = λ x h. low₂ (p .first + x) (omega (arith, lies)) ∙ d .firsts x h
+              ∙ rw (sets₂, set-same (f .held) kept x h) refl;
+          ids-are = ids₂;
+          ids-is = d .count ∙ ap (λ (l : List Set). length (distinct l)) (sym sets₂);
+          grouped = record {
+            table = into .table;
+            groups = into .groups ∙ ap (groupsOf (p .regions)) (sets₁ ∙ sym sets₂);
+            kind-below = into .kind-below;
+            kind-shape = λ x h. into .kind-shape x h ∙ ap (shapeOf (p .regions)) (set-same (f .held) kept₁ x h ∙ sym (set-same (f .held) kept x h));
+          };
+        }
+
+        pub share-done : {w₃ : List ℕ} {c : Encoded} → JoinedGroups p w₂ w₃ c → SharedAt p w w₃ (packing.Done c)
+        share-done {w₃} {c} q = record {
+          only = only-trans {rs = (p .line, length w) ∷ []} only₂ (subst (λ (n : ℕ). Only ((p .line, n) ∷ []) w₂ w₃) (kept .long) (q .only));
+          result = subst (λ (l : List Set). PackedAt (shared (p .regions) l) p c w₃) sets₂ (q .packed);
+          shapes-few = λ e x.
+              let n = groups-length (shapesAt p) groups w₂ in
+              let m = ap length (into .groups ∙ ap (groupsOf (p .regions)) sets₁) in
+              omega (arith, into .table .fits, lies .room-few);
+        }

@@ -1,0 +1,126 @@
+use Prim.Native.Nat.{_+_, _*_, _≤_}
+use Rattle.encoder.proofs.PlacesLaws.{slots-few}
+use native.Mathlib.Omega.{arith}
+use borrow.Author.Needs.{needs}
+use Rattle.encoder.proofs.places.lay_out.Statement.{statement}
+use Rattle.encoder.proofs.places.lay_out.Tie as tie
+use Rattle.encoder.proofs.places.lay_out.Reads as reads
+use Rattle.encoder.proofs.places.lay_out.Lts as lts
+use Rattle.encoder.proofs.places.log_words.Reads as log-words-reads
+use Rattle.encoder.proofs.places.room_for.Reads as room-for-reads
+
+few : (c : tie.After-room-for) → (c .room-for .result + 1) * c .before .args .regions ≤ 262400
+few c = slots-few (c .before .args .sets) (c .before .args .regions) (c .room-for .result) (c .room-for .ensures) (omega arith)
+
+room-for-requires : tie.Need-room-for-requires
+room-for-requires c κs = search needs
+
+mul-slots : tie.Need-mul-slots
+mul-slots c = search needs
+
+add-slots : tie.Need-add-slots
+add-slots c = search needs
+
+add-order : tie.Need-add-order
+add-order c = search needs
+
+mul-order : tie.Need-mul-order
+mul-order c = omega (arith, few c)
+
+add-order-2 : tie.Need-add-order-2
+add-order-2 c = omega (arith, few c)
+
+mul-place : tie.Need-mul-place
+mul-place c = search needs
+
+add-place : tie.Need-add-place
+add-place c = omega (arith, few c)
+
+mul-log : tie.Need-mul-log
+mul-log c = search needs
+
+add-log : tie.Need-add-log
+add-log c = omega (arith, few c)
+
+log-words-requires : tie.Need-log-words-requires
+log-words-requires c κs = search needs
+
+add-heap : tie.Need-add-heap
+add-heap c = omega (arith, few (c .before))
+
+add-t11 : tie.Need-add-t11
+add-t11 c = search needs
+
+mul-t10 : tie.Need-mul-t10
+mul-t10 c = search needs
+
+add-t12 : tie.Need-add-t12
+add-t12 c = search needs
+
+mul-t13 : tie.Need-mul-t13
+mul-t13 c = search needs
+
+add-t14 : tie.Need-add-t14
+add-t14 c = search needs
+
+add-t15 : tie.Need-add-t15
+add-t15 c = omega (arith, few (c .before))
+
+mul-t16 : tie.Need-mul-t16
+mul-t16 c = search needs
+
+add-t17 : tie.Need-add-t17
+add-t17 c = omega (arith, few (c .before))
+
+mul-t18 : tie.Need-mul-t18
+mul-t18 c = search needs
+
+add-t19 : tie.Need-add-t19
+add-t19 c = omega (arith, few (c .before))
+
+mul-t20 : tie.Need-mul-t20
+mul-t20 c = search needs
+
+add-t21 : tie.Need-add-t21
+add-t21 c = omega (arith, few (c .before))
+
+mul-t22 : tie.Need-mul-t22
+mul-t22 c = search needs
+
+add-t23 : tie.Need-add-t23
+add-t23 c = omega (arith, few (c .before))
+
+returns : tie.Need-returns
+returns c = search needs
+
+pub lay-out-spec : {M : Type 1} → statement M
+lay-out-spec =
+    tie.close
+    (tie.spec
+    room-for-requires
+    mul-slots
+    add-slots
+    add-order
+    mul-order
+    add-order-2
+    mul-place
+    add-place
+    mul-log
+    add-log
+    log-words-requires
+    add-heap
+    add-t11
+    mul-t10
+    add-t12
+    mul-t13
+    add-t14
+    add-t15
+    mul-t16
+    add-t17
+    mul-t18
+    add-t19
+    mul-t20
+    add-t21
+    mul-t22
+    add-t23
+    returns)

@@ -1,0 +1,105 @@
+-- What is made of a job's sets: ids, final groups, the log, the counts. Document 01, "Rules taken from the source".
+use mathlib.Core.Bool.{Bool, true, false, _&&_, _||_}
+use mathlib.Core.List.{List, [], _∷_, map}
+use Prim.Native.Nat.{ℕ, suc}
+use lib.Dec.{eqb}
+use lib.ListN.{length, getD}
+use Rattle.laws.specs.Pick.{pick}
+use Rattle.laws.specs.Order.{isMost}
+use Rattle.laws.specs.Bounded.{upTo}
+use Rattle.laws.specs.Sorting.{sorted, keep}
+use Rattle.shapes.specs.Shape.{Shape}
+use Rattle.shapes.specs.Group.{Group, groupCost}
+use Rattle.shapes.specs.Order as shapes
+use Rattle.sets.specs.Set.{Set}
+use Rattle.sets.specs.Order as sets
+use Rattle.sets.specs.Ids.{sharedIds, distinct, ownIds}
+use Rattle.groups.specs.Groups.{shapeOf, groupsOf}
+use Rattle.groups.specs.Cover.{coverOf}
+use Rattle.merging.specs.Model.{Living, Entry, start, merged, total}
+use Rattle.rows.specs.Placing.{Final}
+
+pub record Packed : Type 0 where
+  -- the id of each set, and the set of each id
+  pub ids : List ℕ
+  pub sets : List Set
+  -- the final groups in their order, each with its ids in the order of rows
+  pub finals : List Final
+  -- N; the log, an entry a merge; pairs weighed; the modelled size before and after merging
+  pub groups : ℕ
+  pub log : List Entry
+  pub weighed : ℕ
+  pub before : ℕ
+  pub after : ℕ
+
+-- ---- mode 0
+
+-- "sets are ordered by their dense signed values from region 0 up": set x comes no later than set y
+unfoldable pub noLater : List Set → ℕ → ℕ → Bool
+noLater all x y = isMost (sets.order (getD all x []) (getD all y []))
+
+-- the ids of some sets in that order
+unfoldable pub dense : List Set → List ℕ
+dense all = sorted (noLater all) (upTo (length all))
+
+unfoldable pub sameShape : Shape → Shape → Bool
+sameShape [] [] = true
+sameShape [] (w ∷ t) = false
+sameShape (v ∷ s) [] = false
+sameShape (v ∷ s) (w ∷ t) = eqb v w && sameShape s t
+
+-- the number of the group of a shape
+unfoldable pub numberOf : Shape → List Group → ℕ
+numberOf s [] = 0
+numberOf s (g ∷ groups) = pick (sameShape s (g .shape)) 0 (suc (numberOf s groups))
+
+unfoldable pub isAmong : ℕ → List ℕ → Bool
+isAmong i [] = false
+isAmong i (j ∷ l) = eqb i j || isAmong i l
+
+-- a set goes where the group of its shape went: into a living group that has that number among its origins
+unfoldable pub belongs : ℕ → List Group → Living → Set → Bool
+belongs regions groups g s = isAmong (numberOf (shapeOf regions s) groups) (g .origins)
+
+-- a living group with the ids of its sets, "ordered by their dense signed values"
+unfoldable pub finalOf : ℕ → List Group → List Set → Living → Final
+finalOf regions groups all g = record { shape = g .group .shape; ids = keep (λ x. belongs regions groups g (getD all x [])) (dense all) }
+
+-- "groups by the order above": group g comes no later than group h
+unfoldable pub isAhead : Living → Living → Bool
+isAhead g h = isMost (shapes.order (g .group .shape) (h .group .shape))
+
+unfoldable pub finalsOf : ℕ → List Group → List Set → List Final
+finalsOf regions groups all = map (finalOf regions groups all) (sorted isAhead (merged groups .living))
+
+-- "Mode 0: an equal earlier set gives its id again"; "group sets by shape"; joined while a pair gains
+unfoldable pub shared : ℕ → List Set → Packed
+shared regions all = record {
+  ids = sharedIds all;
+  sets = distinct all;
+  finals = finalsOf regions (groupsOf regions all) (distinct all);
+  groups = length (groupsOf regions all);
+  log = merged (groupsOf regions all) .log;
+  weighed = merged (groupsOf regions all) .weighed;
+  before = total (start (groupsOf regions all) .living);
+  after = total (merged (groupsOf regions all) .living);
+}
+
+-- ---- mode 1
+
+-- "both sizes are the one group's cost, or 0 when there are no sets"
+unfoldable pub oneCost : ℕ → List Set → ℕ
+oneCost regions all = pick (eqb (length all) 0) 0 (groupCost (record { shape = coverOf regions all; sets = length all }))
+
+-- "Mode 1: always the next id"; "one group, shape the join of all, rows in order of adding"; "N, merges and pairs are 0"
+unfoldable pub own : ℕ → List Set → Packed
+own regions all = record {
+  ids = ownIds all;
+  sets = all;
+  finals = record { shape = coverOf regions all; ids = upTo (length all) } ∷ [];
+  groups = 0;
+  log = [];
+  weighed = 0;
+  before = oneCost regions all;
+  after = oneCost regions all;
+}

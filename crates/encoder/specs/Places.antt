@@ -1,0 +1,48 @@
+-- Where the tables of a build stand in work. Assumes nothing.
+use mathlib.Core.Path.{_≡_}
+use Prim.Native.Nat.{ℕ, _+_, _-_, _*_, _≤_, _<_, min}
+use Rattle.encoder.specs.declared.places.Places.{Places}
+
+-- the tables of so many sets and regions, one behind the other from `base` on; the final groups stand where the waiting pairs stood
+pub record PlacesAt (base sets regions : ℕ) (p : Places) : Type 0 where
+  pub sets-is : p .sets ≡ sets
+  pub regions-is : p .regions ≡ regions
+  pub room-is : p .room ≡ min sets 1024
+  pub line-is : p .line ≡ base
+  pub first-is : p .first ≡ base + sets
+  pub ids-is : p .ids ≡ base + 2 * sets
+  pub kinds-is : p .kinds ≡ base + 3 * sets
+  pub slots-is : p .slots ≡ base + 4 * sets
+  pub order-is : p .order ≡ p .slots + (p .room + 1) * regions
+  pub counts-is : p .counts ≡ p .order + p .room
+  pub place-is : p .place ≡ p .order + 2 * p .room
+  pub costs-is : p .costs ≡ p .place + 2 * p .room
+  pub columns-is : p .columns ≡ p .place + 3 * p .room
+  pub into-is : p .into ≡ p .place + 4 * p .room
+  pub log-is : p .log ≡ p .place + 6 * p .room
+  pub heap-is : p .heap ≡ p .log + 3 * (p .room - 1)
+  pub rows-is : p .rows ≡ p .heap + 3 * p .room
+
+-- They lie one behind the other in so many words.
+pub record Laid (p : Places) (long : ℕ) : Type 0 where
+  pub sets-few : p .sets ≤ 1048576
+  pub regions-few : p .regions ≤ 256
+  pub room-is : p .room ≡ min (p .sets) 1024
+  pub room-few : p .room ≤ 1024
+  pub room-most : p .room ≤ p .sets
+  pub line-to : p .line + p .sets ≤ p .first
+  pub first-to : p .first + p .sets ≤ p .ids
+  pub ids-to : p .ids + p .sets ≤ p .kinds
+  pub kinds-to : p .kinds + p .sets ≤ p .slots
+  pub slots-to : p .slots + (p .room + 1) * p .regions ≤ p .order
+  pub order-to : p .order + p .room ≤ p .counts
+  pub counts-to : p .counts + p .room ≤ p .place
+  pub place-to : p .place + 2 * p .room ≤ p .costs
+  pub costs-to : p .costs + p .room ≤ p .columns
+  pub columns-to : p .columns + p .room ≤ p .into
+  pub into-to : p .into + 2 * p .room ≤ p .log
+  pub log-to : p .log + 3 * (p .room - 1) ≤ p .heap
+  pub heap-to : p .heap + 3 * ((p .room - 1) * (p .room - 1)) ≤ long
+  pub finals-to : p .heap + 3 * p .room ≤ p .rows
+  pub rows-to : p .rows + p .sets ≤ long
+  pub few : p .rows + p .sets < 4294967296

@@ -1,0 +1,57 @@
+// The final groups: the living ones in their order, and each one's sets in the order of rows.
+use crate::places::Places;
+use finals::DealTables;
+use finals::HomeTables;
+use finals::deal;
+use finals::find_homes;
+use finals::heads;
+use finals::order_living;
+use finals::spots;
+use groups::Shapes;
+ghost use Rattle.encoder.specs.Arranged.{LineFit, LinedUp, ArrangeFit, Arranged};
+
+// The slots of the living of k numbers, in order, from p.costs on; and the place of each there.
+fn line_up(work: &mut [u32], p: Places, groups: usize, k: usize) -> usize
+    requires { ⌜ LineFit p groups k (now work) ⌝ }
+    ensures { λ r. ⌜ LinedUp p groups k (now (work .entry)) (now (work .exit)) r ⌝ }
+{
+    let t = Shapes {
+        regions: p.regions,
+        room: p.room,
+        slots: p.slots,
+        order: p.costs,
+        counts: p.counts,
+    };
+    let count = order_living(work, t, p.place, k);
+    spots(work, p.costs, count, p.columns, groups);
+    count
+}
+
+// Of so many starting groups, and numbers k in all: the final groups from p.heap on, and their rows from p.rows on. Returns how many there are.
+pub fn arrange(work: &mut [u32], p: Places, groups: usize, k: usize) -> usize
+    requires { ⌜ ArrangeFit p groups k (now work) ⌝ }
+    ensures { λ r. ⌜ Arranged p groups k (now (work .entry)) (now (work .exit)) r ⌝ }
+{
+    let count = line_up(work, p, groups, k);
+    let t = HomeTables {
+        groups,
+        from: p.order,
+        into: p.into,
+        place: p.place,
+        spot: p.columns,
+        home: p.counts,
+    };
+    find_homes(work, t);
+    heads(work, p.slots, p.regions, p.costs, count, p.heap);
+    let d = DealTables {
+        sets: p.sets,
+        line: p.line,
+        first: p.first,
+        kinds: p.kinds,
+        home: p.counts,
+        finals: p.heap,
+        rows: p.rows,
+    };
+    deal(work, d, count);
+    count
+}

@@ -1,0 +1,84 @@
+// Where the tables of a build stand in work, behind the sets.
+ghost use mathlib.Core.Path.{_≡_};
+ghost use Prim.Native.Nat.{_-_, _*_, _≤_, min};
+ghost use Rattle.encoder.specs.Places.{PlacesAt};
+
+// Of so many sets and regions, in this order. `line`, `first`, `ids` and `kinds` have a word for each set: set numbers in the order of the
+// sets, the first like of each, its id, the slot of its shape. Then the shapes, a word a region in each of room + 1 slots, and tables of room
+// words: `order` (the slot of each group), `counts` (sets by slot; then the final group of each slot), `place` (two such tables), `costs` (row
+// costs by slot; then the slots of the final groups), `columns` (columns by slot; then a slot's place in that order), `into` (two). Then the log,
+// the waiting pairs, and where those stood the final groups, three words each, with a word for each set from `rows` on.
+pub struct Places {
+    pub sets: usize,
+    pub regions: usize,
+    pub room: usize,
+    pub line: usize,
+    pub first: usize,
+    pub ids: usize,
+    pub kinds: usize,
+    pub slots: usize,
+    pub order: usize,
+    pub counts: usize,
+    pub place: usize,
+    pub costs: usize,
+    pub columns: usize,
+    pub into: usize,
+    pub log: usize,
+    pub heap: usize,
+    pub rows: usize,
+}
+
+// How many groups there may be: at most 1,024, and no more than sets.
+fn room_for(sets: usize) -> usize
+    ensures { λ r. ⌜ r ≡ min sets 1024 ⌝ }
+{
+    if sets < 1024 {
+        return sets;
+    }
+    1024
+}
+
+// Three words for each merge that so many groups can have.
+fn log_words(groups: usize) -> usize
+    requires { ⌜ groups ≤ 1024 ⌝ }
+    ensures { λ r. ⌜ r ≡ 3 * (groups - 1) ⌝ }
+{
+    if groups == 0 {
+        return 0;
+    }
+    3 * (groups - 1)
+}
+
+// The tables of so many sets and regions, from `base` on.
+pub fn lay_out(base: usize, sets: usize, regions: usize) -> Places
+    requires { ⌜ base ≤ 5242880 ⌝ }
+    requires { ⌜ sets ≤ 1048576 ⌝ }
+    requires { ⌜ regions ≤ 256 ⌝ }
+    ensures { λ r. ⌜ PlacesAt base sets regions r ⌝ }
+{
+    let room = room_for(sets);
+    let slots = base + 4 * sets;
+    let order = slots + (room + 1) * regions;
+    let place = order + 2 * room;
+    let log = place + 6 * room;
+    let heap = log + log_words(room);
+    Places {
+        sets,
+        regions,
+        room,
+        line: base,
+        first: base + sets,
+        ids: base + 2 * sets,
+        kinds: base + 3 * sets,
+        slots,
+        order,
+        counts: order + room,
+        place,
+        costs: place + 2 * room,
+        columns: place + 3 * room,
+        into: place + 4 * room,
+        log,
+        heap,
+        rows: heap + 3 * room,
+    }
+}

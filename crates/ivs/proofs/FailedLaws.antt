@@ -1,0 +1,76 @@
+-- Tests in their order: which one answers. Assumes nothing.
+use mathlib.Core.Path.{_≡_, refl, sym, ap, _∙_}
+use mathlib.Core.Bool.{Bool, true, false, _&&_}
+use mathlib.Core.List.{List, [], _∷_}
+use mathlib.Core.Logic.{_⊎_, inl, inr}
+use Prim.Native.Nat.{ℕ, _≤_, _<_}
+use native.Mathlib.Omega.{arith}
+use Rattle.laws.specs.Every.{All}
+use Rattle.laws.proofs.Cases.{true-false}
+use Rattle.job.specs.Refusals.{firstFailed}
+
+abbrev pub Tests : Type 0
+Tests = List (Bool × ℕ)
+
+-- every number of the tests is above n
+abbrev pub Above : ℕ → Tests → Type 0
+Above n l = All (λ (t : Bool × ℕ). n < t .1) l
+
+rest-not : (n : ℕ) (l : Tests) → 0 < n → Above n l → firstFailed l ≡ n → ⊥
+unfolding firstFailed
+rest-not n [] p a e = omega arith
+rest-not n ((true, m) ∷ l) p a e = rest-not n l p (a .1) e
+rest-not n ((false, m) ∷ l) p a e = let h = a .0 in omega arith
+
+module _ (n : ℕ) (l : Tests) where
+  -- a test fails, and no later one has its number
+  pub this : (b : Bool) → 0 < n → Above n l → firstFailed ((b, n) ∷ l) ≡ n → b ≡ false
+  unfolding firstFailed
+  this true p a e = absurd (rest-not n l p a e)
+  this false p a e = refl
+
+  pub failed : (b : Bool) → b ≡ false → firstFailed ((b, n) ∷ l) ≡ n
+  unfolding firstFailed
+  failed b e = rw e
+
+  -- another number is answered, or none
+  module _ (m : ℕ) where
+    pub other : (b : Bool) → (n ≡ m → ⊥) → firstFailed ((b, n) ∷ l) ≡ m → b ≡ true
+    unfolding firstFailed
+    other true d e = refl
+    other false d e = absurd (d e)
+
+    pub later : (b : Bool) → (n ≡ m → ⊥) → firstFailed ((b, n) ∷ l) ≡ m → firstFailed l ≡ m
+    unfolding firstFailed
+    later true d e = e
+    later false d e = absurd (d e)
+
+    pub passed : (b : Bool) → b ≡ true → firstFailed l ≡ m → firstFailed ((b, n) ∷ l) ≡ m
+    unfolding firstFailed
+    passed b t e = rw t e
+
+-- the number is one of the tests', or 0
+pub among : (low high : ℕ) (l : Tests) → All (λ (t : Bool × ℕ). (low ≤ t .1) × (t .1 ≤ high)) l → (firstFailed l ≡ 0) ⊎ ((low ≤ firstFailed l) × (firstFailed l ≤ high))
+unfolding firstFailed
+among low high [] a = inl refl
+among low high ((true, n) ∷ l) a = among low high l (a .1)
+among low high ((false, n) ∷ l) a = inr (a .0)
+
+pub none-failed : firstFailed [] ≡ 0
+unfolding firstFailed
+none-failed = refl
+
+-- a test of two parts
+pub and-false : (a b : Bool) → a && b ≡ false → (a ≡ false) ⊎ (b ≡ false)
+and-false true b e = inr e
+and-false false b e = inl refl
+
+pub and-both : (a b : Bool) → a ≡ true → b ≡ true → a && b ≡ true
+and-both a b e f = rw (e, f)
+
+pub and-first : (a b : Bool) → a ≡ false → a && b ≡ false
+and-first a b e = rw e
+
+pub and-second : (a b : Bool) → b ≡ false → a && b ≡ false
+and-second true b e = e
+and-second false b e = refl

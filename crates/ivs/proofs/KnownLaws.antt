@@ -1,0 +1,94 @@
+-- A region that a value has named before has its axis records; named before means the same coordinates. Assumes nothing.
+use mathlib.Core.Path.{_≡_, refl, sym, ap, subst, _∙_}
+use mathlib.Core.Bool.{Bool, true, false}
+use mathlib.Core.List.{List, [], _∷_}
+use mathlib.Core.Logic.{_⊎_, inl, inr, ⊎-elim}
+use Prim.Native.Nat.{ℕ, zero, suc, _+_, _*_, _/_, _%_, _≤_, _<_}
+use native.Mathlib.Omega.{arith}
+use lib.ListN.{length, getD}
+use Rattle.laws.proofs.Cases.{lt-or-ge, same-or-not}
+use Rattle.job.specs.Records.{kind, regionOf}
+use Rattle.job.specs.Sets.{Region, regionList, firstLike, has}
+use Rattle.job.specs.Job.{Said, State, inAxes, inSets, stop, on, step}
+use Rattle.job.proofs.MeaningLaws.{first-equal, equal-first}
+use Rattle.ivs.specs.Exactly.{Exactly}
+use Rattle.ivs.specs.Passing.{recordAt, Passed, saidAt}
+use Rattle.ivs.specs.Counts.{countKind, axisRecords, knownRegions, NamedBefore}
+use Rattle.ivs.proofs.StepLaws.{Looks, looks}
+use Rattle.ivs.proofs.StepLaws.Looks.{axis, late, cut, value, set-end, unknown}
+use Rattle.ivs.proofs.StateLaws.{count-here, count-past, count-most, value-on, value-known, NamedAt, Means, means}
+
+-- one record of another kind
+count-less : (k : ℕ) (job : List ℕ) (i p : ℕ) → p < i → (kind (recordAt job p) ≡ k → ⊥) → countKind k job i < i
+count-less k job zero p h d = absurd (omega arith)
+count-less k job (suc i) p h d = ⊎-elim (λ (l : p < i). before (count-less k job i p l d)) here (lt-or-ge p i)
+  where
+    more : countKind k job (suc i) ≤ suc (countKind k job i)
+    more =
+        ⊎-elim (λ (e : kind (recordAt job i) ≡ k). omega (arith, count-here k job i e)) (λ c. omega (arith, count-past k job i c)) (same-or-not (kind (recordAt job i)) k)
+
+    before : countKind k job i < i → countKind k job (suc i) < suc i
+    before l = let y = more in omega arith
+
+    here : i ≤ p → countKind k job (suc i) < suc i
+    here l =
+        let e : p ≡ i = omega arith in
+        let x = count-past k job i (subst (λ (n : ℕ). kind (recordAt job n) ≡ k → ⊥) e d) in
+        let y = count-most k job i in
+        omega arith
+
+module _ (axes mode : ℕ) (job : List ℕ) where
+  abbrev Known : ℕ → ℕ → Type 0
+  Known i p = regionOf (recordAt job p) < length (knownRegions axes job i)
+
+  next-known : (i : ℕ) → (kind (recordAt job i) ≡ 1 → ⊥) → (p : ℕ) → Known i p → Known (suc i) p
+  next-known i d p h = subst (λ (n : ℕ). regionOf (recordAt job p) < length (regionList axes (n / axes) job)) (sym (count-past 1 job i d)) h
+
+  -- every value that passed named a region with axis records
+  pub all-known : (i : ℕ) (s : State) → Passed axes mode job i s → (p : ℕ) → p < i → kind (recordAt job p) ≡ 2 → Known i p
+  unfolding Passed
+  all-known zero s p q h v = absurd (omega arith)
+  all-known (suc i) s (t, p, f) q h v = go (means axes mode job i t p) (λ l. all-known i t p q l v) (looks axes mode job (recordAt job i) i t)
+    where
+      five : step axes mode job (recordAt job i) i t ≡ stop 5 → Known (suc i) q
+      five e = let z : _≡_ {A = ℕ} 0 1 = cc in absurd (omega arith)
+
+      -- at record i itself, or before it
+      at : (i ≤ q → Known (suc i) q) → (q < i → Known (suc i) q) → Known (suc i) q
+      at a b = ⊎-elim b a (lt-or-ge q i)
+
+      here : i ≤ q → kind (recordAt job i) ≡ 2
+      here l = let e : q ≡ i = omega arith in subst (λ (n : ℕ). kind (recordAt job n) ≡ 2) e v
+
+      go : Means axes job i t → (q < i → Known i q) → Looks axes mode job (recordAt job i) i t → Known (suc i) q
+      go m rec (axis k a e) =
+          at (λ l. let w = here l in absurd (omega arith))
+          (λ l. let x = count-less 1 job i q l (λ z. omega arith) in let y = m .in-axes a in absurd (omega arith))
+      go m rec (late k a e) = five e
+      go m rec (cut k a w e) = five e
+      go m rec (value k w e) =
+          let u = value-on (recordAt job i) (saidAt axes job i t) s (sym e ∙ f) in
+          let x = value-known (recordAt job i) (length (saidAt axes job i t .regions)) (has (firstLike (saidAt axes job i t .regions) (regionOf (recordAt job i))) (saidAt axes job i t .named)) (u .0) in
+          let y : Known i i = subst (λ (x : List Region). regionOf (recordAt job i) < length x) (m .regions-are) x in
+          at (λ l. let z : i ≡ q = omega arith in next-known i (λ c. omega arith) q (subst (λ (n : ℕ). Known i n) z y)) (λ l. next-known i (λ c. omega arith) q (rec l))
+      go m rec (set-end k w e) = at (λ l. let w′ = here l in absurd (omega arith)) (λ l. next-known i (λ c. omega arith) q (rec l))
+      go m rec (unknown a b c e) = five e
+
+  -- "Regions are equal when all coordinates are equal."
+  pub named-before : (i : ℕ) (s : State) → Passed axes mode job i s → (q : ℕ) → q < length (knownRegions axes job i)
+      → Exactly (NamedAt (knownRegions axes job i) job i (firstLike (knownRegions axes job i) q)) (NamedBefore axes job i q)
+  named-before i s p q h = record {
+    given = λ n. record {
+      place = n .place;
+      before-it = n .before-it;
+      one-set = n .one-set;
+      known = let l = n .before-it in all-known i s p (n .place) l (n .one-set (n .place) (omega arith) l);
+      same = equal-first (knownRegions axes job i) (regionOf (recordAt job (n .place))) q (n .same);
+    };
+    only = λ n. record {
+      place = n .place;
+      before-it = n .before-it;
+      one-set = n .one-set;
+      same = first-equal (knownRegions axes job i) (regionOf (recordAt job (n .place))) q (n .known) h (n .same);
+    };
+  }

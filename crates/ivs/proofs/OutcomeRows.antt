@@ -1,0 +1,202 @@
+-- Which part of a build answers: the tests before the records, a record, the end of the job, or the tests after it. Assumes nothing.
+use mathlib.Core.Path.{_≡_, refl, sym, ap, _∙_}
+use mathlib.Core.Bool.{Bool, true, false}
+use mathlib.Core.List.{List, [], _∷_}
+use mathlib.Core.Logic.{_⊎_, inl, inr, ⊎-elim}
+use Prim.Native.Nat.{ℕ, zero, suc, _+_, _-_, _*_, _/_, _%_, _≤_, _<_}
+use native.Mathlib.Omega.{arith}
+use lib.ListN.{length}
+use lib.Dec.{eqb}
+use borrow.Author.Tests.{eq-eqb, ne-eqb}
+use Rattle.laws.specs.Pick.{pick}
+use Rattle.laws.proofs.Cases.{same-or-not}
+use Rattle.job.specs.Refusals.{firstFailed, earlyNo}
+use Rattle.job.specs.Job.{Said, State, inAxes, inSets, step, Outcome, refused, fine, ended, endedSets, walk, outcome, outcomeFrom}
+use Rattle.build.specs.declared.answers.Built.{Built}
+use Rattle.build.specs.declared.answers.Built.the-variants.{Refused, Done}
+use Rattle.build.specs.Late.{Lent, lateNo, lateAnswer, reportOf}
+use Rattle.build.specs.Build.{coordsOf, packedOf, answerFrom, answerOf}
+use Rattle.ivs.specs.Exactly.{Exactly}
+use Rattle.ivs.specs.Passing.{recordAt, StopsAt, EndsAs}
+use Rattle.ivs.proofs.FailedLaws.{among}
+use Rattle.ivs.proofs.StepLaws.{RecordNo, stop-no}
+use Rattle.ivs.proofs.WalkRows.{Way, way, stops-given, ends-given}
+use Rattle.ivs.proofs.WalkRows.Way.{stopped, came}
+
+-- ---- the numbers of each part
+
+early-some : (axes mode bytes work : ℕ) → (earlyNo axes mode bytes work ≡ 0) ⊎ ((1 ≤ earlyNo axes mode bytes work) × (earlyNo axes mode bytes work ≤ 4))
+unfolding earlyNo
+early-some axes mode bytes work =
+    among 1 4 _ ((omega arith, omega arith), ((omega arith, omega arith), ((omega arith, omega arith), ((omega arith, omega arith), tt))))
+
+pub early-few : (axes mode bytes work : ℕ) → earlyNo axes mode bytes work ≤ 4
+early-few axes mode bytes work =
+    ⊎-elim (λ (z : earlyNo axes mode bytes work ≡ 0). omega arith) (λ (z : (1 ≤ earlyNo axes mode bytes work) × (earlyNo axes mode bytes work ≤ 4)). z .1)
+    (early-some axes mode bytes work)
+
+pub late-many : (axes : ℕ) (s : Said) (mode : ℕ) (l : Lent)
+    → (lateNo axes (coordsOf s) (packedOf mode s) l ≡ 0) ⊎ ((10 ≤ lateNo axes (coordsOf s) (packedOf mode s) l) × (lateNo axes (coordsOf s) (packedOf mode s) l ≤ 14))
+unfolding lateNo
+late-many axes s mode l =
+    among 10 14 _ ((omega arith, omega arith), ((omega arith, omega arith), ((omega arith, omega arith), ((omega arith, omega arith), ((omega arith, omega arith), tt)))))
+
+pub ended-no : (axes : ℕ) (job : List ℕ) (k : ℕ) (s : State) (n i : ℕ) → ended axes job k s ≡ refused n i → (n ≡ 8) × (i ≡ k)
+unfolding ended
+ended-no axes job k inAxes n i e = ⊎-elim whole part (same-or-not (k % axes) 0)
+  where
+    whole : k % axes ≡ 0 → (n ≡ 8) × (i ≡ k)
+    whole h = let f = rw (eq-eqb (k % axes) 0 h) at e in let z : _≡_ {A = ℕ} 0 1 = cc in absurd (omega arith)
+
+    part : (k % axes ≡ 0 → ⊥) → (n ≡ 8) × (i ≡ k)
+    part h = let f = rw (ne-eqb (k % axes) 0 h) at e in let a : n ≡ 8 = cc in let b : i ≡ k = cc in (a, b)
+ended-no axes job k (inSets s) n i e = go (s .named) e
+  where
+    go : (l : List ℕ) → endedSets k s l ≡ refused n i → (n ≡ 8) × (i ≡ k)
+    go [] f = unfold endedSets in (let z : _≡_ {A = ℕ} 0 1 = cc in absurd (omega arith))
+    go (q ∷ l) f = unfold endedSets in (let a : n ≡ 8 = cc in let b : i ≡ k = cc in (a, b))
+
+-- ---- the walk
+
+module _ (axes mode : ℕ) (job : List ℕ) (records : ℕ) where
+  pub stops-only : (n i : ℕ) → (n ≡ 8 → ⊥) → walk axes mode job job records 0 inAxes ≡ refused n i → StopsAt axes mode job records n i
+  stops-only n i d e = go (way axes mode job records)
+    where
+      go : Way axes mode job records (walk axes mode job job records 0 inAxes) → StopsAt axes mode job records n i
+      go (stopped m j f a) = let x : m ≡ n = cc in let y : j ≡ i = cc in rw (← x, ← y) a
+      go (came a) = absurd (d (ended-no axes job records (a .state) n i (a .ends ∙ e) .0))
+
+  -- "the earliest bad record answers"
+  pub earliest : (n i : ℕ) → i < records → Exactly (walk axes mode job job records 0 inAxes ≡ refused n i) (StopsAt axes mode job records n i)
+  earliest n i h = record { given = λ a. stops-given axes mode job records n i a; only = λ e. go e (way axes mode job records) }
+    where
+      go : walk axes mode job job records 0 inAxes ≡ refused n i → Way axes mode job records (walk axes mode job job records 0 inAxes) → StopsAt axes mode job records n i
+      go e (stopped m j f a) = let x : m ≡ n = cc in let y : j ≡ i = cc in rw (← x, ← y) a
+      go e (came a) = let k = ended-no axes job records (a .state) n i (a .ends ∙ e) .1 in absurd (omega arith)
+
+  pub ends-only : (o : Outcome) → ((n i : ℕ) → o ≡ refused n i → n ≡ 8) → walk axes mode job job records 0 inAxes ≡ o → EndsAs axes mode job records o
+  ends-only o d e = go (way axes mode job records)
+    where
+      go : Way axes mode job records (walk axes mode job job records 0 inAxes) → EndsAs axes mode job records o
+      go (stopped m j f a) = absurd (stop-no axes mode job (recordAt job j) j (a .state) m (a .stops) .not-eight (d m j (sym e ∙ f)))
+      go (came a) = record { state = a .state; all-pass = a .all-pass; ends = a .ends ∙ e }
+
+  pub walk-no : (n i : ℕ) → walk axes mode job job records 0 inAxes ≡ refused n i → (5 ≤ n) × (n ≤ 9)
+  walk-no n i e = ⊎-elim eight record-no (same-or-not n 8)
+    where
+      eight : n ≡ 8 → (5 ≤ n) × (n ≤ 9)
+      eight h = (omega arith, omega arith)
+
+      record-no : (n ≡ 8 → ⊥) → (5 ≤ n) × (n ≤ 9)
+      record-no d =
+          let a = stops-only n i d e in
+          let b = stop-no axes mode job (recordAt job i) i (a .state) n (a .stops) in
+          (b .low, b .high)
+
+-- ---- the outcome
+
+module _ (axes mode : ℕ) (job : List ℕ) (work : ℕ) where
+  abbrev pub walked : Outcome
+  walked = walk axes mode job job (length job / 12) 0 inAxes
+
+  abbrev pub early : ℕ
+  early = earlyNo axes mode (length job) work
+
+  pub outcome-early : (n : ℕ) → early ≡ n → 0 < n → outcome axes mode job work ≡ refused n 0
+  unfolding outcome
+  outcome-early n e h = go early e
+    where
+      go : (k : ℕ) → k ≡ n → outcomeFrom k walked ≡ refused n 0
+      go zero f = absurd (omega arith)
+      go (suc k) f = unfold outcomeFrom in ap (λ (x : ℕ). refused x 0) f
+
+  pub outcome-walked : early ≡ 0 → outcome axes mode job work ≡ walked
+  unfolding outcome outcomeFrom
+  outcome-walked e = rw e
+
+  -- where none of 1 to 4 is given, records answer; else the number at place 0
+  pub outcome-by : (early ≡ 0) ⊎ ((0 < early) × (outcome axes mode job work ≡ refused early 0))
+  outcome-by = ⊎-elim inl (λ d. let h : 0 < early = omega arith in inr (h, outcome-early early refl h)) (same-or-not early 0)
+
+  pub early-only : (n p : ℕ) → n ≤ 4 → outcome axes mode job work ≡ refused n p → (early ≡ n) × (p ≡ 0)
+  early-only n p h e = ⊎-elim none some outcome-by
+    where
+      none : early ≡ 0 → (early ≡ n) × (p ≡ 0)
+      none z = let w = walk-no axes mode job (length job / 12) n p (sym (outcome-walked z) ∙ e) in absurd (omega arith)
+
+      some : (0 < early) × (outcome axes mode job work ≡ refused early 0) → (early ≡ n) × (p ≡ 0)
+      some f = let g = f .1 in let a : early ≡ n = cc in let b : p ≡ 0 = cc in (a, b)
+
+  pub walked-only : (o : Outcome) → ((n p : ℕ) → o ≡ refused n p → 5 ≤ n) → outcome axes mode job work ≡ o → (early ≡ 0) × (walked ≡ o)
+  walked-only o d e = ⊎-elim none some outcome-by
+    where
+      none : early ≡ 0 → (early ≡ 0) × (walked ≡ o)
+      none z = (z, sym (outcome-walked z) ∙ e)
+
+      some : (0 < early) × (outcome axes mode job work ≡ refused early 0) → (early ≡ 0) × (walked ≡ o)
+      some f = let b = early-few axes mode (length job) work in let a = d early 0 (sym e ∙ f .1) in absurd (omega arith)
+
+-- ---- the answer
+
+module _ (axes mode : ℕ) (job : List ℕ) (work : ℕ) (l : Lent) where
+  -- the number of the tests after the records
+  abbrev pub late : Said → ℕ
+  late s = lateNo axes (coordsOf s) (packedOf mode s) l
+
+  pub answer-refused : (n p : ℕ) → outcome axes mode job work ≡ refused n p → answerOf axes mode job work l ≡ Refused n p
+  unfolding answerOf answerFrom
+  answer-refused n p e = rw e
+
+  pub answer-late : (s : Said) (n : ℕ) → outcome axes mode job work ≡ fine s → late s ≡ n → 0 < n → answerOf axes mode job work l ≡ Refused n 0
+  unfolding answerOf answerFrom lateAnswer
+  answer-late s n e f h = rw (e, f, ne-eqb n 0 (λ (z : n ≡ 0). omega arith))
+
+  pub answer-done : (s : Said) → outcome axes mode job work ≡ fine s → late s ≡ 0 → answerOf axes mode job work l ≡ Done (reportOf axes (coordsOf s) (packedOf mode s))
+  unfolding answerOf answerFrom lateAnswer
+  answer-done s e f = rw (e, f)
+
+  -- who answers
+  pub data Answers : Type 0 where
+    by-job : (n p : ℕ) → outcome axes mode job work ≡ refused n p → answerOf axes mode job work l ≡ Refused n p → (0 < n) × (n ≤ 9) → Answers
+    by-late : (s : Said) → outcome axes mode job work ≡ fine s → (10 ≤ late s) × (late s ≤ 14) → answerOf axes mode job work l ≡ Refused (late s) 0 → Answers
+    done : (s : Said) → outcome axes mode job work ≡ fine s → late s ≡ 0 → answerOf axes mode job work l ≡ Done (reportOf axes (coordsOf s) (packedOf mode s)) → Answers
+
+  pub answers : Answers
+  answers = go (outcome axes mode job work) refl
+    where
+      few : (n p : ℕ) → outcome axes mode job work ≡ refused n p → (0 < n) × (n ≤ 9)
+      few n p e =
+          ⊎-elim (λ z. let w = walk-no axes mode job (length job / 12) n p (sym (outcome-walked axes mode job work z) ∙ e) in (omega arith, omega arith))
+          (λ f. let g = f .1 in let a : early axes mode job work ≡ n = cc in let b = early-few axes mode (length job) work in (omega arith, omega arith))
+          (outcome-by axes mode job work)
+
+      go : (o : Outcome) → outcome axes mode job work ≡ o → Answers
+      go (refused n p) e = by-job n p e (answer-refused n p e) (few n p e)
+      go (fine s) e =
+          ⊎-elim (λ z. done s e z (answer-done s e z)) (λ h. by-late s e h (answer-late s (late s) e refl (omega arith)))
+          (late-many axes s mode l)
+
+  pub job-only : (n p : ℕ) → n ≤ 9 → answerOf axes mode job work l ≡ Refused n p → outcome axes mode job work ≡ refused n p
+  job-only n p h e = go answers
+    where
+      go : Answers → outcome axes mode job work ≡ refused n p
+      go (by-job m q f g b) = cc
+      go (by-late s f b g) = let z : late s ≡ n = cc in absurd (omega arith)
+      go (done s f b g) = let z : _≡_ {A = ℕ} 0 1 = cc in absurd (omega arith)
+
+  pub late-only : (n p : ℕ) → 10 ≤ n → answerOf axes mode job work l ≡ Refused n p → (p ≡ 0) × (s : Said) × (outcome axes mode job work ≡ fine s) × (late s ≡ n)
+  late-only n p h e = go answers
+    where
+      go : Answers → (p ≡ 0) × (s : Said) × (outcome axes mode job work ≡ fine s) × (late s ≡ n)
+      go (by-job m q f g b) = let z : m ≡ n = cc in absurd (omega arith)
+      go (by-late s f b g) = let z : late s ≡ n = cc in let y : p ≡ 0 = cc in (y, s, f, z)
+      go (done s f b g) = let z : _≡_ {A = ℕ} 0 1 = cc in absurd (omega arith)
+
+  -- there are no numbers but those of the table
+  pub numbers : (n p : ℕ) → answerOf axes mode job work l ≡ Refused n p → (1 ≤ n) × (n ≤ 14)
+  numbers n p e = go answers
+    where
+      go : Answers → (1 ≤ n) × (n ≤ 14)
+      go (by-job m q f g b) = let z : m ≡ n = cc in (omega arith, omega arith)
+      go (by-late s f b g) = let z : late s ≡ n = cc in (omega arith, omega arith)
+      go (done s f b g) = let z : _≡_ {A = ℕ} 0 1 = cc in absurd (omega arith)

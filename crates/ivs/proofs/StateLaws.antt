@@ -1,0 +1,277 @@
+-- What the state before a record means, in document 01's words: by counts of the records before it. Assumes nothing.
+use mathlib.Core.Path.{_≡_, refl, sym, ap, subst, _∙_}
+use mathlib.Core.Bool.{Bool, true, false, not, _||_}
+use mathlib.Core.List.{List, [], _∷_, _++_}
+use mathlib.Core.Logic.{_⊎_, inl, inr, ⊎-elim}
+use Prim.Native.Nat.{ℕ, zero, suc, _+_, _-_, _*_, _/_, _%_, _≤_, _<_}
+use native.Mathlib.Omega.{arith}
+use lib.ListN.{length, getD, length-append}
+use lib.Dec.{eqb, ltb}
+use borrow.Author.Tests.{eq-eqb, ne-eqb, eqb-true, eqb-false, ltb-true}
+use Rattle.laws.proofs.Cases.{Which, which, lt-or-ge, same-or-not}
+use Rattle.laws.proofs.Cases.Which.{holds, fails}
+use Rattle.job.specs.Records.{kind, regionOf, valueZeros, valueWord}
+use Rattle.job.specs.Refusals.{firstFailed, axisNo, valueNo, endNo}
+use Rattle.job.specs.Sets.{Region, regionList, firstLike, has}
+use Rattle.job.specs.Job.{Said, State, inAxes, inSets, Step, stop, on, unless, afterValue, afterEnd, valueStep, endStep, regionsOnly, step}
+use Rattle.ivs.specs.Exactly.{Exactly}
+use Rattle.ivs.specs.Passing.{recordAt, Passed, saidAt, Whole}
+use Rattle.ivs.specs.Counts.{countKind, axisRecords, endsBefore, knownRegions}
+use Rattle.ivs.proofs.FailedLaws.{other, later}
+use Rattle.ivs.proofs.StepLaws.{Looks, looks, valueTold, endTold}
+use Rattle.ivs.proofs.StepLaws.Looks.{axis, late, cut, value, set-end, unknown}
+
+-- ---- counts
+
+module _ (k : ℕ) (job : List ℕ) (i : ℕ) where
+  pub count-here : kind (recordAt job i) ≡ k → countKind k job (suc i) ≡ suc (countKind k job i)
+  unfolding countKind
+  count-here e = rw (eq-eqb (kind (recordAt job i)) k e)
+
+  pub count-past : (kind (recordAt job i) ≡ k → ⊥) → countKind k job (suc i) ≡ countKind k job i
+  unfolding countKind
+  count-past d = rw (ne-eqb (kind (recordAt job i)) k d)
+
+pub count-most : (k : ℕ) (job : List ℕ) (i : ℕ) → countKind k job i ≤ i
+unfolding countKind
+count-most k job zero = omega arith
+count-most k job (suc i) =
+    let h = count-most k job i in
+    ⊎-elim (λ (e : kind (recordAt job i) ≡ k). omega (arith, count-here k job i e)) (λ d. omega (arith, count-past k job i d)) (same-or-not (kind (recordAt job i)) k)
+
+-- ---- steps that go on
+
+unless-on-only : (k : ℕ) (s t : State) → unless k s ≡ on t → (k ≡ 0) × (s ≡ t)
+unfolding unless
+unless-on-only zero s t e = let z : s ≡ t = cc in (refl, z)
+unless-on-only (suc k) s t e = let z : _≡_ {A = ℕ} 0 1 = cc in absurd (omega arith)
+
+pub value-on : (r : List ℕ) (s : Said) (t : State) → valueStep r s ≡ on t
+    → (valueTold r s ≡ 0) × (inSets (afterValue s (firstLike (s .regions) (regionOf r)) (valueWord r)) ≡ t)
+unfolding valueStep
+value-on r s t e = unless-on-only (valueTold r s) _ t e
+
+pub end-on : (mode : ℕ) (r : List ℕ) (s : Said) (t : State) → endStep mode r s ≡ on t → (endTold mode r s ≡ 0) × (inSets (afterEnd s) ≡ t)
+unfolding endStep
+end-on mode r s t e = unless-on-only (endTold mode r s) _ t e
+
+-- the region of a value that passes is known
+pub value-known : (r : List ℕ) (regions : ℕ) (named : Bool) → valueNo r regions named ≡ 0 → regionOf r < regions
+unfolding valueNo
+value-known r regions named e =
+    ltb-true (regionOf r) regions (other 6 ((not named, 7) ∷ []) 0 (ltb (regionOf r) regions) (λ z. omega arith)
+    (later 5 ((ltb (regionOf r) regions, 6) ∷ (not named, 7) ∷ []) 0 (valueZeros r) (λ z. omega arith) e))
+
+-- ---- the regions that a set has named
+
+-- by a value record at `place`, where all records from there to record i are values
+pub record NamedAt (regions : List Region) (job : List ℕ) (i q : ℕ) : Type 0 where
+  pub place : ℕ
+  pub before-it : place < i
+  pub one-set : (k : ℕ) → place ≤ k → k < i → kind (recordAt job k) ≡ 2
+  pub known : regionOf (recordAt job place) < length regions
+  pub same : firstLike regions (regionOf (recordAt job place)) ≡ q
+
+not-named : (regions : List Region) (job : List ℕ) (i q : ℕ) → (kind (recordAt job i) ≡ 2 → ⊥) → NamedAt regions job (suc i) q → ⊥
+not-named regions job i q d n = let h = n .before-it in d (n .one-set i (omega arith) (omega arith))
+
+named-here : (regions : List Region) (job : List ℕ) (i q : ℕ) → kind (recordAt job i) ≡ 2 → regionOf (recordAt job i) < length regions
+    → firstLike regions (regionOf (recordAt job i)) ≡ q → NamedAt regions job (suc i) q
+named-here regions job i q v l e = record {
+  place = i;
+  before-it = omega arith;
+  one-set = λ k a b. let z : i ≡ k = omega arith in subst (λ (x : ℕ). kind (recordAt job x) ≡ 2) z v;
+  known = l;
+  same = e;
+}
+
+named-on : (regions : List Region) (job : List ℕ) (i q : ℕ) → kind (recordAt job i) ≡ 2 → NamedAt regions job i q → NamedAt regions job (suc i) q
+named-on regions job i q v n = record {
+  place = n .place;
+  before-it = let h = n .before-it in omega arith;
+  one-set = λ k a b.
+      ⊎-elim (λ (h : k < i). n .one-set k a h) (λ (h : i ≤ k). let z : i ≡ k = omega arith in subst (λ (x : ℕ). kind (recordAt job x) ≡ 2) z v) (lt-or-ge k i);
+  known = n .known;
+  same = n .same;
+}
+
+-- either here or before
+named-by : (regions : List Region) (job : List ℕ) (i q : ℕ) → NamedAt regions job (suc i) q → (firstLike regions (regionOf (recordAt job i)) ≡ q) ⊎ NamedAt regions job i q
+named-by regions job i q n =
+    ⊎-elim (λ (h : n .place < i). inr (record {
+      place = n .place;
+      before-it = h;
+      one-set = λ k a b. n .one-set k a (omega arith);
+      known = n .known;
+      same = n .same;
+    }))
+    (λ (h : i ≤ n .place). let b = n .before-it in let z : n .place ≡ i = omega arith in inl (subst (λ (x : ℕ). firstLike regions (regionOf (recordAt job x)) ≡ q) z (n .same)))
+    (lt-or-ge (n .place) i)
+
+-- ---- the state
+
+pub record Means (axes : ℕ) (job : List ℕ) (i : ℕ) (s : State) : Type 0 where
+  pub regions-are : saidAt axes job i s .regions ≡ knownRegions axes job i
+  pub sets-are : length (saidAt axes job i s .sets) ≡ endsBefore job i
+  pub in-axes : s ≡ inAxes → axisRecords job i ≡ i
+  pub in-sets : (s ≡ inAxes → ⊥) → (axisRecords job i < i) × (axisRecords job i % axes ≡ 0)
+  pub named-is : (q : ℕ) → Exactly (has q (saidAt axes job i s .named) ≡ true) (NamedAt (knownRegions axes job i) job i q)
+  -- inside a set: the last record is a value
+  pub set-open : Exactly (0 < length (saidAt axes job i s .named)) ((k : ℕ) × (suc k ≡ i) × (kind (recordAt job k) ≡ 2))
+
+-- only axis records so far
+axes-mean : (axes : ℕ) (job : List ℕ) (i : ℕ) → axisRecords job i ≡ i → endsBefore job i ≡ 0 → ((k : ℕ) → suc k ≡ i → kind (recordAt job k) ≡ 1) → Means axes job i inAxes
+unfolding saidAt regionsOnly has
+axes-mean axes job i a z last = record {
+  regions-are = ap (λ (n : ℕ). regionList axes (n / axes) job) (sym a);
+  sets-are = sym z;
+  in-axes = λ e. a;
+  in-sets = λ d. absurd (d refl);
+  named-is = λ q. record {
+    given = λ n. absurd (none n);
+    only = λ e. let y : _≡_ {A = ℕ} 0 1 = cc in absurd (omega arith);
+  };
+  set-open = record {
+    given = λ o. let l = last (o .0) (o .1) in let y = o .2 in absurd (omega arith);
+    only = λ h. absurd (omega arith);
+  };
+}
+  where
+    none : {q : ℕ} → NamedAt (knownRegions axes job i) job i q → ⊥
+    none n =
+        let b = n .before-it in
+        let x = last (i - 1) (omega arith) in
+        let y = n .one-set (i - 1) (omega arith) (omega arith) in
+        omega arith
+
+-- ---- one record more
+
+or-first : (a b : Bool) → a ≡ true → a || b ≡ true
+or-first a b e = rw e
+
+or-second : (a b : Bool) → b ≡ true → a || b ≡ true
+or-second true b e = refl
+or-second false b e = e
+
+or-true : (a b : Bool) → a || b ≡ true → (a ≡ true) ⊎ (b ≡ true)
+or-true true b e = inl refl
+or-true false b e = inr e
+
+module _ (axes : ℕ) (job : List ℕ) (i : ℕ) where
+  -- "inside an unfinished region", by the count of axis records
+  pub whole-count : (t : State) → Means axes job i t → Whole axes i t → axisRecords job i % axes ≡ 0
+  whole-count inAxes m w = ap (λ (n : ℕ). n % axes) (m .in-axes refl) ∙ w refl
+  whole-count (inSets s) m w = m .in-sets (λ e. let z : _≡_ {A = ℕ} 0 1 = cc in omega arith) .1
+
+  pub count-whole : (t : State) → Means axes job i t → axisRecords job i % axes ≡ 0 → Whole axes i t
+  count-whole t m c e = ap (λ (n : ℕ). n % axes) (sym (m .in-axes e)) ∙ c
+
+  none-ended : (t : State) → t ≡ inAxes → length (saidAt axes job i t .sets) ≡ 0
+  unfolding saidAt regionsOnly
+  none-ended t e = rw e
+
+  not-axes : (s : Said) → inSets s ≡ inAxes → ⊥
+  not-axes s e = let z : _≡_ {A = ℕ} 0 1 = cc in omega arith
+
+  module _ (t : State) (m : Means axes job i t) where
+    abbrev r : List ℕ
+    r = recordAt job i
+
+    abbrev old : Said
+    old = saidAt axes job i t
+
+    abbrev q′ : ℕ
+    q′ = firstLike (old .regions) (regionOf r)
+
+    -- no axis record: the regions are the same
+    regions-same : (kind r ≡ 1 → ⊥) → knownRegions axes job (suc i) ≡ knownRegions axes job i
+    regions-same d = ap (λ (n : ℕ). regionList axes (n / axes) job) (count-past 1 job i d)
+
+    past-axes : (kind r ≡ 1 → ⊥) → Whole axes i t → (axisRecords job (suc i) < suc i) × (axisRecords job (suc i) % axes ≡ 0)
+    past-axes d w =
+        let c = count-past 1 job i d in
+        let h = count-most 1 job i in
+        (omega arith, ap (λ (n : ℕ). n % axes) c ∙ whole-count t m w)
+
+    value-mean : kind r ≡ 2 → Whole axes i t → valueTold r old ≡ 0 → Means axes job (suc i) (inSets (afterValue old q′ (valueWord r)))
+    unfolding saidAt afterValue has
+    value-mean v w z = record {
+      regions-are = m .regions-are ∙ sym (regions-same not-one);
+      sets-are = m .sets-are ∙ sym (count-past 3 job i (λ e. omega arith));
+      in-axes = λ e. absurd (not-axes _ e);
+      in-sets = λ d. past-axes not-one w;
+      named-is = λ q. record {
+        given = λ n. named-given q (subst (λ (x : List Region). NamedAt x job (suc i) q) (regions-same not-one) n);
+        only = λ e. subst (λ (x : List Region). NamedAt x job (suc i) q) (sym (regions-same not-one)) (named-only q e);
+      };
+      set-open = record { given = λ o. omega arith; only = λ h. (i, refl, v) };
+    }
+      where
+        not-one : kind r ≡ 1 → ⊥
+        not-one e = omega arith
+
+        like-is : q′ ≡ firstLike (knownRegions axes job i) (regionOf r)
+        like-is = ap (λ (x : List Region). firstLike x (regionOf r)) (m .regions-are)
+
+        known : regionOf r < length (knownRegions axes job i)
+        known = subst (λ (x : List Region). regionOf r < length x) (m .regions-are) (value-known r (length (old .regions)) (has q′ (old .named)) z)
+
+        named-given : (q : ℕ) → NamedAt (knownRegions axes job i) job (suc i) q → eqb q q′ || has q (old .named) ≡ true
+        named-given q n =
+            ⊎-elim (λ (e : firstLike (knownRegions axes job i) (regionOf r) ≡ q). or-first (eqb q q′) (has q (old .named)) (eq-eqb q q′ (sym (like-is ∙ e))))
+            (λ (x : NamedAt (knownRegions axes job i) job i q). or-second (eqb q q′) (has q (old .named)) (m .named-is q .given x))
+            (named-by (knownRegions axes job i) job i q n)
+
+        named-only : (q : ℕ) → eqb q q′ || has q (old .named) ≡ true → NamedAt (knownRegions axes job i) job (suc i) q
+        named-only q h =
+            ⊎-elim (λ (e : eqb q q′ ≡ true). named-here (knownRegions axes job i) job i q v known (sym like-is ∙ sym (eqb-true q q′ e)))
+            (λ (e : has q (old .named) ≡ true). named-on (knownRegions axes job i) job i q v (m .named-is q .only e))
+            (or-true (eqb q q′) (has q (old .named)) h)
+
+    end-mean : kind r ≡ 3 → Whole axes i t → Means axes job (suc i) (inSets (afterEnd old))
+    unfolding saidAt afterEnd has
+    end-mean v w = record {
+      regions-are = m .regions-are ∙ sym (regions-same not-one);
+      sets-are = length-append (old .sets) (old .begun ∷ []) ∙ (let a = m .sets-are in let b = count-here 3 job i v in omega arith);
+      in-axes = λ e. absurd (not-axes _ e);
+      in-sets = λ d. past-axes not-one w;
+      named-is = λ q. record {
+        given = λ n. absurd (not-named (knownRegions axes job (suc i)) job i q not-two n);
+        only = λ e. let y : _≡_ {A = ℕ} 0 1 = cc in absurd (omega arith);
+      };
+      set-open = record { given = λ o. absurd (last (o .0) (o .1) (o .2)); only = λ h. absurd (omega arith) };
+    }
+      where
+        not-one : kind r ≡ 1 → ⊥
+        not-one e = omega arith
+
+        not-two : kind r ≡ 2 → ⊥
+        not-two e = omega arith
+
+        last : (k : ℕ) → suc k ≡ suc i → kind (recordAt job k) ≡ 2 → ⊥
+        last k e d = let y : k ≡ i = omega arith in not-two (subst (λ (x : ℕ). kind (recordAt job x) ≡ 2) y d)
+
+    axis-mean : kind r ≡ 1 → t ≡ inAxes → Means axes job (suc i) inAxes
+    axis-mean v a =
+        axes-mean axes job (suc i) (count-here 1 job i v ∙ ap suc (m .in-axes a))
+        (count-past 3 job i (λ e. omega arith) ∙ sym (m .sets-are) ∙ none-ended t a)
+        (λ k e. let y : i ≡ k = omega arith in subst (λ (x : ℕ). kind (recordAt job x) ≡ 1) y v)
+
+    next-means : (mode : ℕ) (s : State) → step axes mode job r i t ≡ on s → Means axes job (suc i) s
+    next-means mode s f = go (looks axes mode job r i t)
+      where
+        five : step axes mode job r i t ≡ stop 5 → Means axes job (suc i) s
+        five e = let z : _≡_ {A = ℕ} 0 1 = cc in absurd (omega arith)
+
+        go : Looks axes mode job r i t → Means axes job (suc i) s
+        go (axis k a e) = subst (λ (x : State). Means axes job (suc i) x) (unless-on-only (axisNo axes r i) inAxes s (sym e ∙ f) .1) (axis-mean k a)
+        go (late k a e) = five e
+        go (cut k a w e) = five e
+        go (value k w e) = let u = value-on r old s (sym e ∙ f) in subst (λ (x : State). Means axes job (suc i) x) (u .1) (value-mean k w (u .0))
+        go (set-end k w e) = let u = end-on mode r old s (sym e ∙ f) in subst (λ (x : State). Means axes job (suc i) x) (u .1) (end-mean k w)
+        go (unknown a b c e) = five e
+
+pub means : (axes mode : ℕ) (job : List ℕ) (i : ℕ) (s : State) → Passed axes mode job i s → Means axes job i s
+unfolding Passed countKind
+means axes mode job zero s p = subst (λ (x : State). Means axes job 0 x) (sym p) (axes-mean axes job 0 refl refl (λ k e. absurd (omega arith)))
+means axes mode job (suc i) s (t, p, e) = next-means axes job i t (means axes mode job i t p) mode s e

@@ -1,0 +1,19 @@
+-- "two results obeying it are shown equal": a build's answer and all that it leaves are fixed. Assumes nothing.
+use mathlib.Core.Path.{_≡_, sym, _∙_}
+use mathlib.Core.List.{List}
+use Prim.Native.Nat.{ℕ}
+use Rattle.build.specs.declared.answers.Built.{Built}
+use Rattle.ivs.specs.Obeys.{BuildObeys, SameResult}
+
+pub unique : {axes mode : ℕ} {job work out ids map log : List ℕ} {r s : Built} {out₁ ids₁ map₁ log₁ work₁ out₂ ids₂ map₂ log₂ work₂ : List ℕ}
+    → BuildObeys axes mode job work out ids map log r out₁ ids₁ map₁ log₁ work₁
+    → BuildObeys axes mode job work out ids map log s out₂ ids₂ map₂ log₂ work₂
+    → SameResult r s out₁ ids₁ map₁ log₁ work₁ out₂ ids₂ map₂ log₂ work₂
+unique a b = record {
+  answer = a .answer ∙ sym (b .answer);
+  out-same = a .out-is ∙ sym (b .out-is);
+  ids-same = a .ids-is ∙ sym (b .ids-is);
+  map-same = a .map-is ∙ sym (b .map-is);
+  log-same = a .log-is ∙ sym (b .log-is);
+  work-same = a .work-is ∙ sym (b .work-is);
+}

@@ -1,0 +1,90 @@
+-- What stands before a record of a job, in document 01's words. Assumes nothing.
+use mathlib.Core.Path.{_≡_}
+use mathlib.Core.Logic.{_⊎_}
+use mathlib.Core.List.{List, []}
+use Prim.Native.Nat.{ℕ, zero, suc, _+_, _/_, _%_, _≤_, _<_}
+use lib.ListN.{length, getD}
+use lib.Dec.{eqb}
+use Rattle.laws.specs.Pick.{pick}
+use Rattle.job.specs.Records.{kind, regionOf, axisOf}
+use Rattle.job.specs.Sets.{Region, regionList}
+use Rattle.ivs.specs.Passing.{recordAt}
+
+-- how many of the first i records are of this kind
+unfoldable pub countKind : ℕ → List ℕ → ℕ → ℕ
+countKind k job zero = 0
+countKind k job (suc i) = pick (eqb (kind (recordAt job i)) k) (suc (countKind k job i)) (countKind k job i)
+
+abbrev pub axisRecords : List ℕ → ℕ → ℕ
+axisRecords job i = countKind 1 job i
+
+abbrev pub endsBefore : List ℕ → ℕ → ℕ
+endsBefore job i = countKind 3 job i
+
+-- the regions that have all their axis records before record i
+abbrev pub knownRegions : ℕ → List ℕ → ℕ → List Region
+knownRegions axes job i = regionList axes (axisRecords job i / axes) job
+
+-- an unfinished region before record i
+abbrev pub InRegion : ℕ → List ℕ → ℕ → Type 0
+InRegion axes job i = axisRecords job i % axes ≡ 0 → ⊥
+
+-- the n bytes from byte p on are 0; one of them is not
+abbrev pub Zeros : List ℕ → ℕ → ℕ → Type 0
+Zeros r p n = (k : ℕ) → k < n → getD r (p + k) 0 ≡ 0
+
+pub record NotZero (r : List ℕ) (p n : ℕ) : Type 0 where
+  pub byte : ℕ
+  pub within : byte < n
+  pub is-not : getD r (p + byte) 0 ≡ 0 → ⊥
+
+-- 5 BAD_RECORD: "unknown kind, a zero byte not zero, an axis record out of its order or after the first value or end, a value or end inside an
+-- unfinished region"
+pub data BadRecord (axes : ℕ) (job : List ℕ) (i : ℕ) (r : List ℕ) : Type 0 where
+  unknown-kind : (kind r ≡ 1 → ⊥) → (kind r ≡ 2 → ⊥) → (kind r ≡ 3 → ⊥) → BadRecord axes job i r
+  axis-zero : kind r ≡ 1 → NotZero r 3 1 ⊎ NotZero r 10 2 → BadRecord axes job i r
+  value-zero : kind r ≡ 2 → NotZero r 2 2 ⊎ NotZero r 8 4 → BadRecord axes job i r
+  end-zero : kind r ≡ 3 → NotZero r 1 11 → BadRecord axes job i r
+  -- "region 0 axis 0, up to its last axis, then region 1, and so on"
+  axis-order : kind r ≡ 1 → (regionOf r ≡ i / axes → ⊥) ⊎ (axisOf r ≡ i % axes → ⊥) → BadRecord axes job i r
+  axis-late : kind r ≡ 1 → axisRecords job i < i → BadRecord axes job i r
+  in-region : (kind r ≡ 2) ⊎ (kind r ≡ 3) → InRegion axes job i → BadRecord axes job i r
+
+-- a value record with its zeros, not inside an unfinished region
+pub record ValueHere (axes : ℕ) (job : List ℕ) (i : ℕ) (r : List ℕ) : Type 0 where
+  pub is-value : kind r ≡ 2
+  pub zeros-two : Zeros r 2 2
+  pub zeros-eight : Zeros r 8 4
+  pub whole : axisRecords job i % axes ≡ 0
+
+-- 6 UNKNOWN_REGION: "a value names a region with no axis records"
+pub record UnknownRegion (axes : ℕ) (job : List ℕ) (i : ℕ) (r : List ℕ) : Type 0 where
+  pub value-here : ValueHere axes job i r
+  pub unknown : length (knownRegions axes job i) ≤ regionOf r
+
+-- a value record of the set that is not yet ended at record i, with the coordinates of region q
+pub record NamedBefore (axes : ℕ) (job : List ℕ) (i q : ℕ) : Type 0 where
+  pub place : ℕ
+  pub before-it : place < i
+  pub one-set : (k : ℕ) → place ≤ k → k < i → kind (recordAt job k) ≡ 2
+  pub same : getD (knownRegions axes job i) (regionOf (recordAt job place)) [] ≡ getD (knownRegions axes job i) q []
+
+-- 7 REGION_TWICE: "a value's region has the same coordinates as an earlier one's in its set, zero values counted too"
+pub record RegionTwice (axes : ℕ) (job : List ℕ) (i : ℕ) (r : List ℕ) : Type 0 where
+  pub value-here : ValueHere axes job i r
+  pub known : regionOf r < length (knownRegions axes job i)
+  pub twice : NamedBefore axes job i (regionOf r)
+
+-- 9 SETS_FULL: "mode 1, the 65,536th end record"
+pub record SetsFull (axes mode : ℕ) (job : List ℕ) (i : ℕ) (r : List ℕ) : Type 0 where
+  pub is-end : kind r ≡ 3
+  pub zeros-one : Zeros r 1 11
+  pub whole : axisRecords job i % axes ≡ 0
+  pub mode-one : mode ≡ 1
+  pub full : endsBefore job i ≡ 65535
+
+-- 8 UNFINISHED: "the job ends inside a set or a region"
+pub data Unfinished (axes : ℕ) (job : List ℕ) (records : ℕ) : Type 0 where
+  inside-region : InRegion axes job records → Unfinished axes job records
+  -- its last record is a value
+  inside-set : (k : ℕ) → suc k ≡ records → kind (recordAt job k) ≡ 2 → Unfinished axes job records

@@ -1,0 +1,39 @@
+-- A job's records that pass, one after another, and the one that does not. Document 01, "Refusal numbers": "Then records from the first on: the
+-- earliest bad record answers". Assumes nothing.
+use mathlib.Core.Path.{_≡_}
+use mathlib.Core.List.{List}
+use Prim.Native.Nat.{ℕ, zero, suc, _*_, _/_, _%_, _<_}
+use lib.ListN.{drop}
+use Rattle.job.specs.Sets.{regionList}
+use Rattle.job.specs.Job.{Said, State, inAxes, inSets, stop, on, regionsOnly, step, Outcome, ended}
+
+-- the bytes of a job from record i on
+abbrev pub recordAt : List ℕ → ℕ → List ℕ
+recordAt job i = drop (12 * i) job
+
+-- records 0 to i, without i, pass and leave this state
+unfoldable pub Passed : ℕ → ℕ → List ℕ → ℕ → State → Type 0
+Passed axes mode job zero s = s ≡ inAxes
+Passed axes mode job (suc i) s = (t : State) × Passed axes mode job i t × (step axes mode job (recordAt job i) i t ≡ on s)
+
+-- record i is the earliest bad one, by number n
+pub record StopsAt (axes mode : ℕ) (job : List ℕ) (records n i : ℕ) : Type 0 where
+  pub state : State
+  pub within : i < records
+  pub before-pass : Passed axes mode job i state
+  pub stops : step axes mode job (recordAt job i) i state ≡ stop n
+
+-- all records pass, and the end of the job answers
+pub record EndsAs (axes mode : ℕ) (job : List ℕ) (records : ℕ) (o : Outcome) : Type 0 where
+  pub state : State
+  pub all-pass : Passed axes mode job records state
+  pub ends : ended axes job records state ≡ o
+
+-- what is said before record i, where it is no axis record
+unfoldable pub saidAt : ℕ → List ℕ → ℕ → State → Said
+saidAt axes job i inAxes = regionsOnly (regionList axes (i / axes) job)
+saidAt axes job i (inSets s) = s
+
+-- record i does not stand inside an unfinished region
+abbrev pub Whole : ℕ → ℕ → State → Type 0
+Whole axes i s = s ≡ inAxes → i % axes ≡ 0

@@ -1,0 +1,22 @@
+-- The rows of document 01's table that records give: where, and what holds before. Assumes nothing.
+use mathlib.Core.List.{List}
+use Prim.Native.Nat.{ℕ, _/_, _<_}
+use lib.ListN.{length}
+use Rattle.job.specs.Job.{State}
+use Rattle.ivs.specs.Fits.{WorkFit}
+use Rattle.ivs.specs.Passing.{Passed}
+
+-- none of 1 to 4; records 0 to i, without i, pass; and this holds of record i
+pub record EarliestBad (axes mode : ℕ) (job : List ℕ) (work i : ℕ) (Why : Type 0) : Type 0 where
+  pub fits : WorkFit axes mode (length job) work
+  pub within : i < length job / 12
+  pub state : State
+  pub before-pass : Passed axes mode job i state
+  pub why : Why
+
+-- none of 1 to 4; all records pass; and this holds of the job
+pub record AllPass (axes mode : ℕ) (job : List ℕ) (work : ℕ) (Why : Type 0) : Type 0 where
+  pub fits : WorkFit axes mode (length job) work
+  pub state : State
+  pub all-pass : Passed axes mode job (length job / 12) state
+  pub why : Why

@@ -1,0 +1,141 @@
+//! As raw.rs, for machines other than x86-64, where `libivs.a` cannot be linked: the
+//! calls go through a pipe to src/served.c, which runs under the emulator of Rattle's kit.
+//! Slow, and meant for trying and testing only.
+
+use crate::Lent;
+use std::io::{BufReader, BufWriter, Read, Write};
+use std::process::{ChildStdin, ChildStdout, Command, Stdio};
+use std::sync::{Mutex, OnceLock};
+
+/// What is asked.
+const WORK_WORDS: u64 = 0;
+const BUILD: u64 = 1;
+const READ: u64 = 2;
+
+/// The program that answers. It leaves when its standard input ends.
+struct Server {
+    to: BufWriter<ChildStdin>,
+    from: BufReader<ChildStdout>,
+}
+
+pub fn work_words(records: usize) -> usize {
+    let nothing = &mut Lent {
+        work: &mut [],
+        out: &mut [],
+        ids: &mut [],
+        map: &mut [],
+        log: &mut [],
+    };
+    ask(
+        [WORK_WORDS, records as u64, 0, 0],
+        &[],
+        nothing,
+        &mut [0; 16],
+    ) as usize
+}
+
+pub fn build(axes: u32, mode: u32, job: &[u8], lent: &mut Lent<'_>, report: &mut [u64; 16]) -> u32 {
+    ask([BUILD, axes.into(), mode.into(), 0], job, lent, report) as u32
+}
+
+pub fn read(store: &[u8], outer: u32, inner: u32, region: u32) -> u64 {
+    let nothing = &mut Lent {
+        work: &mut [],
+        out: &mut [],
+        ids: &mut [],
+        map: &mut [],
+        log: &mut [],
+    };
+    let what = [READ, outer.into(), inner.into(), region.into()];
+    ask(what, store, nothing, &mut [0; 16])
+}
+
+/// One question and its answer.
+fn ask(what: [u64; 4], job: &[u8], lent: &mut Lent<'_>, report: &mut [u64; 16]) -> u64 {
+    static SERVER: OnceLock<Mutex<Server>> = OnceLock::new();
+    let server = SERVER.get_or_init(|| Mutex::new(Server::start()));
+    let mut server = server.lock().expect("no call has failed before");
+    server
+        .ask(what, job, lent, report)
+        .expect("the library's program under the emulator answers")
+}
+
+impl Server {
+    fn start() -> Server {
+        let mut child = Command::new(env!("IVS_EMULATOR"))
+            .arg(env!("IVS_SERVER"))
+            .stdin(Stdio::piped())
+            .stdout(Stdio::piped())
+            .spawn()
+            .expect("the emulator of Rattle's kit can be run");
+        let pipes = child.stdin.take().zip(child.stdout.take());
+        let (to, from) = pipes.expect("both were asked for");
+        Server {
+            to: BufWriter::with_capacity(1 << 16, to),
+            from: BufReader::with_capacity(1 << 16, from),
+        }
+    }
+
+    fn ask(
+        &mut self,
+        what: [u64; 4],
+        job: &[u8],
+        lent: &mut Lent<'_>,
+        report: &mut [u64; 16],
+    ) -> std::io::Result<u64> {
+        let lengths = [
+            job.len(),
+            lent.work.len(),
+            lent.out.len(),
+            lent.ids.len(),
+            lent.map.len(),
+            lent.log.len(),
+        ];
+        let head = what.into_iter().chain(lengths.map(|length| length as u64));
+        for word in head {
+            self.to.write_all(&word.to_le_bytes())?;
+        }
+        self.to.write_all(job)?;
+        self.give_words(lent.work)?;
+        self.to.write_all(lent.out)?;
+        self.give_words(lent.ids)?;
+        self.give_words(lent.map)?;
+        self.give_words(lent.log)?;
+        for word in report.iter() {
+            self.to.write_all(&word.to_le_bytes())?;
+        }
+        self.to.flush()?;
+        let answer = self.take_word()?;
+        if what[0] == BUILD {
+            self.take_words(lent.work)?;
+            self.from.read_exact(lent.out)?;
+            self.take_words(lent.ids)?;
+            self.take_words(lent.map)?;
+            self.take_words(lent.log)?;
+            for word in report {
+                *word = self.take_word()?;
+            }
+        }
+        Ok(answer)
+    }
+
+    fn give_words(&mut self, words: &[u32]) -> std::io::Result<()> {
+        let bytes: Vec<u8> = words.iter().flat_map(|word| word.to_le_bytes()).collect();
+        self.to.write_all(&bytes)
+    }
+
+    fn take_words(&mut self, words: &mut [u32]) -> std::io::Result<()> {
+        let mut bytes = vec![0; 4 * words.len()];
+        self.from.read_exact(&mut bytes)?;
+        for (word, bytes) in words.iter_mut().zip(bytes.chunks_exact(4)) {
+            *word = u32::from_le_bytes([bytes[0], bytes[1], bytes[2], bytes[3]]);
+        }
+        Ok(())
+    }
+
+    fn take_word(&mut self) -> std::io::Result<u64> {
+        let mut bytes = [0; 8];
+        self.from.read_exact(&mut bytes)?;
+        Ok(u64::from_le_bytes(bytes))
+    }
+}

@@ -1,0 +1,173 @@
+//! The proved build and reader of item variation stores (`crates/`), for Rust.
+//!
+//! * [`pack`]: a job into a store, in memory of its own.
+//! * [`build_into`]: the same in lent memory; [`build_report`] with the bare report.
+//! * [`read`]: one value of a store, whatever its bytes are.
+//!
+//! No input makes a call go wrong: it is done exactly, or refused by number and place
+//! with nothing written. What was lent may hold anything before.
+
+#[cfg_attr(not(target_arch = "x86_64"), path = "emulated.rs")]
+mod raw;
+mod refusals;
+
+pub use refusals::Refused;
+
+use refusals::{OUT_SHORT, RECORD};
+
+/// The library runs under an emulator, since this machine is no x86-64: slow, so that
+/// tests take fewer jobs.
+pub const EMULATED: bool = cfg!(not(target_arch = "x86_64"));
+
+/// Memory lent to a build.
+pub struct Lent<'a> {
+    /// As many words as [`work_words`] says; all zeros after a call that was not refused
+    /// by 1 to 4.
+    pub work: &'a mut [u32],
+    /// The store's bytes.
+    pub out: &'a mut [u8],
+    /// The n-th word is the n-th set's id.
+    pub ids: &'a mut [u32],
+    /// For each id, outer x 65,536 + inner.
+    pub map: &'a mut [u32],
+    /// For each merge: first number, second number, gain.
+    pub log: &'a mut [u32],
+}
+
+/// The numbers of a done build. What was written: `store_bytes` of out, a word of ids
+/// for each set, `distinct_ids` words of map, 3 x `merges` words of log.
+#[derive(Clone, Copy, Debug, Default, PartialEq, Eq)]
+pub struct Done {
+    /// Bytes of the store.
+    pub store_bytes: u64,
+    /// Subtables in the store, a null one included.
+    pub subtables: u64,
+    /// Regions kept.
+    pub regions_kept: u64,
+    /// Distinct ids.
+    pub distinct_ids: u64,
+    /// N: the groups before merging; 0 in mode 1.
+    pub shapes: u64,
+    /// Merges.
+    pub merges: u64,
+    /// Pairs weighed.
+    pub pairs: u64,
+    /// Modelled size before merging.
+    pub size_before: u64,
+    /// Modelled size after merging.
+    pub size_after: u64,
+    /// The forecast of the store's bytes.
+    pub forecast: u64,
+}
+
+/// A store with everything that a build says of it.
+#[derive(Clone, Debug, PartialEq, Eq)]
+pub struct Packed {
+    /// The numbers.
+    pub done: Done,
+    /// The store.
+    pub store: Vec<u8>,
+    /// The id of each set.
+    pub ids: Vec<u32>,
+    /// For each id, outer x 65,536 + inner.
+    pub map: Vec<u32>,
+    /// For each merge: first number, second number, gain.
+    pub log: Vec<u32>,
+}
+
+/// What reading one value answers when it is not refused.
+#[derive(Clone, Copy, Debug, PartialEq, Eq)]
+pub enum Reading {
+    /// The row has a column for the region, with this value.
+    Written(i32),
+    /// The row has no column for the region, which means zero.
+    NoColumn,
+}
+
+/// The words of work that a job of so many records needs; 0 above the record limit.
+pub fn work_words(records: usize) -> usize {
+    raw::work_words(records)
+}
+
+/// One build in lent memory.
+pub fn build_into(axes: u32, mode: u32, job: &[u8], lent: &mut Lent<'_>) -> Result<Done, Refused> {
+    let mut report = [0; 16];
+    match build_report(axes, mode, job, lent, &mut report) {
+        0 => Ok(Done {
+            store_bytes: report[2],
+            subtables: report[3],
+            regions_kept: report[4],
+            distinct_ids: report[5],
+            shapes: report[6],
+            merges: report[7],
+            pairs: report[8],
+            size_before: report[9],
+            size_after: report[10],
+            forecast: report[11],
+        }),
+        number => Err(Refused {
+            number,
+            place: report[1],
+        }),
+    }
+}
+
+/// One build in lent memory, with the report as the library fills it (include/ivs.h).
+/// The answer is the refusal number, 0 for done.
+pub fn build_report(
+    axes: u32,
+    mode: u32,
+    job: &[u8],
+    lent: &mut Lent<'_>,
+    report: &mut [u64; 16],
+) -> u32 {
+    raw::build(axes, mode, job, lent, report)
+}
+
+/// One build in memory of its own.
+pub fn pack(axes: u32, mode: u32, job: &[u8]) -> Result<Packed, Refused> {
+    let records = job.len() / RECORD;
+    let sets = job.chunks_exact(RECORD).filter(|r| r[0] == 3).count();
+    let mut work = vec![0; work_words(records)];
+    let (mut ids, mut map) = (vec![0; sets], vec![0; sets]);
+    let mut log = vec![0; 3 * 1_023];
+    // Enough in mode 0: an axis takes 6 bytes, a value's column and row at most 12, a
+    // set's subtable at most 20. In mode 1 a set may take more than its own records do.
+    let mut out = vec![0; 64 + 20 * records];
+    loop {
+        let mut lent = Lent {
+            work: &mut work,
+            out: &mut out,
+            ids: &mut ids,
+            map: &mut map,
+            log: &mut log,
+        };
+        match build_into(axes, mode, job, &mut lent) {
+            Ok(done) => {
+                out.truncate(done.store_bytes as usize);
+                map.truncate(done.distinct_ids as usize);
+                log.truncate(3 * done.merges as usize);
+                return Ok(Packed {
+                    done,
+                    store: out,
+                    ids,
+                    map,
+                    log,
+                });
+            }
+            Err(refused) if refused.number == OUT_SHORT => out.resize(2 * out.len(), 0),
+            Err(refused) => return Err(refused),
+        }
+    }
+}
+
+/// The value of a region (by its number in the store's list) in row `inner` of subtable
+/// `outer`.
+pub fn read(store: &[u8], outer: u32, inner: u32, region: u32) -> Result<Reading, Refused> {
+    let word = raw::read(store, outer, inner, region);
+    match (word >> 32) as u32 {
+        0 => Ok(Reading::Written(word as u32 as i32)),
+        1 => Ok(Reading::NoColumn),
+        number => Err(Refused { number, place: 0 }),
+    }
+}

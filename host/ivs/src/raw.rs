@@ -1,0 +1,67 @@
+//! The calls of `libivs.a` (include/ivs.h), each with a safe face: the only file with
+//! `unsafe`.
+
+#![allow(unsafe_code)]
+
+use crate::Lent;
+
+extern "C" {
+    // crates/ivs/src/lib.rt; a slice is a pointer and a length.
+    fn ivs_work_words(records: usize) -> usize;
+
+    fn ivs_build(
+        axes: u32,
+        mode: u32,
+        job: *const u8,
+        job_len: usize,
+        work: *mut u32,
+        work_len: usize,
+        out: *mut u8,
+        out_len: usize,
+        ids: *mut u32,
+        ids_len: usize,
+        map: *mut u32,
+        map_len: usize,
+        log: *mut u32,
+        log_len: usize,
+        report: *mut u64,
+    ) -> u32;
+
+    fn ivs_read(store: *const u8, store_len: usize, outer: u32, inner: u32, region: u32) -> u64;
+}
+
+pub fn work_words(records: usize) -> usize {
+    // SAFETY: a number goes in and a number comes out; the contract asks for nothing.
+    unsafe { ivs_work_words(records) }
+}
+
+pub fn build(axes: u32, mode: u32, job: &[u8], lent: &mut Lent<'_>, report: &mut [u64; 16]) -> u32 {
+    // SAFETY: every pointer comes with the length of what it points to (16 for the
+    // report), is never null and is aligned, also where the length is 0, as pointers of
+    // slices are; the mutable ones overlap nothing, since they were borrowed so. The
+    // contract asks for nothing else.
+    unsafe {
+        ivs_build(
+            axes,
+            mode,
+            job.as_ptr(),
+            job.len(),
+            lent.work.as_mut_ptr(),
+            lent.work.len(),
+            lent.out.as_mut_ptr(),
+            lent.out.len(),
+            lent.ids.as_mut_ptr(),
+            lent.ids.len(),
+            lent.map.as_mut_ptr(),
+            lent.map.len(),
+            lent.log.as_mut_ptr(),
+            lent.log.len(),
+            report.as_mut_ptr(),
+        )
+    }
+}
+
+pub fn read(store: &[u8], outer: u32, inner: u32, region: u32) -> u64 {
+    // SAFETY: as for `build`; nothing is written.
+    unsafe { ivs_read(store.as_ptr(), store.len(), outer, inner, region) }
+}

@@ -1,0 +1,136 @@
+//! Refusals, in numbers and in words.
+
+use std::error::Error;
+use std::fmt;
+
+/// Bytes of a job's record.
+pub(crate) const RECORD: usize = 12;
+
+/// A call that was refused: nothing was written to what was lent, but for work.
+#[derive(Clone, Copy, Debug, PartialEq, Eq)]
+pub struct Refused {
+    /// The refusal number: 1 to 14 of a build, 20 to 22 of a reading.
+    pub number: u32,
+    /// The record's index from 0 for 5, 6, 7 and 9; the record count for 8; else 0.
+    pub place: u64,
+}
+
+/// OUT_SHORT, the one refusal that [`crate::pack`] answers itself.
+pub(crate) const OUT_SHORT: u32 = 14;
+
+impl Refused {
+    /// The refusal's name in document 01.
+    pub fn name(&self) -> &'static str {
+        self.words().0
+    }
+
+    /// Name, what happened, what to do.
+    fn words(&self) -> (&'static str, &'static str, &'static str) {
+        match self.number {
+            1 => (
+                "BAD_AXES",
+                "the axis count is 0 or above 64",
+                "give 1 to 64 axes",
+            ),
+            2 => (
+                "BAD_MODE",
+                "the mode is neither 0 nor 1",
+                "give 0 (deduplicating) or 1 (implicit indices)",
+            ),
+            3 => (
+                "BAD_JOB_LENGTH",
+                "the job is no whole number of records of 12 bytes, or has more than 1,048,576",
+                "look whether the job was cut off, or make it smaller",
+            ),
+            4 => (
+                "WORK_SHORT",
+                "the work lent is too small",
+                "lend as many words as work_words says",
+            ),
+            5 => (
+                "BAD_RECORD",
+                "the record has an unknown kind, a byte other than 0 where 0 is due, or stands \
+                 where it must not",
+                "look at its bytes, and at the order: all axes of region 0, of region 1 and so \
+                 on, then sets",
+            ),
+            6 => (
+                "UNKNOWN_REGION",
+                "the value names a region that has no axis records",
+                "add the region's axis records, or name another",
+            ),
+            7 => (
+                "REGION_TWICE",
+                "the value's region has the coordinates of an earlier one of its set",
+                "keep one value for each region in a set, zeros counted",
+            ),
+            8 => (
+                "UNFINISHED",
+                "the job ends inside a set or a region",
+                "add the end record or the axis records that are missing",
+            ),
+            9 => (
+                "SETS_FULL",
+                "mode 1 takes 65,535 sets, and this ends one more",
+                "use mode 0, or fewer sets",
+            ),
+            10 => (
+                "SHAPES_FULL",
+                "the sets have more than 1,024 shapes",
+                "use mode 1, or split the job",
+            ),
+            11 => (
+                "IDS_SHORT",
+                "the ids lent are too few",
+                "lend a word for each set",
+            ),
+            12 => (
+                "MAP_SHORT",
+                "the map lent is too small",
+                "lend a word for each different set (or each set)",
+            ),
+            13 => (
+                "LOG_SHORT",
+                "the log lent is too small",
+                "lend 3 words for each shape but one (3,069 always do)",
+            ),
+            OUT_SHORT => (
+                "OUT_SHORT",
+                "the output lent is too small for the store",
+                "lend more bytes",
+            ),
+            20 => (
+                "BAD_STORE",
+                "the bytes are no item variation store, or end too early",
+                "look whether the store was cut off or damaged",
+            ),
+            21 => (
+                "NO_ROW",
+                "the store has no such row",
+                "ask for an outer and inner number of the map",
+            ),
+            22 => (
+                "NO_REGION",
+                "the store's list has no such region",
+                "ask for a region below the list's count",
+            ),
+            _ => ("UNKNOWN", "the refusal is not known", "report it"),
+        }
+    }
+}
+
+impl fmt::Display for Refused {
+    fn fmt(&self, f: &mut fmt::Formatter<'_>) -> fmt::Result {
+        let (name, what, remedy) = self.words();
+        write!(f, "{} {name}", self.number)?;
+        let byte = RECORD as u64 * self.place;
+        match self.number {
+            5..=7 | 9 => write!(f, " at record {} (byte {byte})", self.place)?,
+            8 => write!(f, " after record {} (byte {byte})", self.place)?,
+            _ => {}
+        }
+        write!(f, ": {what}; {remedy}")
+    }
+}
+
+impl Error for Refused {}
