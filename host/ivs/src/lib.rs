@@ -1,5 +1,6 @@
 //! The proved build and reader of item variation stores (`crates/`), for Rust.
 //!
+//! * [`JobWriter`]: a job's bytes out of regions and sets.
 //! * [`pack`]: a job into a store, in memory of its own.
 //! * [`build_into`]: the same in lent memory; [`build_report`] with the bare report.
 //! * [`read`]: one value of a store, whatever its bytes are.
@@ -10,8 +11,10 @@
 #[cfg_attr(not(target_arch = "x86_64"), path = "emulated.rs")]
 mod raw;
 mod refusals;
+mod writer;
 
 pub use refusals::Refused;
+pub use writer::{JobError, JobWriter, Tent};
 
 use refusals::{OUT_SHORT, RECORD};
 
