@@ -1,0 +1,106 @@
+//! What can be said on the command line. The comments are the help's words.
+
+use clap::{Args, Parser, Subcommand, ValueEnum};
+use std::path::PathBuf;
+
+const AFTER: &str = "\
+A file '-' is standard input or standard output.
+Exit status: 0 done, 2 refused by number, 1 for anything else. Only a done command leaves files.";
+
+/// Packs OpenType item variation stores, exactly or not at all
+#[derive(Parser)]
+#[command(name = "fenikezo", version, after_help = AFTER)]
+pub struct Arguments {
+    #[command(subcommand)]
+    pub command: Command,
+}
+
+#[derive(Subcommand)]
+pub enum Command {
+    Build(Build),
+    Read(Read),
+    Show(Show),
+    Pack(Pack),
+}
+
+/// Builds the store of a job, and prints the numbers of the build
+#[derive(Args)]
+#[command(after_help = AFTER)]
+pub struct Build {
+    /// The job: records of 12 bytes
+    pub job: PathBuf,
+    /// The axis count that the job was written for, 1 to 64
+    #[arg(long, value_name = "N")]
+    pub axes: u32,
+    /// Equal sets share an id, or every set has its own row in its order
+    #[arg(long, value_enum, default_value = "dedup")]
+    pub mode: Mode,
+    /// Where to write the store
+    #[arg(short = 'o', long = "out", value_name = "STORE")]
+    pub store: Option<PathBuf>,
+    /// Where to write the ids: the id of each set, one a line
+    #[arg(long, value_name = "F")]
+    pub ids: Option<PathBuf>,
+    /// Where to write the map: outer x 65536 + inner of each id, one a line
+    #[arg(long, value_name = "F")]
+    pub map: Option<PathBuf>,
+    /// Where to write the merges: first number, second number and gain a line
+    #[arg(long, value_name = "F")]
+    pub log: Option<PathBuf>,
+    /// Print the numbers as JSON
+    #[arg(long)]
+    pub json: bool,
+}
+
+/// Document 01's modes.
+#[derive(Clone, Copy, ValueEnum)]
+pub enum Mode {
+    Dedup = 0,
+    Implicit = 1,
+}
+
+/// Reads one value of a store
+#[derive(Args)]
+#[command(after_help = AFTER)]
+pub struct Read {
+    /// The store
+    pub store: PathBuf,
+    /// The subtable's number
+    pub outer: u32,
+    /// The row's number in the subtable
+    pub inner: u32,
+    /// The region's number in the store's list
+    pub region: u32,
+}
+
+/// Shows a job or a store as tables
+#[derive(Args)]
+#[command(after_help = AFTER)]
+pub struct Show {
+    /// The job or the store
+    pub file: PathBuf,
+    /// The axis count of a job; a store has its own
+    #[arg(long, value_name = "N")]
+    pub axes: Option<u32>,
+    /// Show a job in the text form that `pack` reads
+    #[arg(long, requires = "axes")]
+    pub text: bool,
+}
+
+const TEXT: &str = "\
+The text, a line each, in which '#' starts a comment:
+  axes N                            first, and once
+  region NAME START PEAK END ..     a triple an axis, as in 0 0.5 1
+  set NAME=VALUE NAME=VALUE ..      none for the empty set
+Coordinates are taken to the nearest 1/16384 (F2Dot14).";
+
+/// Packs the text form of a job into the job's bytes
+#[derive(Args)]
+#[command(after_help = TEXT)]
+pub struct Pack {
+    /// The text
+    pub text: PathBuf,
+    /// Where to write the job
+    #[arg(short = 'o', long = "out", value_name = "JOB")]
+    pub job: PathBuf,
+}

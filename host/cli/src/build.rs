@@ -1,0 +1,99 @@
+//! `fenikezo build`.
+
+use crate::arguments::Build;
+use crate::failure::Failure;
+use crate::files;
+use std::fmt::Write;
+use std::path::Path;
+
+pub fn run(arguments: &Build) -> Result<(), Failure> {
+    let places = places(arguments)?;
+    let job = files::read(&arguments.job)?;
+    let packed = ivs::pack(arguments.axes, arguments.mode as u32, &job)
+        .map_err(|refused| Failure::refused(&arguments.job, refused))?;
+    let outputs: Vec<(&Path, Vec<u8>)> = places
+        .iter()
+        .map(|&(path, part)| (path, part(&packed)))
+        .collect();
+    files::write(&outputs)?;
+    let numbers = numbers(&packed.done);
+    let said = if arguments.json {
+        json(&numbers)
+    } else {
+        table(&numbers)
+    };
+    // Standard output may be taken by a store, which the numbers must not spoil.
+    if outputs.iter().any(|(path, _)| files::is_standard(path)) {
+        eprint!("{said}");
+        return Ok(());
+    }
+    files::print(&said)
+}
+
+type Part = fn(&ivs::Packed) -> Vec<u8>;
+
+/// Where each part goes. Two parts in one place would leave only the last of them.
+fn places(arguments: &Build) -> Result<Vec<(&Path, Part)>, Failure> {
+    let asked: [(&Option<_>, Part); 4] = [
+        (&arguments.store, |packed| packed.store.clone()),
+        (&arguments.ids, |packed| lines(&packed.ids, 1)),
+        (&arguments.map, |packed| lines(&packed.map, 1)),
+        (&arguments.log, |packed| lines(&packed.log, 3)),
+    ];
+    let mut places: Vec<(&Path, Part)> = Vec::new();
+    for (path, part) in asked {
+        let Some(path) = path.as_deref() else {
+            continue;
+        };
+        if places.iter().any(|&(other, _)| other == path) {
+            let words = format!("two outputs are to go to {}", path.display());
+            return Err(Failure::Other(words));
+        }
+        places.push((path, part));
+    }
+    Ok(places)
+}
+
+/// Words as text, so many a line.
+fn lines(words: &[u32], a_line: usize) -> Vec<u8> {
+    let mut text = String::new();
+    for line in words.chunks(a_line) {
+        let line: Vec<String> = line.iter().map(u32::to_string).collect();
+        text += &line.join(" ");
+        text.push('\n');
+    }
+    text.into_bytes()
+}
+
+/// The numbers of a build: words for the table, name for JSON, number.
+fn numbers(done: &ivs::Done) -> [(&'static str, &'static str, u64); 10] {
+    [
+        ("bytes", "bytes", done.store_bytes),
+        ("subtables", "subtables", done.subtables),
+        ("regions", "regions", done.regions_kept),
+        ("ids", "ids", done.distinct_ids),
+        ("shapes", "shapes", done.shapes),
+        ("merges", "merges", done.merges),
+        ("pairs weighed", "pairs", done.pairs),
+        ("size before", "size_before", done.size_before),
+        ("size after", "size_after", done.size_after),
+        ("forecast", "forecast", done.forecast),
+    ]
+}
+
+fn table(numbers: &[(&str, &str, u64)]) -> String {
+    let mut text = String::new();
+    for (words, _, number) in numbers {
+        // Writing to a string cannot fail.
+        let _ = writeln!(text, "{words:<13} {number:>10}");
+    }
+    text
+}
+
+fn json(numbers: &[(&str, &str, u64)]) -> String {
+    let fields: Vec<String> = numbers
+        .iter()
+        .map(|(_, name, number)| format!("\"{name}\": {number}"))
+        .collect();
+    format!("{{{}}}\n", fields.join(", "))
+}

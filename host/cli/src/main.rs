@@ -1,0 +1,49 @@
+//! `fenikezo`: jobs and stores from a shell. The work is done by the proved library behind
+//! the crate `ivs`; here are files, tables and words.
+
+mod arguments;
+mod build;
+mod f2dot14;
+mod failure;
+mod files;
+mod job;
+mod pack;
+mod read;
+mod show;
+mod show_job;
+mod show_store;
+mod store;
+mod text;
+
+use arguments::{Arguments, Command};
+use clap::Parser;
+use failure::Failure;
+use std::process::ExitCode;
+
+fn main() -> ExitCode {
+    let arguments = match Arguments::try_parse() {
+        Ok(arguments) => arguments,
+        Err(error) => {
+            // Clap's own status for bad usage is 2, which here means refused. Where even
+            // the message cannot be printed, the status still tells.
+            let _ = error.print();
+            return ExitCode::from(u8::from(error.use_stderr()));
+        }
+    };
+    match run(&arguments.command) {
+        Ok(()) => ExitCode::SUCCESS,
+        Err(failure) => {
+            eprintln!("fenikezo: {failure}");
+            failure.status()
+        }
+    }
+}
+
+fn run(command: &Command) -> Result<(), Failure> {
+    match command {
+        Command::Build(arguments) => build::run(arguments),
+        Command::Read(arguments) => read::run(arguments),
+        Command::Show(arguments) => show::run(arguments),
+        Command::Pack(arguments) => pack::run(arguments),
+    }
+}

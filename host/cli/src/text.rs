@@ -1,0 +1,167 @@
+//! The text form of jobs (`fenikezo pack --help` says it). A job has no names, so in the
+//! text of a job region 0 is `r0`, and so on.
+
+use crate::f2dot14;
+use crate::job::Job;
+use ivs::{JobWriter, Tent};
+use std::collections::HashMap;
+use std::fmt::Write;
+
+/// What is wrong with a line.
+type Wrong = String;
+
+/// The job's bytes, or the line's number from 1 and what is wrong with it.
+pub fn parse(text: &str) -> Result<Vec<u8>, (usize, Wrong)> {
+    let mut parsing = Parsing::default();
+    let mut last = 0;
+    for (number, line) in (1..).zip(text.lines()) {
+        last = number;
+        parsing.line(line).map_err(|wrong| (number, wrong))?;
+    }
+    let writer = parsing.writer.ok_or((last, NO_AXES.to_string()))?;
+    Ok(writer.finish())
+}
+
+const NO_AXES: &str = "no axis count yet; begin with 'axes N'";
+
+#[derive(Default)]
+struct Parsing<'a> {
+    /// Once the axis count is known.
+    writer: Option<JobWriter>,
+    names: HashMap<&'a str, u8>,
+}
+
+impl<'a> Parsing<'a> {
+    fn line(&mut self, line: &'a str) -> Result<(), Wrong> {
+        let said = line.split('#').next().unwrap_or_default();
+        let words: Vec<&str> = said.split_whitespace().collect();
+        match words.as_slice() {
+            [] => Ok(()),
+            ["axes", count] => self.axes(count),
+            ["region", name, coordinates @ ..] => self.region(name, coordinates),
+            ["set", values @ ..] => self.set(values),
+            [word, ..] => Err(format!(
+                "'{word}' begins no line; write 'axes N', 'region NAME START PEAK END ..' or 'set NAME=VALUE ..'"
+            )),
+        }
+    }
+
+    fn axes(&mut self, count: &str) -> Result<(), Wrong> {
+        if self.writer.is_some() {
+            return Err("the axis count is said twice".to_string());
+        }
+        let axes = count.parse().ok().filter(|axes| (1..=64).contains(axes));
+        let axes = axes.ok_or_else(|| format!("'{count}' is no axis count; give 1 to 64"))?;
+        self.writer = Some(JobWriter::new(axes));
+        Ok(())
+    }
+
+    fn region(&mut self, name: &'a str, coordinates: &[&str]) -> Result<(), Wrong> {
+        let writer = self.writer.as_mut().ok_or(NO_AXES)?;
+        if name.contains('=') {
+            return Err(format!("'{name}' is no name; leave out '='"));
+        }
+        if self.names.contains_key(name) {
+            return Err(format!("the region '{name}' is there already"));
+        }
+        let number = writer
+            .region(&tents(coordinates)?)
+            .map_err(|error| error.to_string())?;
+        self.names.insert(name, number);
+        Ok(())
+    }
+
+    fn set(&mut self, words: &[&str]) -> Result<(), Wrong> {
+        let writer = self.writer.as_mut().ok_or(NO_AXES)?;
+        let mut values = Vec::new();
+        for word in words {
+            let (name, value) = word
+                .split_once('=')
+                .ok_or_else(|| format!("'{word}' is no NAME=VALUE"))?;
+            let region = self
+                .names
+                .get(name)
+                .ok_or_else(|| format!("no region '{name}' before this line"))?;
+            let value = value
+                .parse()
+                .map_err(|_| format!("'{value}' is no whole number of 32 bits"))?;
+            values.push((*region, value));
+        }
+        writer.set(&values).map_err(|error| error.to_string())
+    }
+}
+
+fn tents(coordinates: &[&str]) -> Result<Vec<Tent>, Wrong> {
+    let numbers = coordinates
+        .iter()
+        .map(|word| {
+            f2dot14::parse(word)
+                .ok_or_else(|| format!("'{word}' is no coordinate from -2 to 1.99994"))
+        })
+        .collect::<Result<Vec<i16>, Wrong>>()?;
+    if numbers.len() % 3 != 0 {
+        return Err("coordinates come in threes: start, peak, end of each axis".to_string());
+    }
+    Ok(numbers.chunks(3).map(|c| (c[0], c[1], c[2])).collect())
+}
+
+/// The text of a job.
+pub fn text(job: &Job) -> String {
+    let mut text = format!("axes {}\n", job.axes);
+    // Writing to a string cannot fail.
+    for (number, region) in job.regions.iter().enumerate() {
+        let _ = write!(text, "region r{number}");
+        for &(start, peak, end) in region {
+            for raw in [start, peak, end] {
+                let _ = write!(text, " {}", f2dot14::text(raw));
+            }
+        }
+        text.push('\n');
+    }
+    for set in &job.sets {
+        let _ = writeln!(text, "set{}", values(set));
+    }
+    text
+}
+
+/// The values of a set as ` r0=1 r2=-3`.
+pub fn values(set: &[(u8, i32)]) -> String {
+    let mut text = String::new();
+    for (region, value) in set {
+        let _ = write!(text, " r{region}={value}");
+    }
+    text
+}
+
+#[cfg(test)]
+mod tests {
+    use super::*;
+
+    fn wrong(text: &str) -> (usize, String) {
+        parse(text).expect_err("it is wrong")
+    }
+
+    #[test]
+    fn layout_and_comments_do_not_count() {
+        let plain = parse("axes 1\nregion a 0 1 1\nset a=1\nset\n").unwrap();
+        let dressed = "# job\n\n axes  1 # one\nregion b 0.0 1.0 1 # bold\n\tset   b=1\nset #none";
+        assert_eq!(parse(dressed).unwrap(), plain);
+        assert_eq!(plain.len(), 4 * 12);
+    }
+
+    #[test]
+    fn the_line_and_what_is_wrong() {
+        assert_eq!(wrong("").0, 0);
+        assert_eq!(wrong("region a 0 1 1").0, 1);
+        assert_eq!(wrong("axes 65").0, 1);
+        assert_eq!(wrong("axes 1\naxes 1").0, 2);
+        assert_eq!(wrong("axes 1\nregion a 0 1").0, 2);
+        assert_eq!(wrong("axes 1\nregion a 0 1 2").0, 2);
+        assert_eq!(wrong("axes 1\nregion a 0 1 1 0 1 1").0, 2);
+        assert_eq!(wrong("axes 1\nset a=1").0, 2);
+        let twice = "axes 1\nregion a 0 1 1\nregion b 0 1 1\nset a=0 b=1";
+        assert_eq!(wrong(twice).0, 4);
+        assert_eq!(wrong("axes 1\nregion a 0 1 1\nset a=2147483648").0, 3);
+        assert_eq!(wrong("axes 1\nsets").0, 2);
+    }
+}
