@@ -5,7 +5,7 @@ use std::path::PathBuf;
 
 const AFTER: &str = "\
 A file '-' is standard input or standard output.
-Exit status: 0 done, 2 refused by number, 1 for anything else. Only a done command leaves files.";
+Exit status: 0 done, 2 refused by number, 1 for anything else. No file is left half written.";
 
 /// Packs OpenType item variation stores, exactly or not at all
 #[derive(Parser)]

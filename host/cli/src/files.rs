@@ -20,8 +20,8 @@ pub fn is_standard(path: &Path) -> bool {
     path == Path::new("-")
 }
 
-/// Writes all of them, or leaves every file as it was: each is written beside its place
-/// first, and put there when all have been.
+/// Writes all of them: each is written beside its place first, and put there when all have
+/// been. So no file is ever half written, and what cannot be written keeps back the others.
 pub fn write(outputs: &[(&Path, Vec<u8>)]) -> Result<(), Failure> {
     let mut staged = Vec::new();
     for (path, bytes) in outputs {
@@ -52,7 +52,7 @@ enum Staged {
     /// Standard output.
     Standard,
     /// A device or a pipe, which must not be replaced by a file.
-    Straight(PathBuf),
+    Straight(File),
     /// Written beside the place.
     Beside { part: PathBuf, place: PathBuf },
 }
@@ -66,7 +66,7 @@ impl Staged {
         let place = fs::canonicalize(path).unwrap_or_else(|_| path.to_path_buf());
         let before = fs::metadata(&place).ok();
         if before.as_ref().is_some_and(|before| !before.is_file()) {
-            return Ok(Staged::Straight(place));
+            return Ok(Staged::Straight(File::options().write(true).open(place)?));
         }
         let mut name = std::ffi::OsString::from(".");
         name.push(place.file_name().ok_or(io::ErrorKind::InvalidInput)?);
@@ -89,7 +89,7 @@ impl Staged {
                 out.write_all(bytes)?;
                 out.flush()
             }
-            Staged::Straight(place) => File::options().write(true).open(place)?.write_all(bytes),
+            Staged::Straight(file) => (&*file).write_all(bytes),
             Staged::Beside { part, place } => fs::rename(part, place),
         }
     }

@@ -125,6 +125,8 @@ fn anything_else_is_1_and_leaves_no_file() {
     failed(&folder, "build job -o store", 1);
     failed(&folder, "build job --axes 1 -o store --ids no/ids", 1);
     failed(&folder, "build job --axes 1 -o store --ids store", 1);
+    failed(&folder, "build job --axes 1 -o store --ids ./store", 1);
+    failed(&folder, "build job --axes 1 -o store --ids .", 1);
     failed(&folder, "show job", 1);
     let said = failed(&folder, "pack text -o packed", 1);
     assert!(
