@@ -149,6 +149,17 @@ mod tests {
         assert_eq!(plain.len(), 4 * 12);
     }
 
+    /// Few, since each is looked at by the library, which may be emulated.
+    #[test]
+    fn the_text_of_a_job_is_that_job() {
+        for seed in 0..32 {
+            let job = jobs::random::job(seed);
+            let bytes = job.to_bytes();
+            let decoded = Job::decode(job.axes as u32, &bytes).unwrap();
+            assert_eq!(parse(&text(&decoded)), Ok(bytes), "{seed}");
+        }
+    }
+
     #[test]
     fn the_line_and_what_is_wrong() {
         assert_eq!(wrong("").0, 0);
