@@ -19,19 +19,7 @@ struct Server {
 }
 
 pub fn work_words(records: usize) -> usize {
-    let nothing = &mut Lent {
-        work: &mut [],
-        out: &mut [],
-        ids: &mut [],
-        map: &mut [],
-        log: &mut [],
-    };
-    ask(
-        [WORK_WORDS, records as u64, 0, 0],
-        &[],
-        nothing,
-        &mut [0; 16],
-    ) as usize
+    ask_alone([WORK_WORDS, records as u64, 0, 0], &[]) as usize
 }
 
 pub fn build(axes: u32, mode: u32, job: &[u8], lent: &mut Lent<'_>, report: &mut [u64; 16]) -> u32 {
@@ -39,6 +27,11 @@ pub fn build(axes: u32, mode: u32, job: &[u8], lent: &mut Lent<'_>, report: &mut
 }
 
 pub fn read(store: &[u8], outer: u32, inner: u32, region: u32) -> u64 {
+    ask_alone([READ, outer.into(), inner.into(), region.into()], store)
+}
+
+/// Asks with nothing lent.
+fn ask_alone(what: [u64; 4], bytes: &[u8]) -> u64 {
     let nothing = &mut Lent {
         work: &mut [],
         out: &mut [],
@@ -46,8 +39,7 @@ pub fn read(store: &[u8], outer: u32, inner: u32, region: u32) -> u64 {
         map: &mut [],
         log: &mut [],
     };
-    let what = [READ, outer.into(), inner.into(), region.into()];
-    ask(what, store, nothing, &mut [0; 16])
+    ask(what, bytes, nothing, &mut [0; 16])
 }
 
 /// One question and its answer.
