@@ -24,6 +24,7 @@ use Rattle.laws.proofs.BoundedLaws.{tabulate-snoc}
 use Rattle.laws.proofs.SignedLaws.{value-below, value-above}
 use Rattle.laws.proofs.SortLaws.{keep-append, keep-yes, keep-not}
 use Rattle.laws.proofs.SortMap as sort
+use Rattle.laws.proofs.UpLaws.{up-all}
 use Rattle.shapes.proofs.WidthLaws.{cost-none}
 use Rattle.sets.specs.Set.{Set, wordOf}
 use Rattle.reader.specs.declared.reader.Reading.the-variants.{Written, NoColumn}
@@ -35,7 +36,6 @@ use Rattle.rows.proofs.MapLaws.{map-at}
 use Rattle.rows.proofs.StoreBack.{Sound, index-less, store-none, store-value, store-back}
 use Rattle.encoder.specs.Packed.{Packed}
 use Rattle.build.specs.Late.{storeFor}
-use Rattle.build.proofs.ManyLaws.{up-below}
 use Rattle.build.proofs.PackedLaws.{Good, word-same}
 use Rattle.build.proofs.RunSound.{Spot, runs-sound, id-spot, ids-once}
 
@@ -140,7 +140,7 @@ coords-long axes coords gs h =
     let kept = keptOf (length coords) gs in
     join-long (λ r. getD coords r []) (6 * axes) kept
     (all-imp (λ r b. all-getD (λ (c : List ℕ). length c ≡ 6 * axes) coords r [] h b) kept
-    (sort.keep-all (λ r. names r gs) (λ r. r < length coords) (upTo (length coords)) (up-below (length coords))))
+    (sort.keep-all (λ r. names r gs) (λ r. r < length coords) (upTo (length coords)) (up-all (length coords))))
     ∙ mul-comm (length kept) (6 * axes)
 
 -- ---- the word of zero

@@ -13,6 +13,7 @@ use Rattle.laws.specs.Bounded.{upTo}
 use Rattle.laws.proofs.BytesLaws.{bytes-length}
 use Rattle.laws.proofs.EveryLaws.{all-imp, all-getD}
 use Rattle.laws.proofs.SortMap as sort
+use Rattle.laws.proofs.UpLaws.{up-all}
 use Rattle.sets.specs.Set.{Set}
 use Rattle.reader.specs.Store.{listAt, axisCount, regionCount, headerOk}
 use Rattle.rows.specs.Placing.{Final, joinAll, allRuns, names, keptOf, newIndex, subtableOf, listOf, storeOf}
@@ -20,7 +21,6 @@ use Rattle.rows.proofs.RegionLaws.{kept-most}
 use Rattle.rows.proofs.StoreBack.{list-is, from-list, axis-count, regions-are, header-good}
 use Rattle.encoder.specs.Packed.{Packed}
 use Rattle.build.specs.Late.{storeFor}
-use Rattle.build.proofs.ManyLaws.{up-below}
 use Rattle.build.proofs.Demand2.{coords-long}
 
 pub record ListBack (axes regions : ℕ) (coords : List (List ℕ)) (k : Packed) : Type 0 where
@@ -122,7 +122,7 @@ module _ (axes regions : ℕ) (coords : List (List ℕ)) (k : Packed) (coords-ar
       ap (take (6 * axes)) (body-at q)
       ∙ piece-at (λ r. getD coords r []) (6 * axes) kept (joinAll tables) q
       (all-imp (λ r b. all-getD (λ (c : List ℕ). length c ≡ 6 * axes) coords r [] coords-whole b) kept
-      (sort.keep-all (λ r. names r gs) (λ r. r < length coords) (upTo (length coords)) (up-below (length coords))))
+      (sort.keep-all (λ r. names r gs) (λ r. r < length coords) (upTo (length coords)) (up-all (length coords))))
       h
 
   -- THE LAW

@@ -2,38 +2,28 @@
 use mathlib.Core.Path.{_≡_, sym, ap, subst, _∙_}
 use mathlib.Core.Bool.{Bool, true}
 use mathlib.Core.Logic.{_⊎_, ⊎-elim}
-use mathlib.Core.List.{List, [], _∷_, _++_, map, List·Memᴰ, List·Memᴰ·head, List·Memᴰ·tail, List·Memᴰ·cases-cons, List·Memᴰ·not-nil}
+use mathlib.Core.List.{List, [], _∷_, _++_, map, Memᴰ·append-left, Memᴰ·append-right, List·Memᴰ, List·Memᴰ·head, List·Memᴰ·tail, List·Memᴰ·cases-cons, List·Memᴰ·not-nil}
 use Prim.Native.Nat.{ℕ, _<_}
 use native.Mathlib.Omega.{arith}
-use lib.ListN.{length, getD}
 use Rattle.laws.specs.Every.{All, EachTwo}
 use Rattle.laws.specs.Bounded.{upTo}
 use Rattle.laws.specs.Sorting.{keep}
 use Rattle.laws.proofs.Cases.{Which, which, true-false}
 use Rattle.laws.proofs.Cases.Which.{holds, fails}
-use Rattle.laws.proofs.EveryLaws.{all-append, all-imp, all-intro}
-use Rattle.laws.proofs.BoundedLaws.{length-tabulate, getD-tabulate}
+use Rattle.laws.proofs.EveryLaws.{all-append, all-imp}
 use Rattle.laws.proofs.SortMap.{keep-in, keep-out}
-use Rattle.laws.proofs.Pigeon.{two-intro}
+use Rattle.laws.proofs.UpLaws.{up-long, up-at}
 use Rattle.encoder.proofs.NumberLaws.{at-mem}
 use Rattle.rows.specs.Placing.{joinAll}
 
 module _ {A : Type 0} where
-  mem-left : (x : A) (l m : List A) → List·Memᴰ x l → List·Memᴰ x (l ++ m)
-  mem-left x [] m h = absurd (List·Memᴰ·not-nil h)
-  mem-left x (y ∷ l) m h = ⊎-elim (λ e. List·Memᴰ·head e) (λ t. List·Memᴰ·tail (mem-left x l m t)) (List·Memᴰ·cases-cons h)
-
-  mem-right : (x : A) (l m : List A) → List·Memᴰ x m → List·Memᴰ x (l ++ m)
-  mem-right x [] m h = h
-  mem-right x (y ∷ l) m h = List·Memᴰ·tail (mem-right x l m h)
-
   -- what is in one of the lists is in all of them together
   pub mem-join : (x : A) (ls : List (List A)) (l : List A) → List·Memᴰ l ls → List·Memᴰ x l → List·Memᴰ x (joinAll ls)
   unfolding joinAll
   mem-join x [] l m h = absurd (List·Memᴰ·not-nil m)
   mem-join x (k ∷ ls) l m h = ⊎-elim
-      (λ e. mem-left x k (joinAll ls) (subst (λ (z : List A). List·Memᴰ x z) e h))
-      (λ t. mem-right x k (joinAll ls) (mem-join x ls l t h))
+      (λ e. Memᴰ·append-left (joinAll ls) (subst (λ (z : List A). List·Memᴰ x z) e h))
+      (λ t. Memᴰ·append-right k (mem-join x ls l t h))
       (List·Memᴰ·cases-cons m)
 
   pub mem-keep : (p : A → Bool) (x : A) (l : List A) → List·Memᴰ x l → p x ≡ true → List·Memᴰ x (keep p l)
@@ -72,24 +62,6 @@ pub mem-map : {A B : Type 0} (f : A → B) (x : A) (l : List A) → List·Memᴰ
 mem-map f x [] m = absurd (List·Memᴰ·not-nil m)
 mem-map f x (y ∷ l) m = ⊎-elim (λ e. List·Memᴰ·head (ap f e)) (λ t. List·Memᴰ·tail (mem-map f x l t)) (List·Memᴰ·cases-cons m)
 
--- ---- 0 up to n
-
-up-at : (n i : ℕ) → i < n → getD (upTo n) i 0 ≡ i
-up-at n i h = getD-tabulate 0 n (λ k. k) 0 i h ∙ omega arith
-
-up-long : (n : ℕ) → length (upTo n) ≡ n
-up-long n = length-tabulate 0 n (λ k. k)
-
-pub up-below : (n : ℕ) → All (λ x. x < n) (upTo n)
-up-below n = all-intro (λ x. x < n) (upTo n) 0 (λ i h. let b : i < n = omega (arith, up-long n) in rw (up-at n i b) b)
-
+-- each number below n is among 0 up to n
 pub up-has : (n x : ℕ) → x < n → List·Memᴰ x (upTo n)
 up-has n x h = subst (λ (z : ℕ). List·Memᴰ z (upTo n)) (up-at n x h) (at-mem (upTo n) 0 x (omega (arith, up-long n)))
-
-pub up-differ : (n : ℕ) → EachTwo (λ x y. x ≡ y → ⊥) (upTo n)
-up-differ n = two-intro (λ x y. x ≡ y → ⊥) (upTo n) 0
-    (λ i j h k e.
-    let b : j < n = omega (arith, up-long n) in
-    let a : i < n = omega arith in
-    let z : i ≡ j = sym (up-at n i a) ∙ e ∙ up-at n j b in
-    omega arith)

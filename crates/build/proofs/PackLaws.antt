@@ -14,7 +14,8 @@ use Rattle.laws.specs.Bounded.{tabulate, upTo}
 use Rattle.laws.specs.Range.{Only, seg}
 use Rattle.laws.proofs.Cases.{same-or-not}
 use Rattle.laws.proofs.EveryLaws.{all-getD}
-use Rattle.laws.proofs.BoundedLaws.{tabulate-same, getD-tabulate}
+use Rattle.laws.proofs.BoundedLaws.{tabulate-same}
+use Rattle.laws.proofs.UpLaws.{up-at}
 use Rattle.laws.proofs.RangeLaws.{getD-seg}
 use Rattle.shapes.specs.Group.{Group}
 use Rattle.sets.specs.Set.{Set}
@@ -61,7 +62,7 @@ shared-ids n all x h = all-getD (λ (y : ℕ). y < length (distinct all)) (share
 
 own-ids : (n : ℕ) (all : List Set) (x : ℕ) → x < length all → getD (own n all .ids) x 0 < length (own n all .sets)
 unfolding own
-own-ids n all x h = let e = getD-tabulate 0 (length all) (λ k. k) 0 x h in omega arith
+own-ids n all x h = omega (arith, up-at (length all) x h)
 
 own-merges : (n : ℕ) (all : List Set) → length (own n all .log) ≤ own n all .groups - 1
 unfolding own

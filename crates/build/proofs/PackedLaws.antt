@@ -21,6 +21,7 @@ use Rattle.laws.proofs.BoundedLaws.{getD-tabulate}
 use Rattle.laws.proofs.SortLaws.{sorted-all}
 use Rattle.laws.proofs.SortMap.{keep-all, keep-two, keep-passes, length-sorted}
 use Rattle.laws.proofs.Pigeon.{few-below}
+use Rattle.laws.proofs.UpLaws.{up-all, up-differ}
 use Rattle.shapes.specs.declared.width.ColumnBits.{ColumnBits}
 use Rattle.shapes.specs.declared.width.ColumnBits.the-variants.{None, One, Two, Four}
 use Rattle.shapes.specs.Width.{widthOf, costOf}
@@ -43,7 +44,7 @@ use Rattle.rows.specs.Placing.{Final, joinAll}
 use Rattle.encoder.specs.Packed.{Packed, noLater, dense, numberOf, belongs, finalOf, isAhead, finalsOf, shared, own}
 use Rattle.encoder.proofs.NumberLaws.{number-at, among-mem, among, mem-sorted}
 use Rattle.encoder.proofs.LivingLaws.{sorted-each, two-map}
-use Rattle.build.proofs.ManyLaws.{mem-join, all-join, mem-keep, mem-map, two-join, Cross, up-below, up-has, up-differ}
+use Rattle.build.proofs.ManyLaws.{mem-join, all-join, mem-keep, mem-map, two-join, Cross, up-has}
 
 -- the ids of all rows, group after group
 abbrev pub rowIds : List Final → List ℕ
@@ -289,7 +290,7 @@ module _ (regions : ℕ) (jobs : List Set) (proper : All (Proper regions) jobs) 
 
   dense-below : All (λ x. x < length sets) (dense sets)
   unfolding dense
-  dense-below = sorted-all (noLater sets) (λ x. x < length sets) (upTo (length sets)) (up-below (length sets))
+  dense-below = sorted-all (noLater sets) (λ x. x < length sets) (upTo (length sets)) (up-all (length sets))
 
   dense-has : (x : ℕ) → x < length sets → List·Memᴰ x (dense sets)
   unfolding dense
@@ -378,7 +379,7 @@ own-good regions jobs proper low =
           h,
           covers-of regions (getD jobs x []) (coverOf regions jobs) (all-getD (Proper regions) jobs x [] proper h) (all-getD (λ (s : Set). Words s) jobs x [] low h)
               (all-getD (λ (s : Set). (r : ℕ) → getD (shapeOf regions s) r 0 ≤ getD (coverOf regions jobs) r 0) jobs x [] (covers-each regions none jobs) h),
-        )) (upTo n) (up-below n),
+        )) (upTo n) (up-all n),
         tt,
       );
       each = λ x h. mem-join x (upTo n ∷ []) (upTo n) (List·Memᴰ·head refl) (up-has n x h);

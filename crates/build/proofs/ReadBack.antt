@@ -1,12 +1,12 @@
 -- Demand 2 of both modes, from the sets of a job on: the n-th set's id is an id, its set is the n-th set, and its row gives that back. Assumes nothing.
-use mathlib.Core.Path.{_≡_, ap, _∙_}
+use mathlib.Core.Path.{_≡_, ap}
 use mathlib.Core.List.{List, []}
 use Prim.Native.Nat.{ℕ, _*_, _≤_, _<_}
 use native.Mathlib.Omega.{arith}
 use lib.ListN.{length, getD}
 use Rattle.laws.specs.Every.{All}
 use Rattle.laws.specs.Bounded.{upTo}
-use Rattle.laws.proofs.BoundedLaws.{getD-tabulate}
+use Rattle.laws.proofs.UpLaws.{up-at}
 use Rattle.sets.specs.Set.{Set, Proper}
 use Rattle.sets.proofs.IdLaws.{id-at, id-below, distinct-most}
 use Rattle.groups.specs.Groups.{groupsOf}
@@ -48,7 +48,7 @@ module _ (axes regions : ℕ) (coords : List (List ℕ)) (jobs : List Set) (s : 
   own-ids : (n : ℕ) → n < length jobs → IdOf jobs (own regions jobs) n
   unfolding own
   own-ids n h =
-      let e : getD (upTo (length jobs)) n 0 ≡ n = getD-tabulate 0 (length jobs) (λ i. i) 0 n h ∙ omega arith in
+      let e : getD (upTo (length jobs)) n 0 ≡ n = up-at (length jobs) n h in
       record { below = omega arith; is = ap (λ (i : ℕ). getD jobs i []) e }
 
   shared-sets : length (shared regions jobs .sets) ≤ 1048576

@@ -2,17 +2,18 @@
 -- map names each id once. Assumes nothing.
 use mathlib.Core.Path.{_≡_, refl, sym, ap, ap₂, _∙_}
 use mathlib.Core.Bool.{Bool, true, false, not, _||_}
-use mathlib.Core.Logic.{_⊎_, inl, inr, ⊎-elim}
-use mathlib.Core.List.{List, [], _∷_, _++_, map, append-assoc, List·Memᴰ, List·Memᴰ·head, List·Memᴰ·tail, List·Memᴰ·cases-cons, List·Memᴰ·not-nil}
+use mathlib.Core.Logic.{⊎-elim}
+use mathlib.Core.List.{List, [], _∷_, _++_, map, append-assoc, List·Memᴰ, List·Memᴰ·append-cases, List·Memᴰ·not-nil}
 use Prim.Native.Nat.{ℕ, zero, suc, _+_, _*_, _≤_, _<_}
 use native.Mathlib.Omega.{arith}
 use lib.Dec.{eqb}
 use borrow.Author.Tests.{ne-eqb}
 use lib.ListN.{length, getD, take, drop, length-take}
-use lib.Seq.{drop-drop, take-all}
+use lib.Seq.{drop-drop, take-add, take-all}
 use Rattle.laws.specs.Every.{All, EachTwo}
 use Rattle.laws.specs.Bounded.{tabulate}
 use Rattle.laws.proofs.Cases.{lt-or-ge}
+use Rattle.laws.proofs.ListLaws.{map-append}
 use Rattle.laws.proofs.EveryLaws.{all-imp, all-append, all-getD, two-imp}
 use Rattle.shapes.specs.Shape.{Shape}
 use Rattle.shapes.specs.Group.{maxItems}
@@ -25,18 +26,6 @@ use Rattle.encoder.proofs.NumberLaws.{mem-at}
 use Rattle.build.proofs.PackedLaws.{rowIds, Good}
 
 -- ---- the rows of the runs are those of the groups
-
-abbrev nought : List ℕ
-nought = []
-
-take-none : (n : ℕ) → take n nought ≡ []
-take-none zero = refl
-take-none (suc n) = refl
-
-take-add : (a b : ℕ) (l : List ℕ) → take (a + b) l ≡ take a l ++ take b (drop a l)
-take-add zero b l = let e : 0 + b ≡ b = omega arith in rw e
-take-add (suc a) b [] = take-none (suc a + b) ∙ sym (take-none b)
-take-add (suc a) b (x ∷ l) = let e : suc a + b ≡ suc (a + b) = omega arith in rw e (ap (λ (m : List ℕ). x ∷ m) (take-add a b l))
 
 module _ (s : Shape) (l : List ℕ) where
   abbrev cut : ℕ → Final
@@ -87,13 +76,6 @@ pub record Spot (rs : List Final) (x : ℕ) : Type 0 where
   pub inner-below : inner < length (getD rs outer empty .ids)
   pub is : getD (getD rs outer empty .ids) inner 0 ≡ x
 
-mem-either : (x : ℕ) (l m : List ℕ) → List·Memᴰ x (l ++ m) → List·Memᴰ x l ⊎ List·Memᴰ x m
-mem-either x [] m h = inr h
-mem-either x (y ∷ l) m h = ⊎-elim
-    (λ (e : x ≡ y). inl (List·Memᴰ·head e))
-    (λ t. ⊎-elim (λ u. inl (List·Memᴰ·tail u)) (λ u. inr u) (mem-either x l m t))
-    (List·Memᴰ·cases-cons h)
-
 pub spot-of : (rs : List Final) (x : ℕ) → List·Memᴰ x (rowIds rs) → Spot rs x
 unfolding joinAll
 spot-of [] x m = absurd (List·Memᴰ·not-nil m)
@@ -104,7 +86,7 @@ spot-of (r ∷ rs) x m = ⊎-elim
     (λ t.
     let s = spot-of rs x t in
     record { outer = suc (s .outer); inner = s .inner; outer-below = omega (arith, s .outer-below); inner-below = s .inner-below; is = s .is })
-    (mem-either x (r .ids) (rowIds rs) m)
+    (List·Memᴰ·append-cases (r .ids) m)
 
 -- ---- the map names the rows' ids
 
@@ -112,10 +94,6 @@ run-ids : (outer inner : ℕ) (xs : List ℕ) → map (λ (e : ℕ × ℕ). e .0
 unfolding inRun
 run-ids outer inner [] = refl
 run-ids outer inner (x ∷ xs) = ap (λ (l : List ℕ). x ∷ l) (run-ids outer (suc inner) xs)
-
-map-append : (f : ℕ × ℕ → ℕ) (l m : List (ℕ × ℕ)) → map f (l ++ m) ≡ map f l ++ map f m
-map-append f [] m = refl
-map-append f (x ∷ l) m = ap (λ (k : List ℕ). f x ∷ k) (map-append f l m)
 
 words-ids : (outer : ℕ) (rs : List Final) → map (λ (e : ℕ × ℕ). e .0) (idWords outer rs) ≡ rowIds rs
 unfolding idWords joinAll

@@ -17,11 +17,11 @@ use Rattle.laws.specs.Every.{All}
 use Rattle.laws.specs.Bytes.{bytesOf}
 use Rattle.laws.specs.Bounded.{tabulate, upTo}
 use Rattle.laws.specs.Range.{seg}
-use Rattle.laws.specs.Sorting.{keep}
-use Rattle.laws.proofs.EveryLaws.{all-append}
+use Rattle.laws.proofs.EveryLaws.{all, all-append}
 use Rattle.laws.proofs.ListLaws.{map-append, getD-map-in}
 use Rattle.laws.proofs.BoundedLaws.{tabulate-same, tabulate-snoc, length-tabulate}
 use Rattle.laws.proofs.BagLaws.{weigh-append}
+use Rattle.laws.proofs.SortLaws.{keep-same}
 use Rattle.laws.proofs.Cases.{same-or-not}
 use Rattle.laws.proofs.Products.{product}
 use Rattle.laws.proofs.RangeLaws.{length-seg, getD-seg, only-seg, seg-all}
@@ -96,13 +96,8 @@ unfolding names relabel
 names-relabel r f [] = refl
 names-relabel r f (g ∷ gs) = ap (λ (b : Bool). not (eqb (getD (g .shape) r 0) 0) || b) (names-relabel r f gs)
 
-keep-same : (p q : ℕ → Bool) (l : List ℕ) → ((x : ℕ) → p x ≡ q x) → keep p l ≡ keep q l
-unfolding keep
-keep-same p q [] h = refl
-keep-same p q (x ∷ l) h = rw (h x, keep-same p q l h)
-
 pub kept-relabel : (n : ℕ) (f : ℕ → ℕ) (gs : List Final) → keptOf n (relabel f gs) ≡ keptOf n gs
-kept-relabel n f gs = keep-same (λ r. names r (relabel f gs)) (λ r. names r gs) (upTo n) (λ r. names-relabel r f gs)
+kept-relabel n f gs = keep-same (λ r. names r (relabel f gs)) (λ r. names r gs) (upTo n) (all (λ r. names-relabel r f gs) (upTo n))
 
 model-relabel : (f : ℕ → ℕ) (g : Final) → modelOf (labelled f g) ≡ modelOf g
 unfolding modelOf

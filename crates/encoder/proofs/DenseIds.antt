@@ -14,10 +14,11 @@ use Rattle.laws.specs.Bounded.{tabulate, upTo}
 use Rattle.laws.specs.Sorting.{sorted, keep}
 use Rattle.laws.proofs.Cases.{same-or-not}
 use Rattle.laws.proofs.ListLaws.{map-append}
-use Rattle.laws.proofs.EveryLaws.{all-imp, all-map, all-getD, all-intro}
-use Rattle.laws.proofs.BoundedLaws.{length-tabulate, getD-tabulate, tabulate-snoc}
+use Rattle.laws.proofs.EveryLaws.{all-imp, all-map, all-getD}
+use Rattle.laws.proofs.BoundedLaws.{tabulate-snoc}
 use Rattle.laws.proofs.SortLaws.{sorted-all, keep-append, keep-yes, keep-not, keep-same}
 use Rattle.laws.proofs.SortMap.{sorted-map, sorted-same, keep-map, keep-keep, keep-all, keep-sorted}
+use Rattle.laws.proofs.UpLaws.{up-all}
 use Rattle.sets.specs.Set.{Set, Ascending}
 use Rattle.sets.specs.Order.{order}
 use Rattle.sets.specs.Ids.{place, distinctFrom, distinct, sharedIds}
@@ -38,10 +39,6 @@ ids-length all = ap length (ids-place [] all) ∙ length-map all (λ s. place s 
 
 pub ids-below : (all : List Set) → All (λ x. x < length (distinct all)) (sharedIds all)
 ids-below all = rw (ids-place [] all) (all-map (λ x. x < length (distinct all)) (λ s. place s (distinct all)) all (distinct-has [] all))
-
-up-below : (n : ℕ) → All (λ x. x < n) (upTo n)
-up-below n = all-intro (λ x. x < n) (upTo n) 0
-    (λ i h. let long = length-tabulate 0 n (λ k. k) in let at = getD-tabulate 0 n (λ k. k) 0 i (omega arith) in omega arith)
 
 up-snoc : (n : ℕ) → upTo (n + 1) ≡ upTo n ++ (n ∷ [])
 up-snoc n = let e : 0 + n ≡ n = omega arith in tabulate-snoc 0 n (λ i. i) ∙ ap (λ (k : ℕ). upTo n ++ (k ∷ [])) e
@@ -119,9 +116,9 @@ module _ (all : List Set) where
     unfolding dense
     dealt q =
         let n = length all in
-        let low : All (λ x. x < n) (keep first (upTo n)) = keep-all first (λ x. x < n) (upTo n) (up-below n) in
+        let low : All (λ x. x < n) (keep first (upTo n)) = keep-all first (λ x. x < n) (upTo n) (up-all n) in
         ap (map idOf) (sym (keep-keep passes first (sorted (noLater all) (upTo n))))
-        ∙ ap (λ (l : List ℕ). map idOf (keep passes l)) (keep-sorted (λ x. x < n) (noLater all) late-trans late-total first (upTo n) (up-below n))
+        ∙ ap (λ (l : List ℕ). map idOf (keep passes l)) (keep-sorted (λ x. x < n) (noLater all) late-trans late-total first (upTo n) (up-all n))
         ∙ ap (λ (l : List ℕ). map idOf (keep passes l)) (sorted-same (λ x. x < n) (noLater all) late late-same (keep first (upTo n)) low)
         ∙ ap (map idOf) (keep-same passes (λ x. passesId (idOf x)) (sorted late (keep first (upTo n)))
         (all-imp (λ x h. sym (ap q (set-of-id all x h))) (sorted late (keep first (upTo n))) (sorted-all late (λ x. x < n) (keep first (upTo n)) low)))

@@ -14,8 +14,8 @@ use Rattle.laws.specs.Range.{Only, seg}
 use Rattle.laws.proofs.Cases.{lt-or-ge}
 use Rattle.laws.proofs.EveryLaws.{all-imp}
 use Rattle.laws.proofs.Products.{row-fits}
-use Rattle.laws.proofs.BoundedLaws.{getD-tabulate}
 use Rattle.laws.proofs.RangeLaws.{only-trans, only-set, only-weaken, only-widen, only-seg, seg-none, seg-ext}
+use Rattle.laws.proofs.UpLaws.{up-at, up-all}
 use Rattle.shapes.specs.Shape.{Shape, join}
 use Rattle.shapes.proofs.ShapeLaws.{join-length}
 use Rattle.shapes.specs.Group.{groupCost}
@@ -24,7 +24,6 @@ use Rattle.shapes.proofs.GroupLaws.{cost-measured}
 use Rattle.shapes.proofs.LentLaws.{narrow-small, narrow-join}
 use Rattle.sets.specs.Set.{Set}
 use Rattle.sets.specs.Lent.{setsIn, CountedUp}
-use Rattle.sets.proofs.FirstLaws.{up-all}
 use Rattle.sets.proofs.HeldLaws.{Kept, kept-only, kept-trans, held-kept, set-same, sets-same, sets-length, sets-at}
 use Rattle.groups.specs.Groups.{shapeOf}
 use Rattle.groups.specs.Cover.{coverFrom, coverOf, CoverFit, CoverAt}
@@ -117,9 +116,6 @@ one-cost regions l n e h = rw (ne-eqb (length l) 0 (λ z. omega arith), e)
 map-same : (f : ℕ → ℕ) (l : List ℕ) → All (λ x. f x ≡ x) l → map f l ≡ l
 map-same f [] h = refl
 map-same f (x ∷ l) h = ap₂ _∷_ (h .0) (map-same f l (h .1))
-
-up-at : (n x : ℕ) → x < n → getD (upTo n) x 0 ≡ x
-up-at n x h = getD-tabulate 0 n (λ k. k) 0 x h ∙ omega arith
 
 up-map : (n : ℕ) → map (λ x. getD (upTo n) x 0) (upTo n) ≡ upTo n
 up-map n = map-same (λ x. getD (upTo n) x 0) (upTo n) (all-imp (λ x h. up-at n x h) (upTo n) (up-all n))

@@ -9,10 +9,10 @@ use Rattle.laws.specs.Range.{Only, seg}
 use Rattle.laws.specs.Sorting.{sorted}
 use Rattle.laws.proofs.RangeLaws.{apart-part, only-trans, only-weaken, seg-ext}
 use Rattle.laws.proofs.SortMap.{sorted-same}
+use Rattle.laws.proofs.UpLaws.{up-all}
 use Rattle.sets.specs.Set.{Set}
 use Rattle.sets.specs.Ids.{place, sharedIds, distinct}
 use Rattle.sets.specs.Lent.{setOf, setsIn, atMost, Held, IdsFit, Identified}
-use Rattle.sets.proofs.FirstLaws.{up-all}
 use Rattle.sets.proofs.IdLaws.{distinct-most}
 use Rattle.sets.proofs.HeldLaws.{Kept, kept-only, kept-trans, set-same, sets-same, most-same, held-kept, sets-length}
 use Rattle.groups.specs.declared.grouping.Added.{Added}

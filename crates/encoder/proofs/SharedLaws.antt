@@ -22,12 +22,12 @@ use Rattle.laws.proofs.RangeLaws.{apart-part, only-trans, only-weaken, only-seg
 use Rattle.laws.proofs.SortLaws.{sorted-all, keep-same}
 use Rattle.laws.proofs.SortMap.{length-sorted, keep-all}
 use Rattle.laws.proofs.SortMap as mapping
+use Rattle.laws.proofs.UpLaws.{up-all}
 use Rattle.shapes.specs.Group.{Group}
 use Rattle.shapes.specs.Lent.{Narrow}
 use Rattle.sets.specs.Set.{Set, Ascending}
 use Rattle.sets.specs.Ids.{place, sharedIds, distinct}
 use Rattle.sets.specs.Lent.{setOf, setsIn, atMost, Held}
-use Rattle.sets.proofs.FirstLaws.{up-all}
 use Rattle.sets.proofs.IdLaws.{distinct-most}
 use Rattle.sets.proofs.HeldLaws.{Kept, kept-only, set-same, held-kept, sets-length, sets-at}
 use Rattle.groups.specs.Groups.{shapeOf, groupsOf}

@@ -13,7 +13,7 @@ use Rattle.laws.specs.Bytes.{over}
 use Rattle.laws.specs.Signed.{value, zeroWord}
 use Rattle.laws.proofs.Cases.{Which, which}
 use Rattle.laws.proofs.Cases.Which.{holds, fails}
-use Rattle.laws.proofs.BoundedLaws.{length-tabulate}
+use Rattle.laws.proofs.UpLaws.{up-long}
 use Rattle.sets.specs.Set.{Set, wordOf}
 use Rattle.groups.specs.Groups.{groupsOf, maxShapes}
 use Rattle.reader.specs.declared.reader.Reading.the-variants.{Written, NoColumn}
@@ -143,7 +143,7 @@ module _ (mode : ℕ) (s : Said) where
 
   own-long : (n : ℕ) (all : List Set) → length (own n all .ids) ≡ length all
   unfolding own
-  own-long n all = length-tabulate 0 (length all) (λ (k : ℕ). k)
+  own-long n all = up-long (length all)
 
   ids-long : length (packedOf mode s .ids) ≡ length (s .sets)
   unfolding packedOf

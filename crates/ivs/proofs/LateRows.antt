@@ -10,7 +10,7 @@ use lib.Dec.{eqb, leb}
 use borrow.Author.Tests.{leb-true, leb-false, le-leb, lt-leb, eq-eqb, ne-eqb}
 use Rattle.laws.specs.Pick.{pick}
 use Rattle.laws.proofs.Cases.{same-or-not}
-use Rattle.laws.proofs.BoundedLaws.{length-tabulate}
+use Rattle.laws.proofs.UpLaws.{up-long}
 use Rattle.groups.specs.Groups.{groupsOf}
 use Rattle.job.specs.Refusals.{firstFailed}
 use Rattle.job.specs.Job.{Said, outcome, fine}
@@ -45,7 +45,7 @@ ids-are : (mode : ℕ) (s : Said) → length (packedOf mode s .ids) ≡ endRecor
 unfolding packedOf shared own
 ids-are mode s =
     ⊎-elim (λ (e : mode ≡ 0). rw (eq-eqb mode 0 e) (ids-length (s .sets)))
-    (λ d. rw (ne-eqb mode 0 d) (length-tabulate 0 (length (s .sets)) (λ (k : ℕ). k)))
+    (λ d. rw (ne-eqb mode 0 d) (up-long (length (s .sets))))
     (same-or-not mode 0)
 
 -- ---- the five tests

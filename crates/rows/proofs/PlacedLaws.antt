@@ -15,11 +15,14 @@ use Rattle.laws.specs.Bytes.{bytesOf}
 use Rattle.laws.specs.Bounded.{tabulate, upTo}
 use Rattle.laws.specs.Range.{seg}
 use Rattle.laws.specs.Sorting.{keep}
-use Rattle.laws.proofs.EveryLaws.{all-imp}
+use Rattle.laws.proofs.EveryLaws.{all, all-imp}
+use Rattle.laws.proofs.ListLaws.{map-append}
 use Rattle.laws.proofs.BoundedLaws.{tabulate-same, length-tabulate, getD-tabulate}
+use Rattle.laws.proofs.SortLaws.{keep-same}
+use Rattle.laws.proofs.SortMap.{keep-all}
+use Rattle.laws.proofs.UpLaws.{up-all}
 use Rattle.laws.proofs.BytesLaws.{bytes-length}
-use Rattle.laws.proofs.Cases.{same-or-not, Which, which}
-use Rattle.laws.proofs.Cases.Which.{holds, fails}
+use Rattle.laws.proofs.Cases.{same-or-not}
 use Rattle.shapes.specs.Shape.{Shape}
 use Rattle.shapes.specs.Group.{maxItems}
 use Rattle.reader.specs.Store.{columnAt}
@@ -42,10 +45,6 @@ module _ {A B : Type 0} where
   unfolding tabulate
   map-tabulate g a zero f = refl
   map-tabulate g a (suc n) f = ap (λ (l : List B). g (f a) ∷ l) (map-tabulate g (suc a) n f)
-
-  map-append : (g : A → B) (l m : List A) → map g (l ++ m) ≡ map g l ++ map g m
-  map-append g [] m = refl
-  map-append g (x ∷ l) m = ap (λ (k : List B). g x ∷ k) (map-append g l m)
 
   map-join : (g : A → B) (ls : List (List A)) → map g (joinAll ls) ≡ joinAll (map (map g) ls)
   unfolding joinAll
@@ -163,35 +162,16 @@ module _ (number : ℕ → ℕ) (set : ℕ → Set) (f : ℕ → Final) (n : ℕ
 
 -- ---- the region list
 
-keep-same : (p q : ℕ → Bool) (l : List ℕ) → ((x : ℕ) → p x ≡ q x) → keep p l ≡ keep q l
-unfolding keep
-keep-same p q [] h = refl
-keep-same p q (x ∷ l) h = rw (h x, keep-same p q l h)
-
-keep-all : (p : ℕ → Bool) (P : ℕ → Type 0) (l : List ℕ) → All P l → All P (keep p l)
-unfolding keep
-keep-all p P [] h = tt
-keep-all p P (x ∷ l) h = go (which (p x)) (keep-all p P l (h .1))
-  where
-    go : Which (p x) → All P (keep p l) → All P (keep p (x ∷ l))
-    go (holds t) k = rw t (h .0, k)
-    go (fails t) k = rw t k
-
 map-same : {B : Type 0} (f g : ℕ → B) (l : List ℕ) → All (λ r. f r ≡ g r) l → map f l ≡ map g l
 map-same f g [] h = refl
 map-same f g (x ∷ l) h = ap₂ _∷_ (h .0) (map-same f g l (h .1))
-
-up-below : (a n : ℕ) → All (λ r. r < a + n) (tabulate a n (λ k. k))
-unfolding tabulate
-up-below a zero = tt
-up-below a (suc n) = (omega arith, all-imp (λ r h. omega arith) (tabulate (suc a) n (λ k. k)) (up-below (suc a) n))
 
 module _ (src : List ℕ) (axes : ℕ) (w : List ℕ) (starts regions : ℕ) (gs : List Final) (marks : List ℕ) (m : Marks gs marks) where
   kept-is : keptOf (length (coordsOf src axes w starts regions)) gs ≡ keep (markedIn marks) (upTo regions)
   unfolding coordsOf
   kept-is =
       ap (λ (n : ℕ). keep (λ r. names r gs) (upTo n)) (length-tabulate 0 regions (λ r. coordsAt src axes (getD w (starts + r) 0)))
-      ∙ keep-same (λ r. names r gs) (markedIn marks) (upTo regions) (λ r. sym (m .is r))
+      ∙ keep-same (λ r. names r gs) (markedIn marks) (upTo regions) (all (λ r. sym (m .is r)) (upTo regions))
 
   coord-at : (r : ℕ) → r < regions → getD (coordsOf src axes w starts regions) r [] ≡ coordsAt src axes (getD w (starts + r) 0)
   unfolding coordsOf
@@ -210,7 +190,7 @@ module _ (src : List ℕ) (axes : ℕ) (w : List ℕ) (starts regions : ℕ) (gs
       (ap (λ (l : List (List ℕ)). bytesOf 2 axes ++ (bytesOf 2 (length kept) ++ joinAll l))
       (map-same (λ r. getD coords r []) f kept
       (keep-all (markedIn marks) (λ r. getD coords r [] ≡ f r) (upTo regions)
-      (all-imp (λ r h. coord-at r (omega arith)) (upTo regions) (up-below 0 regions)))))
+      (all-imp (λ r h. coord-at r (omega arith)) (upTo regions) (up-all regions)))))
 
 -- ---- how long the list is
 
@@ -237,7 +217,7 @@ unfolding keptBytes
 kept-length src axes w starts regions p s =
     join-length (λ r. coordsAt src axes (getD w (starts + r) 0)) (6 * axes) (keep p (upTo regions))
     (keep-all p (λ r. length (coordsAt src axes (getD w (starts + r) 0)) ≡ 6 * axes) (upTo regions)
-    (all-imp (λ r h. coords-length src axes (getD w (starts + r) 0) (s r (omega arith))) (upTo regions) (up-below 0 regions)))
+    (all-imp (λ r h. coords-length src axes (getD w (starts + r) 0) (s r (omega arith))) (upTo regions) (up-all regions)))
     ∙ mul-comm (length (keep p (upTo regions))) (6 * axes)
 
 -- ---- the whole store
@@ -267,7 +247,7 @@ module _ (src : List ℕ) (axes starts : ℕ) (w : List ℕ) (regions groups cou
   number-is : (r : ℕ) → r < regions → numberIn numbers r ≡ newIndex (finalsAt regions groups count w) r
   number-is r h =
       plan .numbered .at r h
-      ∙ sym (ap length (keep-same (λ q. names q (finalsAt regions groups count w)) (markedIn marks) (upTo r) (λ q. sym (plan .marked .is q))))
+      ∙ sym (ap length (keep-same (λ q. names q (finalsAt regions groups count w)) (markedIn marks) (upTo r) (all (λ q. sym (plan .marked .is q)) (upTo r))))
 
   pub list-long : length list ≡ 4 + 6 * axes * kept
   list-long =

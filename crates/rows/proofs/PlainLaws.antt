@@ -9,7 +9,7 @@ use lib.ListN.{length}
 use lib.Seq.{take-all}
 use Rattle.laws.specs.Bytes.{bytesOf}
 use Rattle.laws.specs.Bounded.{tabulate, upTo}
-use Rattle.laws.proofs.BoundedLaws.{length-tabulate}
+use Rattle.laws.proofs.UpLaws.{up-long}
 use Rattle.laws.proofs.Cases.{lt-or-ge}
 use Rattle.shapes.specs.Shape.{Shape}
 use Rattle.shapes.specs.Group.{maxItems}
@@ -38,7 +38,7 @@ runs-one s xs h = rw (count-one (length xs) h) (ap (one s) (take-all maxItems xs
 -- one subtable, where there are no sets too
 pub plain-run : (s : Shape) (n : ℕ) → n ≤ maxItems → allRuns (plain s n) ≡ plain s n
 unfolding allRuns joinAll
-plain-run s n h = rw (runs-one s (upTo n) (omega (arith, length-tabulate 0 n (λ (k : ℕ). k))))
+plain-run s n h = rw (runs-one s (upTo n) (omega (arith, up-long n)))
 
 words-same : (a n : ℕ) → inRun 0 a (tabulate a n (λ k. k)) ≡ tabulate a n (λ x. (x, x))
 unfolding inRun tabulate

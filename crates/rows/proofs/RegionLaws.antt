@@ -14,7 +14,8 @@ use borrow.Author.Tests.{eq-eqb, ne-eqb}
 use Rattle.laws.specs.Pick.{pick}
 use Rattle.laws.specs.Bounded.{tabulate, upTo}
 use Rattle.laws.specs.Sorting.{keep}
-use Rattle.laws.proofs.BoundedLaws.{tabulate-snoc, length-tabulate}
+use Rattle.laws.proofs.BoundedLaws.{tabulate-snoc}
+use Rattle.laws.proofs.UpLaws.{up-long}
 use Rattle.laws.proofs.Cases.{Which, which, same-or-not, lt-or-ge}
 use Rattle.laws.proofs.Cases.Which.{holds, fails}
 use Rattle.shapes.specs.Shape.{Shape}
@@ -127,7 +128,7 @@ module _ (p : ℕ → Bool) where
   kept-out r e = rw (up-next r) (ap length (keep-snoc-out (upTo r) r e))
 
   pub kept-most : (r : ℕ) → length (keep p (upTo r)) ≤ r
-  kept-most r = omega (arith, keep-most (upTo r), length-tabulate 0 r (λ (k : ℕ). k))
+  kept-most r = omega (arith, keep-most (upTo r), up-long r)
 
 -- the first r regions are numbered
 pub record Numbering (marks : List ℕ) (regions : ℕ) (old numbers : List ℕ) (n r : ℕ) : Type 0 where

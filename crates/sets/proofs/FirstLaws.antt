@@ -19,10 +19,10 @@ use Rattle.laws.specs.Range.{seg}
 use Rattle.laws.specs.Sorting.{sorted, Sorts}
 use Rattle.laws.proofs.Cases.{Tri, tri, lt-or-ge}
 use Rattle.laws.proofs.Cases.Tri.{below, same, above}
-use Rattle.laws.proofs.EveryLaws.{all-getD, all-intro, two-getD}
+use Rattle.laws.proofs.EveryLaws.{all-getD, two-getD}
 use Rattle.laws.proofs.BagLaws.{bag-place, bag-length}
-use Rattle.laws.proofs.BoundedLaws.{length-tabulate, getD-tabulate}
 use Rattle.laws.proofs.SortLaws.{sorted-two, sorted-all, sorts}
+use Rattle.laws.proofs.UpLaws.{up-long, up-at, up-all}
 use Rattle.sets.specs.Set.{Set, Ascending, Proper}
 use Rattle.sets.specs.Order.{order}
 use Rattle.sets.specs.Ids.{place}
@@ -32,14 +32,7 @@ use Rattle.sets.proofs.SetLaws.{order-trans, order-total, order-both, o
 use Rattle.sets.proofs.IdLaws.{place-first, place-here}
 use Rattle.sets.proofs.HeldLaws.{sets-length, sets-at}
 
--- 0 up to n ascend, and are below n
-pub up-all : (n : ℕ) → All (λ x. x < n) (upTo n)
-up-all n = all-intro (λ x. x < n) (upTo n) 0
-    (λ i h.
-    let l = length-tabulate 0 n (λ k. k) in
-    let e = getD-tabulate 0 n (λ k. k) 0 i (omega arith) in
-    rw e (omega arith))
-
+-- 0 up to n ascend
 rising : (a n : ℕ) → All (λ x. a ≤ x) (tabulate a n (λ k. k))
 unfolding tabulate
 rising a zero = tt
@@ -79,7 +72,7 @@ module _ {w : List ℕ} {index n regions end : ℕ} (h : Held w index n regions 
   line-bag = sorts le (λ x. x < n) le-trans le-total (upTo n) (up-all n) .permuted
 
   pub line-length : length line ≡ n
-  line-length = bag-length line (upTo n) line-bag ∙ length-tabulate 0 n (λ k. k)
+  line-length = bag-length line (upTo n) line-bag ∙ up-long n
 
   pub line-at : (i : ℕ) → i < n → getD line i 0 < n
   line-at i l = all-getD (λ x. x < n) line i 0 line-below (omega (arith, line-length))
@@ -87,9 +80,8 @@ module _ {w : List ℕ} {index n regions end : ℕ} (h : Held w index n regions 
   -- every number stands in the line
   pub line-has : (j : ℕ) → j < n → (q : ℕ) × (q < n) × (getD line q 0 ≡ j)
   line-has j l =
-      let r = bag-place line (upTo n) line-bag j (omega (arith, length-tabulate 0 n (λ k. k))) in
-      let e = getD-tabulate 0 n (λ k. k) 0 j l in
-      (r .0, omega (arith, r .1, line-length), r .2 ∙ e ∙ omega arith)
+      let r = bag-place line (upTo n) line-bag j (omega (arith, up-long n)) in
+      (r .0, omega (arith, r .1, line-length), r .2 ∙ up-at n j l)
 
   -- equal sets are at most each other, and only they
   le-same : (x y : ℕ) → x < n → setOf index x w ≡ setOf index y w → le x y ≡ true

@@ -19,7 +19,7 @@ use Rattle.laws.specs.Sorting.{sorted}
 use Rattle.laws.proofs.Cases.{same-or-not, lt-or-ge, Which, which}
 use Rattle.laws.proofs.Cases.Which.{holds, fails}
 use Rattle.laws.proofs.ListLaws.{getD-map-in}
-use Rattle.laws.proofs.BoundedLaws.{length-tabulate, getD-tabulate}
+use Rattle.laws.proofs.UpLaws.{up-long, up-at}
 use Rattle.laws.proofs.RangeLaws.{outside-at, only-refl, only-trans, only-set, length-seg, getD-seg}
 use Rattle.sets.specs.Set.{Set}
 use Rattle.sets.specs.Order.{order}
@@ -55,11 +55,10 @@ module _ (at n : ℕ) (old : List ℕ) (room : at + n ≤ length old) where
     only = c .only;
     is =
         let l = length-seg at n new (omega (arith, c .only .long)) in
-        ext-getD 0 (seg at n new) (upTo n) (l ∙ sym (length-tabulate 0 n (λ k. k)))
+        ext-getD 0 (seg at n new) (upTo n) (l ∙ sym (up-long n))
         (λ k p.
         let m : k < n = omega arith in
-        let z : k ≡ 0 + k = omega arith in
-        getD-seg at n new k m ∙ c .done k (omega arith) ∙ z ∙ sym (getD-tabulate 0 n (λ j. j) 0 k m));
+        getD-seg at n new k m ∙ c .done k (omega arith) ∙ sym (up-at n k m));
   }
 
 -- ---- firsts

@@ -11,13 +11,13 @@ use Rattle.laws.specs.Range.{Apart, Outside, Only, seg}
 use Rattle.laws.specs.Sorting.{sorted}
 use Rattle.laws.proofs.RangeLaws.{only-trans, only-weaken, only-seg, getD-seg, seg-all}
 use Rattle.laws.proofs.SortLaws.{sorted-same, sorted-all}
+use Rattle.laws.proofs.UpLaws.{up-all}
 use Rattle.sets.specs.Set.{Set}
 use Rattle.sets.specs.Ids.{place, distinct, sharedIds}
 use Rattle.sets.specs.Lent.{setOf, Ready, SortedAt, Held, setsIn, atMost, CountedUp, IdsFit, Identified}
 use Rattle.sets.specs.Inner.{FirstsFit, FirstsAt, GivesIds}
 use Rattle.sets.proofs.IdLaws.{place-first}
 use Rattle.sets.proofs.HeldLaws.{Kept, kept-only, kept-trans, held-kept, held-ready, set-same, sets-same, most-same, sets-length, sets-at}
-use Rattle.sets.proofs.FirstLaws.{up-all}
 
 module _ {w₀ : List ℕ} {index n at first ids : ℕ} (r : IdsFit w₀ index n at first ids) {w₁ : List ℕ} (c : CountedUp at n w₀ w₁) where
   kept₁ : Kept (r .end) w₀ w₁
