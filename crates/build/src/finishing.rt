@@ -3,6 +3,7 @@ use crate::answers::Built;
 use crate::answers::Report;
 use encoder::Encoded;
 use encoder::Places;
+use encoder::log_words;
 use rows::Plan;
 use rows::draft;
 use rows::forecast;
@@ -52,17 +53,6 @@ fn copy_words(work: &[u32], from: usize, n: usize, to: &mut [u32])
     }
 }
 
-// The words of log that are asked for: three for each merge that so many groups can have. In mode 1 there are no groups, and no log.
-fn log_need(groups: usize) -> usize
-    requires { ⌜ groups ≤ 1024 ⌝ }
-    ensures { λ r. ⌜ r ≡ 3 * (groups - 1) ⌝ }
-{
-    if groups == 0 {
-        return 0;
-    }
-    3 * (groups - 1)
-}
-
 // The first of refusals 11 to 14 that applies, 0 where none does.
 fn short_no(
     p: Places,
@@ -82,7 +72,7 @@ fn short_no(
     if map < e.distinct {
         return 12;
     }
-    if log < log_need(e.groups) {
+    if log < log_words(e.groups) {
         return 13;
     }
     if out < bytes {

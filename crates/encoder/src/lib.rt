@@ -10,4 +10,5 @@ pub use encoded::Packing;
 pub use owning::own;
 pub use places::Places;
 pub use places::lay_out;
+pub use places::log_words;
 pub use sharing::share;

@@ -38,8 +38,8 @@ fn room_for(sets: usize) -> usize
     1024
 }
 
-// Three words for each merge that so many groups can have.
-fn log_words(groups: usize) -> usize
+// Three words for each merge that so many groups can have. Where there are no groups there is no log.
+pub fn log_words(groups: usize) -> usize
     requires { ⌜ groups ≤ 1024 ⌝ }
     ensures { λ r. ⌜ r ≡ 3 * (groups - 1) ⌝ }
 {

@@ -5,7 +5,7 @@ use Rattle.build.proofs.finishing.short_no.Statement.{statement}
 use Rattle.build.proofs.finishing.short_no.Tie as tie
 use Rattle.build.proofs.finishing.short_no.Reads as reads
 use Rattle.build.proofs.finishing.short_no.Lts as lts
-use Rattle.build.proofs.finishing.log_need.Reads as log-need-reads
+use Rattle.encoder.proofs.log_words.Reads as log-words-reads
 
 returns : tie.Need-returns
 returns c = let a = c .before .before .args in ids-short (a .p .sets) (a .e .distinct) (a .e .groups) (a .bytes) (a .out) (a .ids) (a .map) (a .log) (c .if1 .taken)
@@ -13,18 +13,18 @@ returns c = let a = c .before .before .args in ids-short (a .p .sets) (a .e .dis
 returns-2 : tie.Need-returns-2
 returns-2 c = let a = c .before .before .before .before .args in map-short (a .p .sets) (a .e .distinct) (a .e .groups) (a .bytes) (a .out) (a .ids) (a .map) (a .log) (λ h. omega (arith, c .before .before .if1)) (c .if2 .taken)
 
-log-need-requires : tie.Need-log-need-requires
-log-need-requires c κs = search needs
+log-words-requires : tie.Need-log-words-requires
+log-words-requires c κs = search needs
 
 returns-3 : tie.Need-returns-3
-returns-3 c = let a = c .before .before .before .before .before .before .args in log-short (a .p .sets) (a .e .distinct) (a .e .groups) (a .bytes) (a .out) (a .ids) (a .map) (a .log) (λ h. omega (arith, c .before .before .before .before .if1)) (λ h. omega (arith, c .before .before .if2)) (omega (arith, c .if3, c .before .log-need .ensures))
+returns-3 c = let a = c .before .before .before .before .before .before .args in log-short (a .p .sets) (a .e .distinct) (a .e .groups) (a .bytes) (a .out) (a .ids) (a .map) (a .log) (λ h. omega (arith, c .before .before .before .before .if1)) (λ h. omega (arith, c .before .before .if2)) (omega (arith, c .if3, c .before .log-words .ensures))
 
 returns-4 : tie.Need-returns-4
-returns-4 c = let a = c .before .before .before .before .before .before .before .args in out-short (a .p .sets) (a .e .distinct) (a .e .groups) (a .bytes) (a .out) (a .ids) (a .map) (a .log) (λ h. omega (arith, c .before .before .before .before .before .if1)) (λ h. omega (arith, c .before .before .before .if2)) (omega (arith, c .before .if3, c .before .before .log-need .ensures)) (c .if4 .taken)
+returns-4 c = let a = c .before .before .before .before .before .before .before .args in out-short (a .p .sets) (a .e .distinct) (a .e .groups) (a .bytes) (a .out) (a .ids) (a .map) (a .log) (λ h. omega (arith, c .before .before .before .before .before .if1)) (λ h. omega (arith, c .before .before .before .if2)) (omega (arith, c .before .if3, c .before .before .log-words .ensures)) (c .if4 .taken)
 
 returns-5 : tie.Need-returns-5
-returns-5 c = let a = c .before .before .before .before .before .before .before .args in none-short (a .p .sets) (a .e .distinct) (a .e .groups) (a .bytes) (a .out) (a .ids) (a .map) (a .log) (λ h. omega (arith, c .before .before .before .before .before .if1)) (λ h. omega (arith, c .before .before .before .if2)) (omega (arith, c .before .if3, c .before .before .log-need .ensures)) (λ h. omega (arith, c .if4))
+returns-5 c = let a = c .before .before .before .before .before .before .before .args in none-short (a .p .sets) (a .e .distinct) (a .e .groups) (a .bytes) (a .out) (a .ids) (a .map) (a .log) (λ h. omega (arith, c .before .before .before .before .before .if1)) (λ h. omega (arith, c .before .before .before .if2)) (omega (arith, c .before .if3, c .before .before .log-words .ensures)) (λ h. omega (arith, c .if4))
 
 pub short-no-spec : {M : Type 1} → statement M
 short-no-spec =
-    tie.close (tie.spec returns returns-2 log-need-requires returns-3 returns-4 returns-5)
+    tie.close (tie.spec returns returns-2 log-words-requires returns-3 returns-4 returns-5)
