@@ -1,11 +1,10 @@
 pub mod BitLaws
-pub mod FewLaws
-pub mod TellLaws
 pub mod Unique
 pub mod FailedLaws
 pub mod StepLaws
 pub mod WalkRows
 pub mod OutcomeRows
+pub mod TellLaws
 pub mod EarlyRows
 pub mod LateRows
 pub mod Buffers

@@ -56,5 +56,5 @@ filled k (x ∷ l) old = filled (k + 1) l (set old k x)
 
 -- refusal numbers are small
 abbrev pub numberFew : Built → Type 0
-numberFew (built.Refused n at) = n ≤ 22
+numberFew (built.Refused n at) = n ≤ 14
 numberFew (built.Done d) = Unit

@@ -1,5 +1,4 @@
-use Rattle.ivs.proofs.FewLaws.{answer-few}
-use Rattle.ivs.proofs.TellLaws.{told}
+use Rattle.ivs.proofs.TellLaws.{answer-few, told}
 use native.Mathlib.Omega.{arith}
 use borrow.Author.Needs.{needs}
 use Rattle.ivs.proofs.ivs_build.Statement.{statement}
