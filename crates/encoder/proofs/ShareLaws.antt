@@ -20,7 +20,6 @@ use Rattle.groups.specs.declared.grouping.Added.the-variants.{Groups, Full}
 use Rattle.groups.specs.Groups.{shapeOf, groupsOf}
 use Rattle.groups.specs.Table as tab
 use Rattle.groups.proofs.GroupLaws.{groups-few}
-use Rattle.groups.proofs.AddSteps.{groups-length}
 use Rattle.encoder.specs.declared.places.Places.{Places}
 use Rattle.encoder.specs.declared.encoded.Encoded.{Encoded}
 use Rattle.encoder.specs.declared.encoded.Packing.{Packing}
@@ -117,7 +116,6 @@ module _ {p : Places} {w : List ℕ} (f : Fit p w) where
           record {
             only = only₂;
             result = omega (arith, lies .room-is, groups-most);
-            shapes-few = λ e q. absurd (let z : _≡_ {A = ℕ} 0 1 = cc in omega arith);
           }
 
       module _ (groups : ℕ) (e : r ≡ Groups groups) where
@@ -156,8 +154,4 @@ module _ {p : Places} {w : List ℕ} (f : Fit p w) where
         share-done {w₃} {c} q = record {
           only = only-trans {rs = (p .line, length w) ∷ []} only₂ (subst (λ (n : ℕ). Only ((p .line, n) ∷ []) w₂ w₃) (kept .long) (q .only));
           result = subst (λ (l : List Set). PackedAt (shared (p .regions) l) p c w₃) sets₂ (q .packed);
-          shapes-few = λ e x.
-              let n = groups-length (shapesAt p) groups w₂ in
-              let m = ap length (into .groups ∙ ap (groupsOf (p .regions)) sets₁) in
-              omega (arith, into .table .fits, lies .room-few);
         }

@@ -74,7 +74,6 @@ Shared p old new (Done e) = PackedAt (shared (p .regions) (setsIn 0 (p .sets) ol
 pub record SharedAt (p : Places) (old new : List ℕ) (r : Packing) : Type 0 where
   pub only : Only ((p .line, length old) ∷ []) old new
   pub result : Shared p old new r
-  pub shapes-few : (e : Encoded) → r ≡ Done e → length (groupsOf (p .regions) (setsIn 0 (p .sets) old)) ≤ maxShapes
 
 -- mode 1
 pub record OwnAt (p : Places) (old new : List ℕ) (e : Encoded) : Type 0 where
