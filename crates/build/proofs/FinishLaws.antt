@@ -30,7 +30,7 @@ use Rattle.encoder.specs.Packed.{Packed}
 use Rattle.encoder.specs.Lent.{relabel, PackedAt}
 use Rattle.build.specs.declared.answers.Report.{Report}
 use Rattle.build.specs.declared.answers.Built.the-variants.{Refused, Done}
-use Rattle.build.specs.Late.{Lent, storeFor, regionsKept, lateNo, reportOf, lateAnswer, ifDone, outLeft, idsLeft, mapLeft, logLeft}
+use Rattle.build.specs.Late.{Lengths, storeFor, regionsKept, lateNo, reportOf, lateAnswer, ifDone, outLeft, idsLeft, mapLeft, logLeft}
 use Rattle.build.specs.Lent.{FinishFit, Finished, RoomFor, WordsFit, WordsWritten, lengths, reportIn, shortNo, storeIn}
 use Rattle.build.proofs.LoopLaws.{room-for}
 use Rattle.build.proofs.WordsLaws.{groups-to, handed, small}
@@ -123,7 +123,7 @@ module _ {axes starts : ℕ} {job : List ℕ} {p : Places} {e : Encoded} {w : Li
       pub ids-long : length (k .ids) ≡ p .sets
       ids-long = ap length (sym (at .ids-are)) ∙ length-seg (p .ids) (p .sets) w (omega (arith, at .ids-to, at .finals-to, at .rows-to))
 
-      pub late-is : (l : Lent) → shortNo (p .sets) (e .distinct) (e .groups) bytes (l .out) (l .ids) (l .map) (l .log) ≡ lateNo axes coords k l
+      pub late-is : (l : Lengths) → shortNo (p .sets) (e .distinct) (e .groups) bytes (l .out) (l .ids) (l .map) (l .log) ≡ lateNo axes coords k l
       unfolding lateNo
       late-is l =
           let b : bytes ≡ length (storeFor axes coords k) = bytes-are ∙ ap length store-is in

@@ -10,7 +10,7 @@ pub mod RecordsLaws
 pub mod ManyLaws
 pub mod PackedLaws
 pub mod RunSound
-pub mod Demand2
+pub mod RowsBack
 pub mod ShortLaws
 pub mod ListBack
 pub mod ReadBack

@@ -21,7 +21,7 @@ use Rattle.rows.proofs.RegionLaws.{kept-most}
 use Rattle.rows.proofs.StoreBack.{list-is, from-list, axis-count, regions-are, header-good}
 use Rattle.encoder.specs.Packed.{Packed}
 use Rattle.build.specs.Late.{storeFor}
-use Rattle.build.proofs.Demand2.{coords-long}
+use Rattle.build.proofs.RowsBack.{coords-long}
 
 pub record ListBack (axes regions : ℕ) (coords : List (List ℕ)) (k : Packed) : Type 0 where
   -- "header with its offsets, region list": neither is refused

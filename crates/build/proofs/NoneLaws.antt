@@ -77,7 +77,7 @@ none-fit axes job a = record {
 }
 
 -- no region has coordinates
-pub none-done : (axes : ℕ) (job : List ℕ) (l : late.Lent) (r : Built) (out ids map log out′ ids′ map′ log′ : List ℕ)
+pub none-done : (axes : ℕ) (job : List ℕ) (l : late.Lengths) (r : Built) (out ids map log out′ ids′ map′ log′ : List ℕ)
     → Finished axes (coordsOf job axes three 0 0) (own 0 []) l r out ids map log out′ ids′ map′ log′ → Finished axes [] (own 0 []) l r out ids map log out′ ids′ map′ log′
 unfolding coordsOf tabulate
 none-done axes job l r out ids map log out′ ids′ map′ log′ f = f

@@ -38,7 +38,7 @@ use Rattle.encoder.specs.Lent.{Fit, PackedAt, Shared, SharedAt, OwnAt}
 use Rattle.encoder.proofs.DenseIds.{ids-length, ids-below}
 use Rattle.build.specs.declared.answers.Built.{Built}
 use Rattle.build.specs.declared.answers.Built.the-variants.{Refused}
-use Rattle.build.specs.Late.{Lent, lateNo, lateAnswer, ifDone, outLeft, idsLeft, mapLeft, logLeft}
+use Rattle.build.specs.Late.{Lengths, lateNo, lateAnswer, ifDone, outLeft, idsLeft, mapLeft, logLeft}
 use Rattle.build.specs.Build.{coordsOf, packedOf}
 use Rattle.build.specs.Lent.{FinishFit, Finished}
 use Rattle.build.specs.Collected.{Collected}
@@ -70,14 +70,14 @@ own-merges n all = omega arith
 
 -- ---- a refusal leaves everything as it was
 
-pub refused-late : (axes : ℕ) (coords : List (List ℕ)) (k : Packed) (l : Lent) (n : ℕ) (out ids map log : List ℕ) → lateNo axes coords k l ≡ suc n
+pub refused-late : (axes : ℕ) (coords : List (List ℕ)) (k : Packed) (l : Lengths) (n : ℕ) (out ids map log : List ℕ) → lateNo axes coords k l ≡ suc n
     → Finished axes coords k l (Refused (suc n) 0) out ids map log out ids map log
 unfolding lateAnswer outLeft idsLeft mapLeft logLeft ifDone
 refused-late axes coords k l n out ids map log e =
     let z : eqb (lateNo axes coords k l) 0 ≡ false = ap (λ (x : ℕ). eqb x 0) e ∙ ne-eqb (suc n) 0 (λ x. omega arith) in
     record { answer = rw (z, e); out-is = rw z; ids-is = rw z; map-is = rw z; log-is = rw z }
 
-too-many : (axes : ℕ) (coords : List (List ℕ)) (k : Packed) (l : Lent) → 1024 < k .groups → lateNo axes coords k l ≡ 10
+too-many : (axes : ℕ) (coords : List (List ℕ)) (k : Packed) (l : Lengths) → 1024 < k .groups → lateNo axes coords k l ≡ 10
 unfolding lateNo firstFailed
 too-many axes coords k l h = rw (lt-leb (k .groups) 1024 h)
 
@@ -125,7 +125,7 @@ module _ {axes starts : ℕ} {job w : List ℕ} {p : Places} {s : Said} (c : Col
             omega (arith, packed .distinct-is);
       }
 
-    finished : (k k′ : Packed) (l : Lent) (r : Built) (out ids map log out′ ids′ map′ log′ : List ℕ) → k ≡ k′
+    finished : (k k′ : Packed) (l : Lengths) (r : Built) (out ids map log out′ ids′ map′ log′ : List ℕ) → k ≡ k′
         → Finished axes (rows.coordsOf job axes w′ starts (p .regions)) k l r out ids map log out′ ids′ map′ log′ → Finished axes (coordsOf s) k′ l r out ids map log out′ ids′ map′ log′
     finished k k′ l r out ids map log out′ ids′ map′ log′ e f =
         subst (λ (x : Packed). Finished axes (coordsOf s) x l r out ids map log out′ ids′ map′ log′) e
@@ -137,7 +137,7 @@ module _ {axes starts : ℕ} {job w : List ℕ} {p : Places} {s : Said} (c : Col
     result : (a : Packing) → r ≡ a → Shared p w w′ a
     result a e = subst (λ (x : Packing). Shared p w w′ x) e (h .result)
 
-    pub pack-full : (mode : ℕ) → mode ≡ 0 → r ≡ Full → (l : Lent) (out ids map log : List ℕ) → Finished axes (coordsOf s) (packedOf mode s) l (Refused 10 0) out ids map log out ids map log
+    pub pack-full : (mode : ℕ) → mode ≡ 0 → r ≡ Full → (l : Lengths) (out ids map log : List ℕ) → Finished axes (coordsOf s) (packedOf mode s) l (Refused 10 0) out ids map log out ids map log
     unfolding shared
     pack-full mode z e l out ids map log =
         let n = result Full e in
@@ -147,7 +147,7 @@ module _ {axes starts : ℕ} {job w : List ℕ} {p : Places} {s : Said} (c : Col
     pub shared-fit : (e : Encoded) → r ≡ Done e → FinishFit axes starts job p e w′
     shared-fit e q = finish-fit (h .only) (shared (p .regions) all) e (result (Done e) q) (shared-merges (p .regions) all) (shared-ids (p .regions) all)
 
-    pub shared-done : (mode : ℕ) → mode ≡ 0 → (e : Encoded) → r ≡ Done e → (l : Lent) (b : Built) (out ids map log out′ ids′ map′ log′ : List ℕ)
+    pub shared-done : (mode : ℕ) → mode ≡ 0 → (e : Encoded) → r ≡ Done e → (l : Lengths) (b : Built) (out ids map log out′ ids′ map′ log′ : List ℕ)
         → ((k : Packed) → PackedAt k p e w′ → Finished axes (rows.coordsOf job axes w′ starts (p .regions)) k l b out ids map log out′ ids′ map′ log′)
         → Finished axes (coordsOf s) (packedOf mode s) l b out ids map log out′ ids′ map′ log′
     shared-done mode z e q l b out ids map log out′ ids′ map′ log′ f =
@@ -159,14 +159,14 @@ module _ {axes starts : ℕ} {job w : List ℕ} {p : Places} {s : Said} (c : Col
     pub own-fit : FinishFit axes starts job p e w′
     own-fit = finish-fit (h .only) (own (p .regions) all) e (h .result) (own-merges (p .regions) all) (own-ids (p .regions) all)
 
-    pub own-done : (mode : ℕ) → (mode ≡ 0 → ⊥) → (l : Lent) (b : Built) (out ids map log out′ ids′ map′ log′ : List ℕ)
+    pub own-done : (mode : ℕ) → (mode ≡ 0 → ⊥) → (l : Lengths) (b : Built) (out ids map log out′ ids′ map′ log′ : List ℕ)
         → ((k : Packed) → PackedAt k p e w′ → Finished axes (rows.coordsOf job axes w′ starts (p .regions)) k l b out ids map log out′ ids′ map′ log′)
         → Finished axes (coordsOf s) (packedOf mode s) l b out ids map log out′ ids′ map′ log′
     own-done mode z l b out ids map log out′ ids′ map′ log′ f =
         finished (h .only) (own (p .regions) all) (packedOf mode s) l b out ids map log out′ ids′ map′ log′ (own-is mode z) (f (own (p .regions) all) (h .result))
 
   -- without sets
-  pub none-own : (mode : ℕ) → (mode ≡ 0 → ⊥) → p .sets ≡ 0 → (l : Lent) (b : Built) (out ids map log out′ ids′ map′ log′ : List ℕ)
+  pub none-own : (mode : ℕ) → (mode ≡ 0 → ⊥) → p .sets ≡ 0 → (l : Lengths) (b : Built) (out ids map log out′ ids′ map′ log′ : List ℕ)
       → Finished axes [] (own 0 []) l b out ids map log out′ ids′ map′ log′ → Finished axes (coordsOf s) (packedOf mode s) l b out ids map log out′ ids′ map′ log′
   none-own mode z n l b out ids map log out′ ids′ map′ log′ f =
       let long : length (s .sets) ≡ 0 = ap length (sym (c .sets-are)) ∙ sets-length 0 (p .sets) w ∙ n in

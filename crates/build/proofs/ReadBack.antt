@@ -13,7 +13,7 @@ use Rattle.groups.specs.Groups.{groupsOf}
 use Rattle.encoder.specs.Packed.{Packed, shared, own}
 use Rattle.encoder.proofs.DenseIds.{set-of-id}
 use Rattle.build.proofs.PackedLaws.{Words, shared-good, own-good}
-use Rattle.build.proofs.Demand2.{Demand2}
+use Rattle.build.proofs.RowsBack.{RowsBack}
 use Rattle.build.proofs.ShortLaws.{runs-most, reads-back}
 use Rattle.build.proofs.ListBack.{ListBack, list-back}
 
@@ -26,7 +26,7 @@ pub record IdOf (jobs : List Set) (k : Packed) (n : ℕ) : Type 0 where
 pub record GivesBack (axes regions : ℕ) (coords : List (List ℕ)) (jobs : List Set) (k : Packed) : Type 0 where
   pub ids : (n : ℕ) → n < length jobs → IdOf jobs k n
   -- "Read by the OpenType rules, each id's row gives back its adjustment for every region, and zero for one it never named."
-  pub reads : Demand2 axes regions coords k
+  pub reads : RowsBack axes regions coords k
   -- and the regions that are read are those of the list's coordinates
   pub list : ListBack axes regions coords k
 

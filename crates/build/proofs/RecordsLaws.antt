@@ -24,7 +24,7 @@ use Rattle.encoder.specs.Places.{PlacesAt}
 use Rattle.encoder.proofs.PlacesLaws.{laid}
 use Rattle.build.specs.declared.answers.Built.{Built}
 use Rattle.build.specs.declared.answers.Built.the-variants.{Refused}
-use Rattle.build.specs.Late.{Lent}
+use Rattle.build.specs.Late.{Lengths}
 use Rattle.build.specs.Build.{regionBytes, coordsOf, packedOf, answerFrom, answerOf, leftFrom, outAfter, idsAfter, mapAfter, logAfter}
 use Rattle.build.specs.Lent.{Finished, lengths}
 use Rattle.build.specs.Collected.{StartsAt, Collected, RecordsBuilt}

@@ -26,7 +26,7 @@ use Rattle.build.specs.Late.{storeFor}
 use Rattle.build.proofs.StoreLaws.{row-most, table-most}
 use Rattle.build.proofs.PackedLaws.{rowIds, Good, rows-most}
 use Rattle.build.proofs.RunSound.{runs-rows, runs-sound}
-use Rattle.build.proofs.Demand2.{coords-long, Demand2, demand2}
+use Rattle.build.proofs.RowsBack.{coords-long, RowsBack, rows-back}
 
 -- ---- runs
 
@@ -116,5 +116,5 @@ module _ (axes regions : ℕ) (coords : List (List ℕ)) (k : Packed) (good : Go
   store-short = omega (arith, store-is, list-is, body-few, tables-most, tables-count, runs-most)
 
   -- so a job of at most 1,048,576 records and 1,024 shapes reads back
-  pub reads-back : Demand2 axes regions coords k
-  reads-back = demand2 axes regions coords k good coords-are coords-whole axes-few regions-few (omega (arith, runs-most)) store-short
+  pub reads-back : RowsBack axes regions coords k
+  reads-back = rows-back axes regions coords k good coords-are coords-whole axes-few regions-few (omega (arith, runs-most)) store-short

@@ -10,7 +10,7 @@ use Rattle.job.specs.Job.{Said, Outcome, refused, fine, outcome}
 use Rattle.encoder.specs.Packed.{Packed, shared, own}
 use Rattle.build.specs.declared.answers.Built.{Built}
 use Rattle.build.specs.declared.answers.Built.the-variants.{Refused}
-use Rattle.build.specs.Late.{Lent, lateAnswer, outLeft, idsLeft, mapLeft, logLeft}
+use Rattle.build.specs.Late.{Lengths, lateAnswer, outLeft, idsLeft, mapLeft, logLeft}
 
 -- "then start, peak, end per axis": two bytes each
 unfoldable pub regionBytes : Region → List ℕ
@@ -25,12 +25,12 @@ coordsOf s = map (λ q. regionBytes (getD (s .regions) q [])) (s .used)
 unfoldable pub packedOf : ℕ → Said → Packed
 packedOf mode s = pick (eqb mode 0) (shared (length (s .used)) (s .sets)) (own (length (s .used)) (s .sets))
 
-unfoldable pub answerFrom : ℕ → ℕ → Lent → Outcome → Built
+unfoldable pub answerFrom : ℕ → ℕ → Lengths → Outcome → Built
 answerFrom axes mode l (refused n i) = Refused n i
 answerFrom axes mode l (fine s) = lateAnswer axes (coordsOf s) (packedOf mode s) l
 
 -- of axis count, mode, job, the words of work, and the lengths of the rest
-unfoldable pub answerOf : ℕ → ℕ → List ℕ → ℕ → Lent → Built
+unfoldable pub answerOf : ℕ → ℕ → List ℕ → ℕ → Lengths → Built
 answerOf axes mode job work l = answerFrom axes mode l (outcome axes mode job work)
 
 -- something lent after the build: what `f` says of a job that is sound, else as it was
@@ -38,14 +38,14 @@ unfoldable pub leftFrom : (Said → List ℕ) → List ℕ → Outcome → List 
 leftFrom f old (refused n i) = old
 leftFrom f old (fine s) = f s
 
-unfoldable pub outAfter : ℕ → ℕ → List ℕ → ℕ → Lent → List ℕ → List ℕ
+unfoldable pub outAfter : ℕ → ℕ → List ℕ → ℕ → Lengths → List ℕ → List ℕ
 outAfter axes mode job work l old = leftFrom (λ s. outLeft axes (coordsOf s) (packedOf mode s) l old) old (outcome axes mode job work)
 
-unfoldable pub idsAfter : ℕ → ℕ → List ℕ → ℕ → Lent → List ℕ → List ℕ
+unfoldable pub idsAfter : ℕ → ℕ → List ℕ → ℕ → Lengths → List ℕ → List ℕ
 idsAfter axes mode job work l old = leftFrom (λ s. idsLeft axes (coordsOf s) (packedOf mode s) l old) old (outcome axes mode job work)
 
-unfoldable pub mapAfter : ℕ → ℕ → List ℕ → ℕ → Lent → List ℕ → List ℕ
+unfoldable pub mapAfter : ℕ → ℕ → List ℕ → ℕ → Lengths → List ℕ → List ℕ
 mapAfter axes mode job work l old = leftFrom (λ s. mapLeft axes (coordsOf s) (packedOf mode s) l old) old (outcome axes mode job work)
 
-unfoldable pub logAfter : ℕ → ℕ → List ℕ → ℕ → Lent → List ℕ → List ℕ
+unfoldable pub logAfter : ℕ → ℕ → List ℕ → ℕ → Lengths → List ℕ → List ℕ
 logAfter axes mode job work l old = leftFrom (λ s. logLeft axes (coordsOf s) (packedOf mode s) l old) old (outcome axes mode job work)

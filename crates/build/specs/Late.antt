@@ -27,7 +27,7 @@ unfoldable pub regionsKept : List (List ℕ) → Packed → ℕ
 regionsKept coords k = length (keptOf (length coords) (k .finals))
 
 -- how long everything is that is lent
-pub record Lent : Type 0 where
+pub record Lengths : Type 0 where
   pub out : ℕ
   pub ids : ℕ
   pub map : ℕ
@@ -35,7 +35,7 @@ pub record Lent : Type 0 where
 
 -- SHAPES_FULL "mode 0, more than 1,024 distinct shapes"; IDS_SHORT "fewer words than end records"; MAP_SHORT "fewer words than distinct ids";
 -- LOG_SHORT "mode 0, N at least 1, fewer than 3 x (N-1) words"; OUT_SHORT "fewer bytes than the store takes". (In mode 1 N is 0.)
-unfoldable pub lateNo : ℕ → List (List ℕ) → Packed → Lent → ℕ
+unfoldable pub lateNo : ℕ → List (List ℕ) → Packed → Lengths → ℕ
 lateNo axes coords k l =
     firstFailed
     ((leb (k .groups) maxShapes, shapesFull)
@@ -62,7 +62,7 @@ reportOf axes coords k = record {
 }
 
 -- "The place is .. 0"
-unfoldable pub lateAnswer : ℕ → List (List ℕ) → Packed → Lent → Built
+unfoldable pub lateAnswer : ℕ → List (List ℕ) → Packed → Lengths → Built
 lateAnswer axes coords k l = pick (eqb (lateNo axes coords k l) 0) (Done (reportOf axes coords k)) (Refused (lateNo axes coords k l) 0)
 
 -- ---- what is left in everything lent: "A refusal has .. output, ids, map and log untouched"; past what is written all is as it was
@@ -70,17 +70,17 @@ lateAnswer axes coords k l = pick (eqb (lateNo axes coords k l) 0) (Done (report
 unfoldable pub ifDone : ℕ → List ℕ → List ℕ → List ℕ
 ifDone n new old = pick (eqb n 0) new old
 
-unfoldable pub outLeft : ℕ → List (List ℕ) → Packed → Lent → List ℕ → List ℕ
+unfoldable pub outLeft : ℕ → List (List ℕ) → Packed → Lengths → List ℕ → List ℕ
 outLeft axes coords k l old = ifDone (lateNo axes coords k l) (over old 0 (length (storeFor axes coords k)) (storeFor axes coords k)) old
 
 -- "The n-th word of ids is the n-th set's id."
-unfoldable pub idsLeft : ℕ → List (List ℕ) → Packed → Lent → List ℕ → List ℕ
+unfoldable pub idsLeft : ℕ → List (List ℕ) → Packed → Lengths → List ℕ → List ℕ
 idsLeft axes coords k l old = ifDone (lateNo axes coords k l) (over old 0 (length (k .ids)) (k .ids)) old
 
 -- "The id's map word is outer x 65,536 + inner."
-unfoldable pub mapLeft : ℕ → List (List ℕ) → Packed → Lent → List ℕ → List ℕ
+unfoldable pub mapLeft : ℕ → List (List ℕ) → Packed → Lengths → List ℕ → List ℕ
 mapLeft axes coords k l old = ifDone (lateNo axes coords k l) (stored (idWords 0 (allRuns (k .finals))) old) old
 
 -- "The log gets first number, second number, gain."
-unfoldable pub logLeft : ℕ → List (List ℕ) → Packed → Lent → List ℕ → List ℕ
+unfoldable pub logLeft : ℕ → List (List ℕ) → Packed → Lengths → List ℕ → List ℕ
 logLeft axes coords k l old = ifDone (lateNo axes coords k l) (over old 0 (length (words (k .log))) (words (k .log))) old

@@ -30,7 +30,7 @@ use Rattle.encoder.specs.Packed.{Packed}
 use Rattle.build.specs.declared.answers.Report.{Report}
 use Rattle.build.specs.declared.answers.Built.{Built}
 use Rattle.build.specs.declared.answers.Built.the-variants.{Refused, Done}
-use Rattle.build.specs.Late.{Lent, storeFor, lateNo, reportOf, lateAnswer, ifDone, outLeft, idsLeft, mapLeft, logLeft}
+use Rattle.build.specs.Late.{Lengths, storeFor, lateNo, reportOf, lateAnswer, ifDone, outLeft, idsLeft, mapLeft, logLeft}
 use Rattle.build.specs.Build.{regionBytes, coordsOf, packedOf, answerFrom, answerOf, leftFrom, outAfter, idsAfter, mapAfter, logAfter}
 use Rattle.build.proofs.ReadBack.{Sized}
 
@@ -109,14 +109,14 @@ module _ (axes mode : ℕ) (job : List ℕ) (records : ℕ) (s : Said) (e : walk
 -- ---- what is not refused late
 
 -- each of refusals 10 to 14 is not given
-pub record Roomy (axes : ℕ) (coords : List (List ℕ)) (k : Packed) (l : Lent) : Type 0 where
+pub record Roomy (axes : ℕ) (coords : List (List ℕ)) (k : Packed) (l : Lengths) : Type 0 where
   pub shapes-few : k .groups ≤ maxShapes
   pub ids-fit : length (k .ids) ≤ l .ids
   pub map-fits : length (k .sets) ≤ l .map
   pub log-fits : 3 * (k .groups - 1) ≤ l .log
   pub out-fits : length (storeFor axes coords k) ≤ l .out
 
-roomy : (axes : ℕ) (coords : List (List ℕ)) (k : Packed) (l : Lent) → lateNo axes coords k l ≡ 0 → Roomy axes coords k l
+roomy : (axes : ℕ) (coords : List (List ℕ)) (k : Packed) (l : Lengths) → lateNo axes coords k l ≡ 0 → Roomy axes coords k l
 unfolding lateNo
 roomy axes coords k l z =
     let t₁ = leb (k .groups) maxShapes in
@@ -139,7 +139,7 @@ roomy axes coords k l z =
 
 -- ---- done
 
-pub record Accepted (axes mode : ℕ) (job : List ℕ) (work : ℕ) (l : Lent) (r : Report) : Type 0 where
+pub record Accepted (axes mode : ℕ) (job : List ℕ) (work : ℕ) (l : Lengths) (r : Report) : Type 0 where
   pub said : Said
   pub said-is : outcome axes mode job work ≡ fine said
   pub entered : Open axes mode (length job) work
@@ -152,7 +152,7 @@ abbrev reported : Report → Built → Report
 reported d (Refused n i) = d
 reported d (Done r) = r
 
-late-done : (axes : ℕ) (coords : List (List ℕ)) (k : Packed) (l : Lent) (r : Report) → lateAnswer axes coords k l ≡ Done r
+late-done : (axes : ℕ) (coords : List (List ℕ)) (k : Packed) (l : Lengths) (r : Report) → lateAnswer axes coords k l ≡ Done r
     → (lateNo axes coords k l ≡ 0) × (r ≡ reportOf axes coords k)
 unfolding lateAnswer
 late-done axes coords k l r e = go (which (eqb (lateNo axes coords k l) 0)) e
@@ -164,7 +164,7 @@ late-done axes coords k l r e = go (which (eqb (lateNo axes coords k l) 0)) e
         (eqb-true (lateNo axes coords k l) 0 h, sym (ap (reported r) g))
     go (fails h) f = let g = rw h at f in let z : _≡_ {A = ℕ} 0 1 = cc in absurd (omega arith)
 
-pub accepted : (axes mode : ℕ) (job : List ℕ) (work : ℕ) (l : Lent) (r : Report) → answerOf axes mode job work l ≡ Done r → Accepted axes mode job work l r
+pub accepted : (axes mode : ℕ) (job : List ℕ) (work : ℕ) (l : Lengths) (r : Report) → answerOf axes mode job work l ≡ Done r → Accepted axes mode job work l r
 unfolding answerOf answerFrom
 accepted axes mode job work l r e = go (outcome axes mode job work) refl e
   where
@@ -184,14 +184,14 @@ accepted axes mode job work l r e = go (outcome axes mode job work) refl e
         }
 
 -- what its job says is of these sizes
-pub accepted-sized : (axes mode : ℕ) (job : List ℕ) (work : ℕ) (l : Lent) (r : Report) (a : Accepted axes mode job work l r) → Bytes job
+pub accepted-sized : (axes mode : ℕ) (job : List ℕ) (work : ℕ) (l : Lengths) (r : Report) (a : Accepted axes mode job work l r) → Bytes job
     → Sized axes (length (a .said .used)) (coordsOf (a .said)) (a .said .sets)
 accepted-sized axes mode job work l r a b =
     sized axes mode job (length job / recordBytes) (a .said) (a .walked) (a .entered .some) b (a .entered .most) (a .entered .few)
 
 -- ---- and what is left in everything lent
 
-module _ (axes mode : ℕ) (job : List ℕ) (work : ℕ) (l : Lent) (s : Said) (e : outcome axes mode job work ≡ fine s)
+module _ (axes mode : ℕ) (job : List ℕ) (work : ℕ) (l : Lengths) (s : Said) (e : outcome axes mode job work ≡ fine s)
     (z : lateNo axes (coordsOf s) (packedOf mode s) l ≡ 0) where
   pub out-done : (old : List ℕ) → outAfter axes mode job work l old
       ≡ over old 0 (length (storeFor axes (coordsOf s) (packedOf mode s))) (storeFor axes (coordsOf s) (packedOf mode s))

@@ -15,20 +15,20 @@ use Rattle.job.specs.Check.{workLeft}
 use Rattle.build.specs.declared.answers.Report.{Report}
 use Rattle.build.specs.declared.answers.Built.{Built}
 use Rattle.build.specs.declared.answers.Built.the-variants.{Refused, Done}
-use Rattle.build.specs.Late.{Lent, lateNo, ifDone, outLeft, idsLeft, mapLeft, logLeft}
+use Rattle.build.specs.Late.{Lengths, lateNo, ifDone, outLeft, idsLeft, mapLeft, logLeft}
 use Rattle.build.specs.Build.{coordsOf, packedOf, answerOf, leftFrom, outAfter, idsAfter, mapAfter, logAfter}
 use Rattle.ivs.proofs.OutcomeRows.{early, outcome-by, outcome-walked, walk-no, early-few, walked-only, job-only, late-many, late, Answers, answers}
 use Rattle.ivs.proofs.OutcomeRows.Answers.{by-job, by-late, done}
 
 -- ---- output, ids, map and log
 
-pub record Untouched (axes mode : ℕ) (job : List ℕ) (work : ℕ) (l : Lent) (out ids map log : List ℕ) : Type 0 where
+pub record Untouched (axes mode : ℕ) (job : List ℕ) (work : ℕ) (l : Lengths) (out ids map log : List ℕ) : Type 0 where
   pub out-same : outAfter axes mode job work l out ≡ out
   pub ids-same : idsAfter axes mode job work l ids ≡ ids
   pub map-same : mapAfter axes mode job work l map ≡ map
   pub log-same : logAfter axes mode job work l log ≡ log
 
-module _ (axes mode : ℕ) (job : List ℕ) (work : ℕ) (l : Lent) where
+module _ (axes mode : ℕ) (job : List ℕ) (work : ℕ) (l : Lengths) where
   module _ (out ids map log : List ℕ) where
     job-kept : (n p : ℕ) → outcome axes mode job work ≡ refused n p → Untouched axes mode job work l out ids map log
     unfolding outAfter idsAfter mapAfter logAfter leftFrom
@@ -59,7 +59,7 @@ cleared : (axes mode bytes : ℕ) (w : List ℕ) → earlyNo axes mode bytes (le
 unfolding workLeft
 cleared axes mode bytes w e = rw (eq-eqb (earlyNo axes mode bytes (length w)) 0 e)
 
-module _ (axes mode : ℕ) (job w : List ℕ) (l : Lent) where
+module _ (axes mode : ℕ) (job w : List ℕ) (l : Lengths) where
   -- 1 to 4
   pub work-kept : (n p : ℕ) → n ≤ 4 → answerOf axes mode job (length w) l ≡ Refused n p → workLeft axes mode (length job) w ≡ w
   work-kept n p h e = kept axes mode (length job) w some

@@ -27,9 +27,9 @@ use Rattle.encoder.specs.Packed.{Packed, shared, own}
 use Rattle.encoder.proofs.DenseIds.{ids-length}
 use Rattle.build.specs.declared.answers.Report.{Report}
 use Rattle.build.specs.declared.answers.Built.the-variants.{Done}
-use Rattle.build.specs.Late.{Lent, storeFor, reportOf}
+use Rattle.build.specs.Late.{Lengths, storeFor, reportOf}
 use Rattle.build.specs.Build.{coordsOf, packedOf, answerOf, outAfter, idsAfter, mapAfter}
-use Rattle.build.proofs.Demand2.{RowOf, Listed}
+use Rattle.build.proofs.RowsBack.{RowOf, Listed}
 use Rattle.build.proofs.ReadBack.{Sized, GivesBack, shared-back, own-back}
 use Rattle.ivs.proofs.Accepted.{Accepted, accepted, accepted-sized, coords-once, out-done, ids-done, map-done}
 
@@ -175,7 +175,7 @@ over-front old new = take-at new (drop (0 + length new) old) (length new) refl
 over-at : (old new : List ℕ) (n : ℕ) → n < length new → getD (over old 0 (length new) new) n 0 ≡ getD new n 0
 over-at old new n h = List·getD-append new (drop (0 + length new) old) 0 n h
 
-pub record Demand2 (axes mode : ℕ) (job : List ℕ) (work : ℕ) (l : Lent) (r : Report) : Type 0 where
+pub record Demand2 (axes mode : ℕ) (job : List ℕ) (work : ℕ) (l : Lengths) (r : Report) : Type 0 where
   -- what the job says: its regions in use and its sets ("An end record is one `add_deltas` call with the values of its set")
   pub said : Said
   pub said-is : outcome axes mode job work ≡ fine said
@@ -199,7 +199,7 @@ pub record Demand2 (axes mode : ℕ) (job : List ℕ) (work : ℕ) (l : Lent) (r
       (getD (mapAfter axes mode job work l map) (getD (idsAfter axes mode job work l ids) n 0) 0)
 
 -- THE LAW
-pub demand2 : (axes mode : ℕ) (job : List ℕ) (work : ℕ) (l : Lent) (r : Report) → Bytes job → answerOf axes mode job work l ≡ Done r
+pub demand2 : (axes mode : ℕ) (job : List ℕ) (work : ℕ) (l : Lengths) (r : Report) → Bytes job → answerOf axes mode job work l ≡ Done r
     → Demand2 axes mode job work l r
 demand2 axes mode job work l r bytes e =
     record {

@@ -26,7 +26,7 @@ use Rattle.job.specs.Job.{Said, fine, outcome}
 use Rattle.encoder.specs.Packed.{Packed, shared, own, isAhead, finalOf, finalsOf, oneCost}
 use Rattle.build.specs.declared.answers.Report.{Report}
 use Rattle.build.specs.declared.answers.Built.the-variants.{Done}
-use Rattle.build.specs.Late.{Lent, storeFor, reportOf}
+use Rattle.build.specs.Late.{Lengths, storeFor, reportOf}
 use Rattle.build.specs.Build.{coordsOf, packedOf, answerOf, outAfter, logAfter}
 use Rattle.ivs.proofs.Accepted.{Accepted, accepted, out-done, log-done}
 use Rattle.ivs.proofs.Demand2.{over-front}
@@ -108,7 +108,7 @@ words-length (e ∷ l) = omega (arith, words-length l)
 abbrev pub groupsSaid : Said → List Group
 groupsSaid s = groupsOf (length (s .used)) (s .sets)
 
-pub record Demand3 (axes : ℕ) (job : List ℕ) (work : ℕ) (l : Lent) (r : Report) : Type 0 where
+pub record Demand3 (axes : ℕ) (job : List ℕ) (work : ℕ) (l : Lengths) (r : Report) : Type 0 where
   pub said : Said
   pub said-is : outcome axes 0 job work ≡ fine said
   -- what is answered is the rule's, and what the rule does
@@ -161,7 +161,7 @@ module _ (s : Said) where
       subst (λ (t : Report). Ruled (groupsSaid s) (t .groups) (t .merges) (t .weighed) (t .before) (t .after)) (sym e)
       (subst (λ (p : Packed). Ruled (groupsSaid s) (p .groups) (length (p .log)) (p .weighed) (p .before) (p .after)) (sym (shared-is s)) shared-rule)
 
-module _ (axes : ℕ) (job : List ℕ) (work : ℕ) (l : Lent) (r : Report) (a : Accepted axes 0 job work l r) where
+module _ (axes : ℕ) (job : List ℕ) (work : ℕ) (l : Lengths) (r : Report) (a : Accepted axes 0 job work l r) where
   abbrev s : Said
   s = a .said
 
@@ -225,13 +225,13 @@ module _ (axes : ℕ) (job : List ℕ) (work : ℕ) (l : Lent) (r : Report) (a :
   }
 
 -- THE LAW
-pub demand3 : (axes : ℕ) (job : List ℕ) (work : ℕ) (l : Lent) (r : Report) → answerOf axes 0 job work l ≡ Done r → Demand3 axes job work l r
+pub demand3 : (axes : ℕ) (job : List ℕ) (work : ℕ) (l : Lengths) (r : Report) → answerOf axes 0 job work l ≡ Done r → Demand3 axes job work l r
 demand3 axes job work l r e = demand axes job work l r (accepted axes 0 job work l r e)
 
 -- ---- mode 1
 
 -- "In mode 1 N, merges and pairs are 0 and both sizes are the one group's cost, or 0 when there are no sets."
-pub record NoMerging (axes : ℕ) (job : List ℕ) (work : ℕ) (l : Lent) (r : Report) : Type 0 where
+pub record NoMerging (axes : ℕ) (job : List ℕ) (work : ℕ) (l : Lengths) (r : Report) : Type 0 where
   pub said : Said
   pub said-is : outcome axes 1 job work ≡ fine said
   pub no-groups : r .groups ≡ 0
@@ -262,7 +262,7 @@ own-log : (s : Said) (log : List ℕ) → over log 0 (length (words (packedOf 1 
 unfolding own words
 own-log s log = ap (λ (p : Packed). over log 0 (length (words (p .log))) (words (p .log))) (own-is s)
 
-pub no-merging : (axes : ℕ) (job : List ℕ) (work : ℕ) (l : Lent) (r : Report) → answerOf axes 1 job work l ≡ Done r → NoMerging axes job work l r
+pub no-merging : (axes : ℕ) (job : List ℕ) (work : ℕ) (l : Lengths) (r : Report) → answerOf axes 1 job work l ≡ Done r → NoMerging axes job work l r
 no-merging axes job work l r e =
     let a = accepted axes 1 job work l r e in
     let t = report-own axes (a .said) r (a .report-is) in

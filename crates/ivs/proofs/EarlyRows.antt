@@ -13,7 +13,7 @@ use Rattle.job.specs.Refusals.{firstFailed, publishedWork, earlyNo}
 use Rattle.job.specs.Job.{outcome, refused}
 use Rattle.build.specs.declared.answers.Built.{Built}
 use Rattle.build.specs.declared.answers.Built.the-variants.{Refused}
-use Rattle.build.specs.Late.{Lent}
+use Rattle.build.specs.Late.{Lengths}
 use Rattle.build.specs.Build.{answerOf}
 use Rattle.ivs.specs.Exactly.{Exactly}
 use Rattle.ivs.specs.Fits.{AxesFit, ModeFit, LengthFit, WorkFit}
@@ -153,7 +153,7 @@ module _ (axes mode bytes work : ℕ) where
 
 -- ---- the rows
 
-module _ (axes mode : ℕ) (job : List ℕ) (work : ℕ) (l : Lent) (p : ℕ) where
+module _ (axes mode : ℕ) (job : List ℕ) (work : ℕ) (l : Lengths) (p : ℕ) where
   row : (n : ℕ) (Why : Type 0) → 0 < n → n ≤ 4 → Exactly (earlyNo axes mode (length job) work ≡ n) Why → Exactly (answerOf axes mode job work l ≡ Refused n p) ((p ≡ 0) × Why)
   row n Why low high x = record {
     given = λ b. answer-refused axes mode job work l n p (rw (b .0) (outcome-early axes mode job work n (x .given (b .1)) low));

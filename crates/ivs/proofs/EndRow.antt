@@ -13,7 +13,7 @@ use Rattle.laws.specs.Pick.{pick}
 use Rattle.laws.proofs.Cases.{same-or-not}
 use Rattle.job.specs.Job.{Said, State, inAxes, inSets, regionsOnly, Outcome, refused, fine, ended, endedSets, walk, outcome}
 use Rattle.build.specs.declared.answers.Built.the-variants.{Refused}
-use Rattle.build.specs.Late.{Lent}
+use Rattle.build.specs.Late.{Lengths}
 use Rattle.build.specs.Build.{answerOf}
 use Rattle.ivs.specs.Exactly.{Exactly}
 use Rattle.ivs.specs.Passing.{Passed, EndsAs, saidAt}
@@ -82,7 +82,7 @@ module _ (axes mode : ℕ) (job : List ℕ) (work : ℕ) where
   records = length job / 12
 
   -- 8 UNFINISHED: "the job ends inside a set or a region"
-  pub unfinished : (l : Lent) (p : ℕ) → Exactly (answerOf axes mode job work l ≡ Refused 8 p) ((p ≡ records) × AllPass axes mode job work (Unfinished axes job records))
+  pub unfinished : (l : Lengths) (p : ℕ) → Exactly (answerOf axes mode job work l ≡ Refused 8 p) ((p ≡ records) × AllPass axes mode job work (Unfinished axes job records))
   unfinished l p = record {
     given = λ b.
         let a = b .1 in

@@ -19,7 +19,7 @@ use Rattle.encoder.proofs.DenseIds.{ids-length}
 use Rattle.build.specs.declared.answers.Report.{Report}
 use Rattle.build.specs.declared.answers.Built.{Built}
 use Rattle.build.specs.declared.answers.Built.the-variants.{Refused, Done}
-use Rattle.build.specs.Late.{Lent, lateNo, storeFor, reportOf}
+use Rattle.build.specs.Late.{Lengths, lateNo, storeFor, reportOf}
 use Rattle.build.specs.Build.{coordsOf, packedOf, answerOf}
 use Rattle.ivs.specs.Exactly.{Exactly}
 use Rattle.ivs.specs.Rooms.{Accepted, shapeCount, endRecords, distinctIds, storeBytes, ShapesFit, IdsFit, MapFit, LogFit, OutFit}
@@ -50,7 +50,7 @@ ids-are mode s =
 
 -- ---- the five tests
 
-module _ (axes mode : ℕ) (s : Said) (l : Lent) where
+module _ (axes mode : ℕ) (s : Said) (l : Lengths) where
   abbrev k : Packed
   k = packedOf mode s
 
@@ -179,7 +179,7 @@ module _ (axes mode : ℕ) (s : Said) (l : Lent) where
 
 -- ---- the rows
 
-module _ (axes mode : ℕ) (job : List ℕ) (work : ℕ) (l : Lent) where
+module _ (axes mode : ℕ) (job : List ℕ) (work : ℕ) (l : Lengths) where
   module _ (p : ℕ) where
     row : (n : ℕ) (Why : Said → Type 0) → 10 ≤ n → ((s : Said) → Exactly (late axes mode s l ≡ n) (Why s))
         → Exactly (answerOf axes mode job work l ≡ Refused n p) ((p ≡ 0) × Accepted axes mode job work Why)

@@ -14,7 +14,7 @@ use Rattle.job.specs.Refusals.{firstFailed, earlyNo}
 use Rattle.job.specs.Job.{Said, State, inAxes, inSets, step, Outcome, refused, fine, ended, endedSets, walk, outcome, outcomeFrom}
 use Rattle.build.specs.declared.answers.Built.{Built}
 use Rattle.build.specs.declared.answers.Built.the-variants.{Refused, Done}
-use Rattle.build.specs.Late.{Lent, lateNo, lateAnswer, reportOf}
+use Rattle.build.specs.Late.{Lengths, lateNo, lateAnswer, reportOf}
 use Rattle.build.specs.Build.{coordsOf, packedOf, answerFrom, answerOf}
 use Rattle.ivs.specs.Exactly.{Exactly}
 use Rattle.ivs.specs.Passing.{recordAt, StopsAt, EndsAs}
@@ -35,7 +35,7 @@ early-few axes mode bytes work =
     ⊎-elim (λ (z : earlyNo axes mode bytes work ≡ 0). omega arith) (λ (z : (1 ≤ earlyNo axes mode bytes work) × (earlyNo axes mode bytes work ≤ 4)). z .1)
     (early-some axes mode bytes work)
 
-pub late-many : (axes : ℕ) (s : Said) (mode : ℕ) (l : Lent)
+pub late-many : (axes : ℕ) (s : Said) (mode : ℕ) (l : Lengths)
     → (lateNo axes (coordsOf s) (packedOf mode s) l ≡ 0) ⊎ ((10 ≤ lateNo axes (coordsOf s) (packedOf mode s) l) × (lateNo axes (coordsOf s) (packedOf mode s) l ≤ 14))
 unfolding lateNo
 late-many axes s mode l =
@@ -138,7 +138,7 @@ module _ (axes mode : ℕ) (job : List ℕ) (work : ℕ) where
 
 -- ---- the answer
 
-module _ (axes mode : ℕ) (job : List ℕ) (work : ℕ) (l : Lent) where
+module _ (axes mode : ℕ) (job : List ℕ) (work : ℕ) (l : Lengths) where
   -- the number of the tests after the records
   abbrev pub late : Said → ℕ
   late s = lateNo axes (coordsOf s) (packedOf mode s) l

@@ -12,7 +12,7 @@ use Rattle.job.specs.Refusals.{axisNo}
 use Rattle.job.specs.Sets.{Region, firstLike}
 use Rattle.job.specs.Job.{Said, State, inAxes, stop, valueStep, endStep, step, refused}
 use Rattle.build.specs.declared.answers.Built.the-variants.{Refused}
-use Rattle.build.specs.Late.{Lent}
+use Rattle.build.specs.Late.{Lengths}
 use Rattle.build.specs.Build.{answerOf}
 use Rattle.ivs.specs.Exactly.{Exactly}
 use Rattle.ivs.specs.Passing.{recordAt, Passed, saidAt, Whole}
@@ -207,7 +207,7 @@ module _ (axes mode : ℕ) (job : List ℕ) (i : ℕ) (s : State) (m : Means axe
 
 -- ---- the rows
 
-module _ (axes mode : ℕ) (job : List ℕ) (work : ℕ) (l : Lent) (i : ℕ) where
+module _ (axes mode : ℕ) (job : List ℕ) (work : ℕ) (l : Lengths) (i : ℕ) where
   abbrev records : ℕ
   records = length job / 12
 

@@ -7,7 +7,7 @@ use Rattle.build.specs.declared.answers.Report.{Report}
 use Rattle.build.specs.declared.answers.Built.{Built}
 use Rattle.build.specs.declared.answers.Built.the-variants.{Refused, Done}
 use Rattle.build.specs.declared.answers.Built.the-variants as built
-use Rattle.build.specs.Late.{Lent}
+use Rattle.build.specs.Late.{Lengths}
 use Rattle.build.specs.Build.{answerOf}
 use Rattle.ivs.specs.Answers.{numberOf, refusedWords, doneWords, reportWords, filled, numberFew}
 use Rattle.ivs.proofs.OutcomeRows.{numbers}
@@ -15,7 +15,7 @@ use Rattle.ivs.proofs.OutcomeRows.{numbers}
 pub number-most : (b : Built) (n at : ℕ) → b ≡ Refused n at → numberFew b → n ≤ 14
 number-most b n at e h = subst numberFew e h
 
-pub answer-few : (axes mode : ℕ) (job : List ℕ) (work : ℕ) (l : Lent) (b : Built) → b ≡ answerOf axes mode job work l → numberFew b
+pub answer-few : (axes mode : ℕ) (job : List ℕ) (work : ℕ) (l : Lengths) (b : Built) → b ≡ answerOf axes mode job work l → numberFew b
 answer-few axes mode job work l (built.Refused n at) e = numbers axes mode job work l n at (sym e) .1
 answer-few axes mode job work l (built.Done d) e = tt
 

@@ -6,7 +6,7 @@ use Prim.Native.Nat.{ℕ, _-_, _*_, _≤_}
 use lib.ListN.{length}
 use Rattle.job.specs.Job.{Said, fine, outcome}
 use Rattle.encoder.specs.Packed.{Packed}
-use Rattle.build.specs.Late.{Lent, storeFor}
+use Rattle.build.specs.Late.{Lengths, storeFor}
 use Rattle.build.specs.Build.{coordsOf, packedOf}
 
 -- the job is sound, and this holds of what it says
@@ -31,18 +31,18 @@ storeBytes axes mode s = length (storeFor axes (coordsOf s) (packedOf mode s))
 pub record ShapesFit (mode : ℕ) (s : Said) : Type 0 where
   pub shapes-few : shapeCount mode s ≤ 1024
 
-pub record IdsFit (mode : ℕ) (s : Said) (l : Lent) : Type 0 where
+pub record IdsFit (mode : ℕ) (s : Said) (l : Lengths) : Type 0 where
   pub shapes-fit : ShapesFit mode s
   pub ids-room : endRecords s ≤ l .ids
 
-pub record MapFit (mode : ℕ) (s : Said) (l : Lent) : Type 0 where
+pub record MapFit (mode : ℕ) (s : Said) (l : Lengths) : Type 0 where
   pub ids-fit : IdsFit mode s l
   pub map-room : distinctIds mode s ≤ l .map
 
-pub record LogFit (mode : ℕ) (s : Said) (l : Lent) : Type 0 where
+pub record LogFit (mode : ℕ) (s : Said) (l : Lengths) : Type 0 where
   pub map-fit : MapFit mode s l
   pub log-room : 3 * (shapeCount mode s - 1) ≤ l .log
 
-pub record OutFit (axes mode : ℕ) (s : Said) (l : Lent) : Type 0 where
+pub record OutFit (axes mode : ℕ) (s : Said) (l : Lengths) : Type 0 where
   pub log-fit : LogFit mode s l
   pub out-room : storeBytes axes mode s ≤ l .out

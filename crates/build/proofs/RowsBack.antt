@@ -64,7 +64,7 @@ pub record Listed (regions : ℕ) (gs : List Final) (q : ℕ) : Type 0 where
   pub numbered : newIndex gs region ≡ q
   pub is : getD (keptOf regions gs) q 0 ≡ region
 
-pub record Demand2 (axes regions : ℕ) (coords : List (List ℕ)) (k : Packed) : Type 0 where
+pub record RowsBack (axes regions : ℕ) (coords : List (List ℕ)) (k : Packed) : Type 0 where
   -- "each id's row gives back its adjustment", whatever the map held before
   pub rows : (m : List ℕ) → length (k .sets) ≤ length m → (x : ℕ) → x < length (k .sets) → RowOf axes regions coords k m x
   -- "Regions no subtable names are dropped, the rest renumbered in order": each region of the list is one that is named
@@ -227,8 +227,8 @@ module _ (axes regions : ℕ) (coords : List (List ℕ)) (k : Packed) (good : Go
     }
 
   -- THE LAW
-  pub demand2 : Demand2 axes regions coords k
-  demand2 = record {
+  pub rows-back : RowsBack axes regions coords k
+  rows-back = record {
     rows = λ m l x h. row-of x h m l;
     listed = λ q h.
         let a = kept-at (λ r. names r gs) regions q h in
