@@ -26,23 +26,7 @@ use Rattle.merging.specs.Optimized.{Ready}
 use Rattle.merging.proofs.Theorems.{Proper}
 use Rattle.encoder.specs.declared.places.Places.{Places}
 use Rattle.encoder.specs.Places.{Laid}
-use Rattle.encoder.specs.Arranged.{shapesAt, JoinFit}
-
--- where merging finds everything
-abbrev pub tablesOf : Places → ℕ → Tables
-tablesOf p groups = record {
-  regions = p .regions;
-  groups = groups;
-  slots = p .slots;
-  order = p .order;
-  counts = p .counts;
-  place = p .place;
-  rows = p .costs;
-  columns = p .columns;
-  into = p .into;
-  log = p .log;
-  heap = p .heap;
-}
+use Rattle.encoder.specs.Arranged.{shapesAt, tablesOf, JoinFit}
 
 -- the groups stand in the table of shapes as merging reads them
 starting-same : (p : Places) (groups : ℕ) (w : List ℕ) → merge.starting (tablesOf p groups) w ≡ tab.groupsIn (shapesAt p) groups w
