@@ -6,7 +6,9 @@ pub mod FinishLaws
 pub mod StartLaws
 pub mod NoneLaws
 pub mod PackLaws
+pub mod OpenLaws
 pub mod RecordsLaws
+pub mod CloseLaws
 pub mod ManyLaws
 pub mod PackedLaws
 pub mod RunSound

@@ -19,9 +19,7 @@ use Rattle.encoder.specs.Lent.{relabel, groupAt, FinalIn, PackedAt}
 use Rattle.build.specs.declared.answers.Built.{Built}
 use Rattle.build.specs.Late as late
 use Rattle.build.specs.Lent.{FinishFit, Finished}
-
-abbrev nowhere : Places
-nowhere = record { sets = 0; regions = 0; room = 0; line = 0; first = 0; ids = 0; kinds = 0; slots = 0; order = 0; counts = 0; place = 0; costs = 0; columns = 0; into = 0; log = 0; heap = 0; rows = 3 }
+use Rattle.build.specs.Opened.{noPlaces}
 
 abbrev one-null : Encoded
 one-null = record { distinct = 0; count = 1; groups = 0; merges = 0; weighed = 0; before = 0; after = 0 }
@@ -33,11 +31,11 @@ null-narrow : Narrow (finalAt 0 three 0 .shape)
 unfolding finalAt seg
 null-narrow = record { few = omega arith; narrow = λ k. omega arith }
 
-null-in : FinalIn nowhere three 0
+null-in : FinalIn noPlaces three 0
 unfolding seg
 null-in = record { shape-to = omega arith; rows-from = omega arith; rows-to = omega arith; numbers = tt; narrow = null-narrow }
 
-pub none-packed : PackedAt (own 0 []) nowhere one-null three
+none-packed : PackedAt (own 0 []) noPlaces one-null three
 unfolding own oneCost tabulate seg relabel finalsAt finalAt coverFrom sum words
 none-packed = record {
   held = record { room = omega arith; rows = omega arith; body = λ x h. absurd (omega arith); ascending = λ x h. absurd (omega arith); proper = λ x h. absurd (omega arith) };
@@ -53,7 +51,7 @@ none-packed = record {
   sets-are = λ x h. absurd (omega arith);
   distinct-is = refl;
   distinct-few = omega arith;
-  finals-in = λ g h. let e : 0 ≡ g = omega arith in subst (λ (z : ℕ). FinalIn nowhere three z) e null-in;
+  finals-in = λ g h. let e : 0 ≡ g = omega arith in subst (λ (z : ℕ). FinalIn noPlaces three z) e null-in;
   rows-few = omega arith;
   finals-are = refl;
   groups-is = refl;
@@ -65,19 +63,22 @@ none-packed = record {
   after-is = refl;
 }
 
-pub none-fit : (axes : ℕ) (job : List ℕ) → axes ≤ 64 → FinishFit axes 0 job nowhere one-null three
-none-fit axes job a = record {
-  axes-few = a;
-  packed-as = own 0 [];
-  packed = none-packed;
-  starts-to = omega arith;
-  sourced = λ r h. absurd (omega arith);
-  merges-few = omega arith;
-  ids-below = λ x h. absurd (omega arith);
-}
+module _ (axes : ℕ) (job : List ℕ) (p : Places) (e : p ≡ noPlaces) where
+  pub none-fit : axes ≤ 64 → FinishFit axes 0 job p one-null three
+  none-fit a = subst (λ (x : Places). FinishFit axes 0 job x one-null three) (sym e) (record {
+    axes-few = a;
+    packed-as = own 0 [];
+    packed = none-packed;
+    starts-to = omega arith;
+    sourced = λ r h. absurd (omega arith);
+    merges-few = omega arith;
+    ids-below = λ x h. absurd (omega arith);
+  })
 
--- no region has coordinates
-pub none-done : (axes : ℕ) (job : List ℕ) (l : late.Lengths) (r : Built) (out ids map log out′ ids′ map′ log′ : List ℕ)
-    → Finished axes (coordsOf job axes three 0 0) (own 0 []) l r out ids map log out′ ids′ map′ log′ → Finished axes [] (own 0 []) l r out ids map log out′ ids′ map′ log′
-unfolding coordsOf tabulate
-none-done axes job l r out ids map log out′ ids′ map′ log′ f = f
+  -- no region has coordinates
+  pub none-done : (l : late.Lengths) (r : Built) (out ids map log out′ ids′ map′ log′ : List ℕ)
+      → ((k : Packed) → PackedAt k p one-null three → Finished axes (coordsOf job axes three 0 (p .regions)) k l r out ids map log out′ ids′ map′ log′)
+      → Finished axes [] (own 0 []) l r out ids map log out′ ids′ map′ log′
+  unfolding coordsOf tabulate
+  none-done l r out ids map log out′ ids′ map′ log′ f =
+      subst (λ (x : Places). ((k : Packed) → PackedAt k x one-null three → Finished axes (coordsOf job axes three 0 (x .regions)) k l r out ids map log out′ ids′ map′ log′)) e f (own 0 []) none-packed

@@ -21,8 +21,8 @@ use Rattle.shapes.specs.Group.{Group}
 use Rattle.sets.specs.Set.{Set}
 use Rattle.sets.specs.Ids.{sharedIds, distinct}
 use Rattle.sets.specs.Lent.{setsIn}
-use Rattle.sets.proofs.HeldLaws.{sets-length}
-use Rattle.groups.specs.Groups.{groupsOf}
+use Rattle.sets.proofs.HeldLaws.{kept-only, held-kept, sets-same, sets-length}
+use Rattle.groups.specs.Groups.{groupsOf, maxShapes}
 use Rattle.merging.specs.Model.{merged}
 use Rattle.merging.proofs.Theorems.{fewer, none-of-none}
 use Rattle.rows.specs.Lent as rows
@@ -30,11 +30,10 @@ use Rattle.job.specs.Refusals.{firstFailed}
 use Rattle.job.specs.Job.{Said}
 use Rattle.encoder.specs.declared.places.Places.{Places}
 use Rattle.encoder.specs.declared.encoded.Encoded.{Encoded}
-use Rattle.encoder.specs.declared.encoded.Packing.{Packing}
-use Rattle.encoder.specs.declared.encoded.Packing.the-variants.{Full, Done}
 use Rattle.encoder.specs.Packed.{Packed, shared, own}
 use Rattle.encoder.specs.Places.{Laid}
-use Rattle.encoder.specs.Lent.{Fit, PackedAt, Shared, SharedAt, OwnAt}
+use Rattle.encoder.specs.Lent.{Fit, PackedAt, OwnAt}
+use Rattle.encoder.specs.Arranged.{JoinedGroups}
 use Rattle.encoder.proofs.DenseIds.{ids-length, ids-below}
 use Rattle.build.specs.declared.answers.Built.{Built}
 use Rattle.build.specs.declared.answers.Built.the-variants.{Refused}
@@ -81,6 +80,13 @@ too-many : (axes : ℕ) (coords : List (List ℕ)) (k : Packed) (l : Lengths) �
 unfolding lateNo firstFailed
 too-many axes coords k l h = rw (lt-leb (k .groups) 1024 h)
 
+pub pack-full : (axes mode : ℕ) (s : Said) → mode ≡ 0 → maxShapes < length (groupsOf (length (s .used)) (s .sets)) → (l : Lengths) (out ids map log : List ℕ)
+    → Finished axes (coordsOf s) (packedOf mode s) l (Refused 10 0) out ids map log out ids map log
+unfolding packedOf shared
+pack-full axes mode s z many l out ids map log =
+    refused-late axes (coordsOf s) (packedOf mode s) l 9 out ids map log
+    (too-many axes (coordsOf s) (packedOf mode s) l (rw (eq-eqb mode 0 z) many))
+
 module _ {axes starts : ℕ} {job w : List ℕ} {p : Places} {s : Said} (c : Collected axes starts job p s w) where
   abbrev all : List Set
   all = setsIn 0 (p .sets) w
@@ -109,6 +115,21 @@ module _ {axes starts : ℕ} {job w : List ℕ} {p : Places} {s : Said} (c : Col
         tabulate-same 0 (p .regions) (λ r. rows.coordsAt job axes (getD w′ (starts + r) 0)) (λ r. rows.coordsAt job axes (getD w (starts + r) 0))
         (λ r a b. ap (rows.coordsAt job axes) (start-kept r (omega arith))) ∙ c .coords-are
 
+    -- what a job says is still held where only the tables changed
+    pub collected-kept : Collected axes starts job p s w′
+    collected-kept =
+        let below = kept-only {end = p .line} only (omega arith, tt) in
+        record {
+          fit = record { laid = rw (only .long) lies; held = held-kept (c .fit .held) below };
+          axes-few = c .axes-few;
+          starts-to = c .starts-to;
+          sets-are = sets-same (c .fit .held) below ∙ c .sets-are;
+          regions-are = c .regions-are;
+          sourced = λ r h. rw (start-kept r h) (c .sourced r h);
+          coords-are = coords-kept;
+          no-use = c .no-use;
+        }
+
     module _ (k : Packed) (e : Encoded) (packed : PackedAt k p e w′) (merges : length (k .log) ≤ k .groups - 1)
         (low : (x : ℕ) → x < length all → getD (k .ids) x 0 < length (k .sets)) where
       pub finish-fit : FinishFit axes starts job p e w′
@@ -133,25 +154,15 @@ module _ {axes starts : ℕ} {job w : List ℕ} {p : Places} {s : Said} (c : Col
 
   -- ---- mode 0
 
-  module _ {w′ : List ℕ} {r : Packing} (h : SharedAt p w w′ r) where
-    result : (a : Packing) → r ≡ a → Shared p w w′ a
-    result a e = subst (λ (x : Packing). Shared p w w′ x) e (h .result)
+  module _ {w′ : List ℕ} {e : Encoded} (h : JoinedGroups p w w′ e) where
+    pub shared-fit : FinishFit axes starts job p e w′
+    shared-fit = finish-fit (h .only) (shared (p .regions) all) e (h .packed) (shared-merges (p .regions) all) (shared-ids (p .regions) all)
 
-    pub pack-full : (mode : ℕ) → mode ≡ 0 → r ≡ Full → (l : Lengths) (out ids map log : List ℕ) → Finished axes (coordsOf s) (packedOf mode s) l (Refused 10 0) out ids map log out ids map log
-    unfolding shared
-    pack-full mode z e l out ids map log =
-        let n = result Full e in
-        refused-late axes (coordsOf s) (packedOf mode s) l 9 out ids map log
-        (ap (λ (k : Packed). lateNo axes (coordsOf s) k l) (sym (shared-is mode z)) ∙ too-many axes (coordsOf s) (shared (p .regions) all) l n)
-
-    pub shared-fit : (e : Encoded) → r ≡ Done e → FinishFit axes starts job p e w′
-    shared-fit e q = finish-fit (h .only) (shared (p .regions) all) e (result (Done e) q) (shared-merges (p .regions) all) (shared-ids (p .regions) all)
-
-    pub shared-done : (mode : ℕ) → mode ≡ 0 → (e : Encoded) → r ≡ Done e → (l : Lengths) (b : Built) (out ids map log out′ ids′ map′ log′ : List ℕ)
+    pub shared-done : (mode : ℕ) → mode ≡ 0 → (l : Lengths) (b : Built) (out ids map log out′ ids′ map′ log′ : List ℕ)
         → ((k : Packed) → PackedAt k p e w′ → Finished axes (rows.coordsOf job axes w′ starts (p .regions)) k l b out ids map log out′ ids′ map′ log′)
         → Finished axes (coordsOf s) (packedOf mode s) l b out ids map log out′ ids′ map′ log′
-    shared-done mode z e q l b out ids map log out′ ids′ map′ log′ f =
-        finished (h .only) (shared (p .regions) all) (packedOf mode s) l b out ids map log out′ ids′ map′ log′ (shared-is mode z) (f (shared (p .regions) all) (result (Done e) q))
+    shared-done mode z l b out ids map log out′ ids′ map′ log′ f =
+        finished (h .only) (shared (p .regions) all) (packedOf mode s) l b out ids map log out′ ids′ map′ log′ (shared-is mode z) (f (shared (p .regions) all) (h .packed))
 
   -- ---- mode 1
 

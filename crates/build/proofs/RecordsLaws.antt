@@ -28,6 +28,7 @@ use Rattle.build.specs.Late.{Lengths}
 use Rattle.build.specs.Build.{regionBytes, coordsOf, packedOf, answerFrom, answerOf, leftFrom, outAfter, idsAfter, mapAfter, logAfter}
 use Rattle.build.specs.Lent.{Finished, lengths}
 use Rattle.build.specs.Collected.{StartsAt, Collected, RecordsBuilt}
+use Rattle.build.specs.Opened.{Whole}
 use Rattle.build.proofs.CoordLaws.{coords-are}
 
 -- ---- sets held below one word are held below a later one
@@ -151,14 +152,6 @@ records-built axes mode o s b out ids map log out′ ids′ map′ log′ e f =
     rw e (record { answer = f .answer; out-is = f .out-is; ids-is = f .ids-is; map-is = f .map-is; log-is = f .log-is })
 
 -- ---- the whole
-
--- what a build answers and leaves, but for work
-pub record Whole (axes mode : ℕ) (job : List ℕ) (work : ℕ) (b : Built) (out ids map log out′ ids′ map′ log′ : List ℕ) : Type 0 where
-  pub answer : b ≡ answerOf axes mode job work (lengths out ids map log)
-  pub out-is : out′ ≡ outAfter axes mode job work (lengths out ids map log) out
-  pub ids-is : ids′ ≡ idsAfter axes mode job work (lengths out ids map log) ids
-  pub map-is : map′ ≡ mapAfter axes mode job work (lengths out ids map log) map
-  pub log-is : log′ ≡ logAfter axes mode job work (lengths out ids map log) log
 
 by-outcome : (axes mode : ℕ) (job : List ℕ) (work : ℕ) (o : Outcome) (b : Built) (out ids map log out′ ids′ map′ log′ : List ℕ) → outcome axes mode job work ≡ o
     → RecordsBuilt axes mode o b out ids map log out′ ids′ map′ log′ → Whole axes mode job work b out ids map log out′ ids′ map′ log′

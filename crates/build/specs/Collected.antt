@@ -30,10 +30,6 @@ pub record Collected (axes starts : ℕ) (job : List ℕ) (p : Places) (s : Said
   pub coords-are : rows.coordsOf job axes w starts (p .regions) ≡ coordsOf s
   pub no-use : length (s .sets) ≡ 0 → length (s .used) ≡ 0
 
-pub record PackFit (axes starts : ℕ) (job : List ℕ) (p : Places) (w : List ℕ) : Type 0 where
-  pub said : Said
-  pub collected : Collected axes starts job p said w
-
 -- what the records say is answered, and everything lent is as it says
 pub record RecordsBuilt (axes mode : ℕ) (o : Outcome) (r : Built) (out ids map log out′ ids′ map′ log′ : List ℕ) : Type 0 where
   pub answer : r ≡ answerFrom axes mode (lengths out ids map log) o

@@ -2,3 +2,4 @@ pub mod Late
 pub mod Build
 pub mod Lent
 pub mod Collected
+pub mod Opened

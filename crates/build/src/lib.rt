@@ -1,8 +1,9 @@
 // A build, whole: a job's bytes checked, its sets packed, the store, ids, map and log written.
 mod answers;
 mod building;
+mod closing;
 mod finishing;
-mod packing;
+mod opening;
 
 pub use answers::Built;
 pub use answers::Report;

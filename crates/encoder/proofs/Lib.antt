@@ -5,5 +5,5 @@ pub mod NumberLaws
 pub mod ArrangeLaws
 pub mod ReadyLaws
 pub mod SharedLaws
-pub mod ShareLaws
+pub mod GatherLaws
 pub mod OwnLaws

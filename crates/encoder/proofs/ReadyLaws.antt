@@ -4,8 +4,11 @@ use mathlib.Core.List.{List, [], _∷_}
 use Prim.Native.Nat.{ℕ, _+_, _-_, _*_, _≤_, _<_}
 use native.Mathlib.Omega.{arith}
 use lib.ListN.{length, getD}
+use lib.Seq.{ext-getD}
 use Rattle.laws.specs.Bag.{weigh}
+use Rattle.laws.specs.Bounded.{tabulate}
 use Rattle.laws.specs.Every.{All, EachTwo}
+use Rattle.laws.specs.Range.{Apart}
 use Rattle.laws.proofs.Products.{product}
 use Rattle.laws.proofs.EveryLaws.{all-imp, all-and, all-getD, two-getD}
 use Rattle.laws.proofs.Pigeon.{onto}
@@ -22,27 +25,11 @@ use Rattle.groups.proofs.GroupLaws.{before-unlike, groups-some, groups-long, gr
 use Rattle.groups.proofs.AddSteps.{none, groups-length, shape-at}
 use Rattle.merging.specs.declared.tables.Tables.{Tables}
 use Rattle.merging.specs.Lent as merge
-use Rattle.merging.specs.Optimized.{Ready}
+use Rattle.merging.specs.Optimized.{Ready, Optimized}
 use Rattle.merging.proofs.Theorems.{Proper}
 use Rattle.encoder.specs.declared.places.Places.{Places}
 use Rattle.encoder.specs.Places.{Laid}
-use Rattle.encoder.specs.Arranged.{shapesAt, JoinFit}
-
--- where merging finds everything
-abbrev pub tablesOf : Places → ℕ → Tables
-tablesOf p groups = record {
-  regions = p .regions;
-  groups = groups;
-  slots = p .slots;
-  order = p .order;
-  counts = p .counts;
-  place = p .place;
-  rows = p .costs;
-  columns = p .columns;
-  into = p .into;
-  log = p .log;
-  heap = p .heap;
-}
+use Rattle.encoder.specs.Arranged.{shapesAt, tablesOf, JoinFit}
 
 -- the groups stand in the table of shapes as merging reads them
 starting-same : (p : Places) (groups : ℕ) (w : List ℕ) → merge.starting (tablesOf p groups) w ≡ tab.groupsIn (shapesAt p) groups w
@@ -52,6 +39,53 @@ starting-same p groups w = refl
 pub shape-same : (p : Places) (groups : ℕ) (w : List ℕ) (s : ℕ) → merge.shapeIn (tablesOf p groups) w s ≡ tab.shapeIn (shapesAt p) s w
 unfolding merge.shapeIn tab.shapeIn
 shape-same p groups w s = refl
+
+-- so many groups fit where merging finds them
+module _ {p : Places} {groups long : ℕ} (lies : Laid p long) (few : groups ≤ p .room) where
+  slots-to : p .slots + groups * p .regions ≤ p .order
+  slots-to = let q = product (p .room + 1) (p .regions) {a = groups} {b = p .regions} (omega arith) (omega arith) in omega (arith, lies)
+
+  heap-to : p .heap + 3 * merge.room groups ≤ long
+  unfolding merge.room
+  heap-to = let q = product (p .room - 1) (p .room - 1) {a = groups - 1} {b = groups - 1} (omega arith) (omega arith) in omega (arith, lies)
+
+  pub tables-laid : merge.Laid (tablesOf p groups) long
+  tables-laid = record {
+    groups-few = omega (arith, lies);
+    regions-few = omega (arith, lies);
+    slots-end = slots-to;
+    order-end = omega (arith, lies);
+    counts-end = omega (arith, lies);
+    place-end = omega (arith, lies);
+    rows-end = omega (arith, lies);
+    columns-end = omega (arith, lies);
+    into-end = omega (arith, lies);
+    log-end = omega (arith, lies);
+    heap-end = heap-to;
+  }
+
+-- merging of no groups has nothing to ask for but room
+pub ready-none : (p : Places) (w : List ℕ) → merge.Laid (tablesOf p 0) (length w) → Ready (tablesOf p 0) w
+unfolding merge.starting tabulate weigh
+ready-none p w l = record {
+  shaped = record { laid = l; narrow = λ s h. absurd (omega arith) };
+  dealt = record { within = λ i h. absurd (omega arith); apart = λ i j h k. absurd (omega arith) };
+  sets-few = omega arith;
+}
+
+-- and leaves its words as they are
+pub idle : (p : Places) (groups : ℕ) {m v b a : ℕ} {w w′ : List ℕ} → Optimized (tablesOf p groups) m v b a w w′ → groups ≡ 0 → w′ ≡ w
+unfolding merge.room
+idle p groups {w = w} {w′ = w′} o z =
+    let none₀ : groups * p .regions ≡ 0 * p .regions = ap (λ (n : ℕ). n * p .regions) z in
+    let none : groups * p .regions ≡ 0 = omega arith in
+    let gone : 3 * ((groups - 1) * (groups - 1)) ≡ 0 = ap (λ (n : ℕ). 3 * ((n - 1) * (n - 1))) z in
+    let twice : 2 * groups ≡ 0 = omega arith in
+    let late : 3 * (groups - 1) ≡ 0 = omega arith in
+    ext-getD 0 w′ w (o .only .long) (λ i h. o .only .kept i (off (p .slots) (groups * p .regions) i none, (off (p .counts) groups i z, (off (p .place) (2 * groups) i twice, (off (p .costs) groups i z, (off (p .columns) groups i z, (off (p .into) (2 * groups) i twice, (off (p .log) (3 * (groups - 1)) i late, (off (p .heap) (3 * merge.room groups) i gone, tt)))))))))
+  where
+    off : (a n k : ℕ) → n ≡ 0 → Apart a n k 1
+    off a n k e = record { apart = λ h. omega arith }
 
 module _ {p : Places} {groups ids : ℕ} {w : List ℕ} (f : JoinFit p groups ids w) where
   pub groups-fit : groups ≤ p .room
@@ -85,32 +119,11 @@ module _ {p : Places} {groups ids : ℕ} {w : List ℕ} (f : JoinFit p groups id
       let g = all-getD (λ (x : Group). Narrow (x .shape)) (tab.groupsIn (shapesAt p) groups w) (i .0) none (f .grouped .table .narrow) (omega (arith, i .1)) in
       subst Narrow (shape-at (shapesAt p) groups w (i .0) (i .1) ∙ ap (λ (x : ℕ). tab.shapeIn (shapesAt p) x w) (i .2)) g
 
-  pub slots-end : p .slots + groups * p .regions ≤ p .order
-  slots-end = let q = product (p .room + 1) (p .regions) {a = groups} {b = p .regions} (omega (arith, groups-fit)) (omega arith) in omega (arith, f .laid)
-
-  heap-end : p .heap + 3 * merge.room groups ≤ length w
-  unfolding merge.room
-  heap-end =
-      let q = product (p .room - 1) (p .room - 1) {a = groups - 1} {b = groups - 1} (omega (arith, groups-fit)) (omega (arith, groups-fit)) in
-      omega (arith, f .laid)
-
   pub merge-laid : merge.Laid (tablesOf p groups) (length w)
-  merge-laid =
-      let lies = f .laid in
-      let few = groups-fit in
-      record {
-        groups-few = omega arith;
-        regions-few = omega arith;
-        slots-end = slots-end;
-        order-end = omega arith;
-        counts-end = omega arith;
-        place-end = omega arith;
-        rows-end = omega arith;
-        columns-end = omega arith;
-        into-end = omega arith;
-        log-end = omega arith;
-        heap-end = heap-end;
-      }
+  merge-laid = tables-laid (f .laid) groups-fit
+
+  pub slots-end : p .slots + groups * p .regions ≤ p .order
+  slots-end = merge-laid .slots-end
 
   sets-few : weigh (λ x. x .sets) (merge.starting (tablesOf p groups) w) < 4294967296
   sets-few =

@@ -49,11 +49,11 @@ use Rattle.encoder.specs.declared.encoded.Encoded.{Encoded}
 use Rattle.encoder.specs.Packed.{noLater, dense, belongs, finalOf, isAhead, finalsOf, isAmong, shared}
 use Rattle.encoder.specs.Places.{Laid}
 use Rattle.encoder.specs.Lent.{relabel, groupAt, FinalIn, PackedAt}
-use Rattle.encoder.specs.Arranged.{shapesAt, livingAt, lineUp, LineFit, heirSlot, ArrangeFit, Arranged, JoinFit, JoinedGroups}
+use Rattle.encoder.specs.Arranged.{shapesAt, tablesOf, livingAt, lineUp, LineFit, heirSlot, ArrangeFit, Arranged, JoinFit, JoinedGroups}
 use Rattle.encoder.proofs.DenseIds.{set-of-id, dealt-ids}
 use Rattle.encoder.proofs.LivingLaws.{slotOf, living-few, living-shapes, living-line, living-fit, line-long, line-below, line-apart}
 use Rattle.encoder.proofs.NumberLaws.{number-at, among, among-mem, not-among, At, mem-at, at-mem, mem-sorted}
-use Rattle.encoder.proofs.ReadyLaws.{tablesOf, shape-same, groups-fit, starting-are, groups-count-is, slot-below, slot-apart, slot-of, slots-end, merge-laid, proper}
+use Rattle.encoder.proofs.ReadyLaws.{shape-same, groups-fit, starting-are, groups-count-is, slot-below, slot-apart, slot-of, slots-end, merge-laid, proper}
 
 abbrev nobody : Living
 nobody = record { num = 0; group = none; origins = [] }

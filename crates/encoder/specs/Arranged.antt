@@ -11,14 +11,20 @@ use Rattle.laws.specs.Range.{Only, seg}
 use Rattle.laws.specs.Sorting.{sorted, keep}
 use Rattle.sets.specs.Ids.{place, sharedIds, distinct}
 use Rattle.sets.specs.Lent.{setOf, setsIn, atMost, Held}
+use Rattle.groups.specs.Groups.{groupsOf, maxShapes}
 use Rattle.groups.specs.Table.{GroupedInto}
 use Rattle.groups.specs.declared.table.Shapes.{Shapes}
+use Rattle.merging.specs.declared.tables.Tables.{Tables}
+use Rattle.merging.specs.declared.encoder.Merged.{Merged}
+use Rattle.merging.specs.Optimized.{Optimized}
 use Rattle.finals.specs.Living.{noLater, livingIn, LivingFit}
 use Rattle.encoder.specs.Packed.{shared}
 use Rattle.encoder.specs.Places.{Laid}
 use Rattle.encoder.specs.Lent.{groupAt, PackedAt}
 use Rattle.encoder.specs.declared.places.Places.{Places}
 use Rattle.encoder.specs.declared.encoded.Encoded.{Encoded}
+use Rattle.encoder.specs.declared.encoded.Gathering.{Gathering}
+use Rattle.encoder.specs.declared.encoded.Gathering.the-variants.{Full, Groups}
 
 -- the table of shapes; and the same slots with the living in their order
 abbrev pub shapesAt : Places → Shapes
@@ -82,6 +88,37 @@ pub record JoinFit (p : Places) (groups ids : ℕ) (w : List ℕ) : Type 0 where
   pub ids-are : seg (p .ids) (p .sets) w ≡ sharedIds (setsIn 0 (p .sets) w)
   pub ids-is : ids ≡ length (distinct (setsIn 0 (p .sets) w))
   pub grouped : GroupedInto (shapesAt p) 0 (p .sets) (p .kinds) w w groups
+
+-- where merging finds so many groups
+abbrev pub tablesOf : Places → ℕ → Tables
+tablesOf p groups = record {
+  regions = p .regions;
+  groups = groups;
+  slots = p .slots;
+  order = p .order;
+  counts = p .counts;
+  place = p .place;
+  rows = p .costs;
+  columns = p .columns;
+  into = p .into;
+  log = p .log;
+  heap = p .heap;
+}
+
+-- there are too many shapes, or the groups are merging's to join
+abbrev pub Gathers : Places → List ℕ → List ℕ → Gathering → Type 0
+Gathers p old new Full = maxShapes < length (groupsOf (p .regions) (setsIn 0 (p .sets) old))
+Gathers p old new (Groups groups ids) = JoinFit p groups ids new
+
+pub record GatheredAt (p : Places) (old new : List ℕ) (r : Gathering) : Type 0 where
+  pub only : Only ((p .line, length old) ∷ []) old new
+  pub result : Gathers p old new r
+
+-- merging has joined such groups
+pub record RegroupFit (p : Places) (groups ids : ℕ) (m : Merged) (w : List ℕ) : Type 0 where
+  pub old : List ℕ
+  pub fit : JoinFit p groups ids old
+  pub joined : Optimized (tablesOf p groups) (m .merges) (m .weighed) (m .before) (m .after) old w
 
 pub record JoinedGroups (p : Places) (old new : List ℕ) (e : Encoded) : Type 0 where
   pub only : Only ((p .line, length old) ∷ []) old new

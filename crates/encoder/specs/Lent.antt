@@ -8,16 +8,13 @@ use Rattle.laws.specs.Every.{All}
 use Rattle.laws.specs.Range.{Only, seg}
 use Rattle.shapes.specs.Lent.{Narrow}
 use Rattle.sets.specs.Lent.{setOf, setsIn, Held}
-use Rattle.groups.specs.Groups.{groupsOf, maxShapes}
 use Rattle.merging.specs.Held.{words}
 use Rattle.rows.specs.Placing.{Final}
 use Rattle.rows.specs.Lent.{finalAt, finalsAt}
-use Rattle.encoder.specs.Packed.{Packed, shared, own}
+use Rattle.encoder.specs.Packed.{Packed, own}
 use Rattle.encoder.specs.Places.{Laid}
 use Rattle.encoder.specs.declared.places.Places.{Places}
 use Rattle.encoder.specs.declared.encoded.Encoded.{Encoded}
-use Rattle.encoder.specs.declared.encoded.Packing.{Packing}
-use Rattle.encoder.specs.declared.encoded.Packing.the-variants.{Full, Done}
 
 -- n sets are held before the tables
 pub record Fit (p : Places) (w : List ℕ) : Type 0 where
@@ -65,15 +62,6 @@ pub record PackedAt (k : Packed) (p : Places) (e : Encoded) (w : List ℕ) : Typ
   pub weighed-is : e .weighed ≡ k .weighed
   pub before-is : e .before ≡ k .before
   pub after-is : e .after ≡ k .after
-
--- mode 0: there are too many shapes, or all is packed
-abbrev pub Shared : Places → List ℕ → List ℕ → Packing → Type 0
-Shared p old new Full = maxShapes < length (groupsOf (p .regions) (setsIn 0 (p .sets) old))
-Shared p old new (Done e) = PackedAt (shared (p .regions) (setsIn 0 (p .sets) old)) p e new
-
-pub record SharedAt (p : Places) (old new : List ℕ) (r : Packing) : Type 0 where
-  pub only : Only ((p .line, length old) ∷ []) old new
-  pub result : Shared p old new r
 
 -- mode 1
 pub record OwnAt (p : Places) (old new : List ℕ) (e : Encoded) : Type 0 where

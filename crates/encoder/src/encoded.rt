@@ -11,8 +11,8 @@ pub struct Encoded {
     pub after: u64,
 }
 
-// Too many shapes, or what was packed.
-pub enum Packing {
+// Too many shapes, or how many groups there are of how many distinct sets.
+pub enum Gathering {
     Full,
-    Done(Encoded),
+    Groups(usize, usize),
 }

@@ -6,9 +6,11 @@ mod places;
 mod sharing;
 
 pub use encoded::Encoded;
-pub use encoded::Packing;
+pub use encoded::Gathering;
 pub use owning::own;
 pub use places::Places;
 pub use places::lay_out;
 pub use places::log_words;
-pub use sharing::share;
+pub use sharing::gather;
+pub use sharing::regroup;
+pub use sharing::tables;

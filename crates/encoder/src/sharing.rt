@@ -1,23 +1,45 @@
-// Mode 0: equal sets share an id; sets are grouped by shape, groups joined while a pair gains.
+// Mode 0: equal sets share an id, and sets are grouped by shape; merging joins groups while a pair gains; what is left of them is arranged.
 use crate::arranging::arrange;
 use crate::encoded::Encoded;
-use crate::encoded::Packing;
+use crate::encoded::Gathering;
 use crate::places::Places;
 use groups::Added;
 use groups::Shapes;
 use groups::group;
+use merging::Merged;
 use merging::Tables;
-use merging::optimize;
 use sets::identify;
-ghost use Rattle.encoder.specs.Lent.{Fit, SharedAt};
-ghost use Rattle.encoder.specs.Arranged.{JoinFit, JoinedGroups};
+ghost use mathlib.Core.Path.{_≡_};
+ghost use mathlib.Core.List.{List};
+ghost use Prim.Native.Nat.{ℕ};
+ghost use Rattle.merging.specs.Optimized.{Optimized};
+ghost use Rattle.encoder.specs.Lent.{Fit};
+ghost use Rattle.encoder.specs.Arranged.{tablesOf, GatheredAt, JoinFit, RegroupFit, JoinedGroups};
 
-// Joins the groups of the sets, where there are so many, and arranges what is left.
-fn join_groups(work: &mut [u32], p: Places, groups: usize, distinct: usize) -> Encoded
-    requires { ⌜ JoinFit p groups distinct (now work) ⌝ }
-    ensures { λ r. ⌜ JoinedGroups p (now (work .entry)) (now (work .exit)) r ⌝ }
+// Numbers and groups the sets that are held before the tables.
+pub fn gather(work: &mut [u32], p: Places) -> Gathering
+    requires { ⌜ Fit p (now work) ⌝ }
+    ensures { λ r. ⌜ GatheredAt p (now (work .entry)) (now (work .exit)) r ⌝ }
 {
-    let t = Tables {
+    let distinct = identify(work, 0, p.sets, p.line, p.first, p.ids);
+    let t = Shapes {
+        regions: p.regions,
+        room: p.room,
+        slots: p.slots,
+        order: p.order,
+        counts: p.counts,
+    };
+    let Added::Groups(groups) = group(work, t, 0, p.sets, p.first, p.kinds) else {
+        return Gathering::Full;
+    };
+    Gathering::Groups(groups, distinct)
+}
+
+// Where merging finds so many groups.
+pub fn tables(p: Places, groups: usize) -> Tables
+    ensures { λ r. ⌜ r ≡ tablesOf p groups ⌝ }
+{
+    Tables {
         regions: p.regions,
         groups,
         slots: p.slots,
@@ -29,8 +51,14 @@ fn join_groups(work: &mut [u32], p: Places, groups: usize, distinct: usize) -> E
         into: p.into,
         log: p.log,
         heap: p.heap,
-    };
-    let m = optimize(work, t);
+    }
+}
+
+// Arranges what merging has left of so many groups.
+pub fn regroup(work: &mut [u32], p: Places, groups: usize, distinct: usize, m: Merged) -> Encoded
+    requires { ⌜ RegroupFit p groups distinct m (now work) ⌝ }
+    ensures { λ r. ⌜ ((old : List ℕ) → JoinFit p groups distinct old → Optimized (tablesOf p groups) (m .merges) (m .weighed) (m .before) (m .after) old (now (work .entry)) → JoinedGroups p old (now (work .exit)) r) ⌝ }
+{
     let count = arrange(work, p, groups, groups + m.merges);
     Encoded {
         distinct,
@@ -41,23 +69,4 @@ fn join_groups(work: &mut [u32], p: Places, groups: usize, distinct: usize) -> E
         before: m.before,
         after: m.after,
     }
-}
-
-// Packs the sets that are held before the tables.
-pub fn share(work: &mut [u32], p: Places) -> Packing
-    requires { ⌜ Fit p (now work) ⌝ }
-    ensures { λ r. ⌜ SharedAt p (now (work .entry)) (now (work .exit)) r ⌝ }
-{
-    let distinct = identify(work, 0, p.sets, p.line, p.first, p.ids);
-    let t = Shapes {
-        regions: p.regions,
-        room: p.room,
-        slots: p.slots,
-        order: p.order,
-        counts: p.counts,
-    };
-    let Added::Groups(groups) = group(work, t, 0, p.sets, p.first, p.kinds) else {
-        return Packing::Full;
-    };
-    Packing::Done(join_groups(work, p, groups, distinct))
 }

@@ -1,36 +1,26 @@
-use Rattle.job.proofs.CheckLaws.{left-early, left-zeros}
-use Rattle.build.proofs.RecordsLaws.{whole-early, whole-late}
+use Rattle.build.proofs.CloseLaws.{ready-at, joined-at}
 use native.Mathlib.Omega.{arith}
 use borrow.Author.Needs.{needs}
 use Rattle.build.proofs.building.build.Statement.{statement}
 use Rattle.build.proofs.building.build.Tie as tie
 use Rattle.build.proofs.building.build.Reads as reads
 use Rattle.build.proofs.building.build.Lts as lts
-use Rattle.build.proofs.building.build_records.Reads as build-records-reads
-use Rattle.job.proofs.clear.Reads as clear-reads
-use Rattle.job.proofs.early_no.Reads as early-no-reads
-use Rattle.laws.proofs.wide.Reads as wide-reads
+use Rattle.build.proofs.closing.close.Reads as close-reads
+use Rattle.build.proofs.opening.open.Reads as open-reads
+use Rattle.encoder.proofs.tables.Reads as tables-reads
+use Rattle.merging.proofs.optimize.Reads as optimize-reads
 
-early-no-requires : tie.Need-early-no-requires
-early-no-requires c κs = search needs
+open-requires : tie.Need-open-requires
+open-requires c κs = search needs
 
-returns : tie.Need-returns
-returns c =
-    let a = c .before .before .before .before .before .before .before .before .args in
-    let n = c .before .early-no in
-    let h = whole-early (a .axes) (a .mode) (a .job .now) _ (n .result) (n .ensures .0) (c .if1 .taken) (a .out .now) (a .ids .now) (a .map .now) (a .log .now) in
-    (h .answer, (h .out-is, (h .ids-is, (h .map-is, (h .log-is, left-early (a .axes) (a .mode) (a .job .now) (a .work .now) (n .result) (n .ensures .0) (c .if1 .taken))))))
+tables-requires : tie.Need-tables-requires
+tables-requires c κs = search needs
 
-wide-requires : tie.Need-wide-requires
-wide-requires c κs = search needs
+optimize-requires : tie.Need-optimize-requires
+optimize-requires c κs = ready-at _ (c .before .before .before .before .«open» .result) (c .tables .ensures) (c .before .before .before .before .«open» .ensures .ready)
 
-build-records-requires : tie.Need-build-records-requires
-build-records-requires c κs =
-    let o = c .before .before .before .before .before .before .before .early-no .ensures .1 (c .before .before .before .before .before .before .if1 .left) in
-    omega (arith, o .some, o .most, o .few, o .whole, o .enough, c .before .before .before .before .before .wide .ensures)
-
-clear-requires : tie.Need-clear-requires
-clear-requires c κs = search needs
+close-requires : tie.Need-close-requires
+close-requires c κs = record { old = _; mid = _; opened = c .before .before .before .before .before .before .before .before .before .before .before .before .«open» .ensures; joined = joined-at _ (c .before .before .before .before .before .before .before .before .before .before .before .before .«open» .result) (c .before .before .before .before .before .before .before .before .tables .ensures) (c .before .before .before .before .before .before .before .optimize .ensures) }
 
 same-length : tie.Need-same-length
 same-length c = search needs
@@ -47,26 +37,22 @@ same-length-4 c = search needs
 same-length-5 : tie.Need-same-length-5
 same-length-5 c = search needs
 
-returns-2 : tie.Need-returns-2
-returns-2 c =
-    let a = c .before .before .before .before .before .before .before .before .before .before .before .before .before .before .before .before .before .before .before .before .before .before .before .before .before .before .before .before .before .args in
-    let n = c .before .before .before .before .before .before .before .before .before .before .before .before .before .before .before .before .before .before .before .before .before .before .early-no in
-    let z = c .before .before .before .before .before .before .before .before .before .before .before .before .before .before .before .before .before .before .before .before .before .if1 .left in
-    let h = whole-late (a .axes) (a .mode) (a .job .now) _ (n .result) (n .ensures .0) z _ (c .before .before .before .before .before .before .before .before .before .before .before .before .before .before .before .before .before .before .before .before .wide .ensures) _ _ _ _ _ _ _ _ _ (c .before .before .before .before .before .before .before .before .before .before .before .before .before .before .build-records .ensures) in
-    (h .answer, (h .out-is, (h .ids-is, (h .map-is, (h .log-is, left-zeros (a .axes) (a .mode) (a .job .now) (a .work .now) (n .result) (n .ensures .0) z _ _ (c .before .before .before .before .before .before .before .before .before .before .before .before .before .before .build-records .kept .1 .1 .1 .1 .0) (c .before .before .clear .ensures))))))
+returns : tie.Need-returns
+returns c =
+    let h = c .before .before .before .before .before .before .before .before .before .before .close .ensures _ _ (c .before .before .before .before .before .before .before .before .before .before .before .before .before .before .before .before .before .before .before .before .before .before .before .«open» .ensures) (joined-at _ (c .before .before .before .before .before .before .before .before .before .before .before .before .before .before .before .before .before .before .before .before .before .before .before .«open» .result) (c .before .before .before .before .before .before .before .before .before .before .before .before .before .before .before .before .before .before .before .tables .ensures) (c .before .before .before .before .before .before .before .before .before .before .before .before .before .before .before .before .before .before .optimize .ensures)) in
+    (h .whole .answer, (h .whole .out-is, (h .whole .ids-is, (h .whole .map-is, (h .whole .log-is, h .work-is)))))
 
 pub build-spec : {M : Type 1} → statement M
 build-spec =
     tie.close
     (tie.spec
-    early-no-requires
-    returns
-    wide-requires
-    build-records-requires
-    clear-requires
+    open-requires
+    tables-requires
+    optimize-requires
+    close-requires
     same-length
     same-length-2
     same-length-3
     same-length-4
     same-length-5
-    returns-2)
+    returns)

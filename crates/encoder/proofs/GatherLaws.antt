@@ -1,4 +1,4 @@
--- Mode 0 from its start: ids, groups, then what SharedLaws.antt says. Assumes nothing.
+-- Mode 0 up to merging: ids and groups. Assumes nothing.
 use mathlib.Core.Path.{_≡_, refl, sym, ap, subst, _∙_}
 use mathlib.Core.List.{List, [], _∷_}
 use Prim.Native.Nat.{ℕ, _+_, _*_, _≤_, _<_, min}
@@ -21,20 +21,18 @@ use Rattle.groups.specs.Groups.{shapeOf, groupsOf}
 use Rattle.groups.specs.Table as tab
 use Rattle.groups.proofs.GroupLaws.{groups-few}
 use Rattle.encoder.specs.declared.places.Places.{Places}
-use Rattle.encoder.specs.declared.encoded.Encoded.{Encoded}
-use Rattle.encoder.specs.declared.encoded.Packing.{Packing}
-use Rattle.encoder.specs.declared.encoded.Packing.the-variants as packing
-use Rattle.encoder.specs.Packed.{shared}
+use Rattle.encoder.specs.declared.encoded.Gathering.{Gathering}
+use Rattle.encoder.specs.declared.encoded.Gathering.the-variants as gathering
 use Rattle.encoder.specs.Places.{Laid}
-use Rattle.encoder.specs.Lent.{Fit, PackedAt, SharedAt}
-use Rattle.encoder.specs.Arranged.{shapesAt, JoinFit, JoinedGroups}
+use Rattle.encoder.specs.Lent.{Fit}
+use Rattle.encoder.specs.Arranged.{shapesAt, JoinFit, GatheredAt}
 
 module _ {p : Places} {w : List ℕ} (f : Fit p w) where
   lies : Laid p (length w)
   lies = f .laid
 
-  pub share-ids : IdsFit w 0 (p .sets) (p .line) (p .first) (p .ids)
-  share-ids = record {
+  pub gather-ids : IdsFit w 0 (p .sets) (p .line) (p .first) (p .ids)
+  gather-ids = record {
     regions = p .regions;
     end = p .line;
     held = f .held;
@@ -55,8 +53,8 @@ module _ {p : Places} {w : List ℕ} (f : Fit p w) where
     firsts₁ : (x : ℕ) → x < p .sets → getD w₁ (p .first + x) 0 ≡ place (setOf 0 x w₁) (setsIn 0 (p .sets) w₁)
     firsts₁ x h = rw (sets₁, set-same (f .held) kept₁ x h) (d .firsts x h)
 
-    pub share-group : tab.GroupFit (shapesAt p) 0 (p .sets) (p .first) (p .kinds) w₁
-    share-group =
+    pub gather-group : tab.GroupFit (shapesAt p) 0 (p .sets) (p .first) (p .kinds) w₁
+    gather-group =
         let long = d .only .long in
         record {
           end = p .line;
@@ -110,13 +108,8 @@ module _ {p : Places} {w : List ℕ} (f : Fit p w) where
       result : (a : Added) → r ≡ a → tab.Result (shapesAt p) 0 (p .sets) (p .kinds) w₁ w₂ a
       result a e = subst (λ (x : Added). tab.Result (shapesAt p) 0 (p .sets) (p .kinds) w₁ w₂ x) e (g .result)
 
-      pub share-full : r ≡ Full → SharedAt p w w₂ packing.Full
-      share-full e =
-          let n = rw sets₁ at (result Full e) in
-          record {
-            only = only₂;
-            result = omega (arith, lies .room-is, groups-most);
-          }
+      pub gather-full : r ≡ Full → GatheredAt p w w₂ gathering.Full
+      gather-full e = let n = rw sets₁ at (result Full e) in record { only = only₂; result = omega (arith, lies .room-is, groups-most) }
 
       module _ (groups : ℕ) (e : r ≡ Groups groups) where
         abbrev into : tab.GroupedInto (shapesAt p) 0 (p .sets) (p .kinds) w₁ w₂ groups
@@ -133,8 +126,8 @@ module _ {p : Places} {w : List ℕ} (f : Fit p w) where
             seg-ext (p .ids) (p .ids) (p .sets) w₂ w₁ (omega (arith, lies, kept .long)) (omega (arith, lies, d .only .long)) (λ i h. low₂ (p .ids + i) (omega (arith, lies)))
             ∙ d .given ∙ ap sharedIds (sym sets₂)
 
-        pub share-join : JoinFit p groups ids w₂
-        share-join = record {
+        gather-join : JoinFit p groups ids w₂
+        gather-join = record {
           laid = rw (kept .long) lies;
           held = held-kept (f .held) kept;
           line-is = line₂;
@@ -150,8 +143,5 @@ module _ {p : Places} {w : List ℕ} (f : Fit p w) where
           };
         }
 
-        pub share-done : {w₃ : List ℕ} {c : Encoded} → JoinedGroups p w₂ w₃ c → SharedAt p w w₃ (packing.Done c)
-        share-done {w₃} {c} q = record {
-          only = only-trans {rs = (p .line, length w) ∷ []} only₂ (subst (λ (n : ℕ). Only ((p .line, n) ∷ []) w₂ w₃) (kept .long) (q .only));
-          result = subst (λ (l : List Set). PackedAt (shared (p .regions) l) p c w₃) sets₂ (q .packed);
-        }
+        pub gather-groups : GatheredAt p w w₂ (gathering.Groups groups ids)
+        gather-groups = record { only = only₂; result = gather-join }

@@ -2,10 +2,10 @@ use Prim.Native.Nat.{_-_}
 use Rattle.build.proofs.StartLaws.{Starting, starts-begin, start-fits, starts-more, starts-done}
 use borrow.Author.Needs.{needs}
 use native.Mathlib.Omega.{arith}
-use Rattle.build.proofs.building.place_starts.Statement.{statement}
-use Rattle.build.proofs.building.place_starts.Tie as tie
-use Rattle.build.proofs.building.place_starts.Reads as reads
-use Rattle.build.proofs.building.place_starts.Lts as lts
+use Rattle.build.proofs.opening.place_starts.Statement.{statement}
+use Rattle.build.proofs.opening.place_starts.Tie as tie
+use Rattle.build.proofs.opening.place_starts.Reads as reads
+use Rattle.build.proofs.opening.place_starts.Lts as lts
 use Rattle.laws.proofs.wide.Reads as wide-reads
 
 abbrev Inv-loop : tie.InvT-loop
