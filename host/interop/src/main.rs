@@ -10,7 +10,10 @@ fn main() -> ExitCode {
     let said = run(&folder);
     let _ = fs::remove_dir_all(&folder);
     match said {
-        Ok(()) => ExitCode::SUCCESS,
+        Ok(table) => {
+            print!("{table}");
+            ExitCode::SUCCESS
+        }
         Err(wrong) => {
             eprintln!("{wrong}");
             ExitCode::FAILURE
@@ -18,14 +21,12 @@ fn main() -> ExitCode {
     }
 }
 
-fn run(folder: &Path) -> Result<(), String> {
+fn run(folder: &Path) -> Result<String, String> {
     let usual = fonts()?;
     let named: Vec<PathBuf> = env::args_os().skip(1).map(PathBuf::from).collect();
     let fonts = if named.is_empty() { usual } else { named };
     fs::create_dir(folder).map_err(|wrong| format!("{}: {wrong}", folder.display()))?;
     python("jobs", folder, &fonts)?;
     build(folder)?;
-    print!("{}", python("rows", folder, &fonts)?);
-    print!("{}", python("shape", folder, &fonts)?);
-    Ok(())
+    Ok(python("rows", folder, &fonts)? + &python("shape", folder, &fonts)?)
 }
