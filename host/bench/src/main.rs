@@ -4,6 +4,7 @@
 //! `bench` measures and prints all; `bench whole` and `bench merging` a part of it. With
 //! `write` the tables of whole builds go into ../docs/BENCH.md as well.
 
+mod clearing;
 mod clock;
 mod document;
 mod fonts;

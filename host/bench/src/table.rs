@@ -27,9 +27,9 @@ pub fn whole() -> String {
 fn table(line: &mut impl FnMut(String), name: &str, workloads: impl Iterator<Item = Workload>) {
     line(String::new());
     line(format!(
-        "| {name} | records | sets | ids | N | merges | store, bytes | source | warm | fresh | clearing | source / warm | source / fresh | source / (warm - clearing) | ns a record |"
+        "| {name} | records | sets | ids | N | merges | store, bytes | source | warm | fresh | clearing | rest | source / warm | source / fresh | source / rest | rest, ns a record |"
     ));
-    line(format!("|---|{}", "---:|".repeat(14)));
+    line(format!("|---|{}", "---:|".repeat(15)));
     for workload in workloads {
         let measured = measure(&workload);
         line(row(&workload, &measured));
@@ -46,11 +46,11 @@ fn row(workload: &Workload, measured: &Measured) -> String {
     let Best {
         source,
         warm,
-        fresh,
+        before,
         clearing,
+        fresh,
     } = *best;
-    let rest = warm.saturating_sub(clearing);
-    let cells: [&dyn Display; 15] = [
+    let cells: [&dyn Display; 16] = [
         &workload.name,
         records,
         &workload.job.sets.len(),
@@ -62,10 +62,11 @@ fn row(workload: &Workload, measured: &Measured) -> String {
         &ms(warm),
         &ms(fresh),
         &ms(clearing),
+        &ms(before),
         &ratio(source, warm),
         &ratio(source, fresh),
-        &ratio(source, rest),
-        &format!("{:.0}", 1e9 * rest.as_secs_f64() / *records as f64),
+        &ratio(source, before),
+        &format!("{:.0}", 1e9 * before.as_secs_f64() / *records as f64),
     ];
     let cells: String = cells.iter().map(|cell| format!(" {cell} |")).collect();
     format!("|{cells}")

@@ -1,10 +1,10 @@
 //! The times of one workload: whole builds by the source and by the library.
 
-use std::hint::black_box;
 use std::time::{Duration, Instant};
 
 use ivs::{Done, Lent, Packed};
 
+use crate::clearing::split;
 use crate::clock::{cpu_time, time};
 use crate::fresh::Fresh;
 use crate::workloads::Workload;
@@ -25,18 +25,18 @@ pub struct Best {
     pub source: Duration,
     /// The library, with the same work lent each time.
     pub warm: Duration,
+    /// The same without the clearing of work.
+    pub before: Duration,
+    /// The clearing of work alone.
+    pub clearing: Duration,
     /// The library, with work newly mapped.
     pub fresh: Duration,
-    /// Writing zeros to all of the work.
-    pub clearing: Duration,
 }
 
 /// A workload measured.
 pub struct Measured {
     /// Records of the job.
     pub records: usize,
-    /// Words of work.
-    pub work: usize,
     /// The numbers of the build.
     pub done: Done,
     /// The times.
@@ -59,7 +59,6 @@ pub fn measure(workload: &Workload) -> Measured {
     let best = times(workload, &job, work, &mut buffers, done);
     Measured {
         records,
-        work,
         done,
         best,
     }
@@ -143,8 +142,9 @@ fn times(
     let mut best = Best {
         source: Duration::MAX,
         warm: Duration::MAX,
-        fresh: Duration::MAX,
+        before: Duration::MAX,
         clearing: Duration::MAX,
+        fresh: Duration::MAX,
     };
     let began = Instant::now();
     for run in 0..MOST {
@@ -153,10 +153,10 @@ fn times(
         }
         let took = oracle::build_whole(axes as u16, *mode, &job.regions, &job.sets, cpu_time);
         best.source = best.source.min(took.expect("the source is there"));
-        let ((), took) = time(|| build(&mut warm));
-        best.warm = best.warm.min(took);
-        let ((), took) = time(|| clear(&mut warm));
-        best.clearing = best.clearing.min(took);
+        let took = split(&mut warm, &mut build);
+        best.warm = best.warm.min(took.whole);
+        best.before = best.before.min(took.before);
+        best.clearing = best.clearing.min(took.whole - took.before);
         let (work, took) = time(|| {
             let mut work = Fresh::words(words);
             build(work.all());
@@ -166,10 +166,4 @@ fn times(
         best.fresh = best.fresh.min(took);
     }
     best
-}
-
-/// Writes zeros to all of the work, as a build does last.
-fn clear(work: &mut [u32]) {
-    black_box(&mut *work).fill(0);
-    black_box(work);
 }
