@@ -30,7 +30,7 @@ fn main() -> ExitCode {
         return ExitCode::FAILURE;
     }
     let said = |word: &str| asked.iter().any(|other| other == word);
-    let parts = ["whole", "merging"].map(|part| said(part));
+    let parts = [said("whole"), said("merging")];
     let all = parts == [false; 2];
     if all || parts[0] {
         let tables = table::whole();

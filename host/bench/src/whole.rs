@@ -25,10 +25,10 @@ pub struct Best {
     pub source: Duration,
     /// The library, with the same work lent each time.
     pub warm: Duration,
-    /// The same without the clearing of work.
-    pub before: Duration,
-    /// The clearing of work alone.
+    /// Of it the clearing of work.
     pub clearing: Duration,
+    /// And the rest.
+    pub rest: Duration,
     /// The library, with work newly mapped.
     pub fresh: Duration,
 }
@@ -142,8 +142,8 @@ fn times(
     let mut best = Best {
         source: Duration::MAX,
         warm: Duration::MAX,
-        before: Duration::MAX,
         clearing: Duration::MAX,
+        rest: Duration::MAX,
         fresh: Duration::MAX,
     };
     let began = Instant::now();
@@ -155,8 +155,8 @@ fn times(
         best.source = best.source.min(took.expect("the source is there"));
         let took = split(&mut warm, &mut build);
         best.warm = best.warm.min(took.whole);
-        best.before = best.before.min(took.before);
         best.clearing = best.clearing.min(took.whole - took.before);
+        best.rest = best.rest.min(took.before);
         let (work, took) = time(|| {
             let mut work = Fresh::words(words);
             build(work.all());
