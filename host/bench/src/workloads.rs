@@ -29,12 +29,12 @@ pub fn fonts() -> impl Iterator<Item = Workload> {
 pub fn large() -> impl Iterator<Item = Workload> {
     let makers: [fn() -> Workload; 12] = [
         || shared("60,000 sets over 12 regions", twelve_regions()),
-        || own("the same in mode 1", twelve_regions()),
+        || own("60,000 sets over 12 regions, mode 1", twelve_regions()),
         || shared("200,000 sets, under 2,000 distinct", few_distinct()),
         || shared("40,000 sets over 40 regions, mixed widths", forty_regions()),
         || {
             let job = in_any_order(forty_regions());
-            shared("the same, values in any order", job)
+            shared("40,000 sets over 40 regions, values in any order", job)
         },
         || many_shapes(Kind::Half),
         || many_shapes(Kind::Dense),
@@ -43,7 +43,7 @@ pub fn large() -> impl Iterator<Item = Workload> {
         || shared("the record limit, over 256 regions", edges::most_records()),
         || {
             let job = in_any_order(edges::most_records());
-            shared("the same, values in any order", job)
+            shared("the record limit, values in any order", job)
         },
         || shared("the record limit, 1,024 shapes", most_and_shapes()),
     ];
