@@ -3,7 +3,7 @@
 #   make run    the proved build on the example that ships
 #   make test   everything that is tested: what .ci/run runs
 #   make check  the proofs alone, what changed since they last passed
-#   make bench  the times of the proved merging beside the source's; docs/BENCH.md
+#   make bench  the times of the library beside the source's; docs/BENCH.md
 #   make fmt    the layout of every file
 
 .PHONY: run test bench check fmt

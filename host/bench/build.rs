@@ -1,5 +1,6 @@
 //! Has Rattle prove the crate `merging_bench` and compile it, and links what it
 //! wrote. A crate that was proved before and has not changed is not proved again.
+//! Every `memset` of the program is brought to src/clearing.rs.
 
 use std::env;
 use std::fs;
@@ -33,4 +34,5 @@ fn main() {
     fs::copy(written, out.join(archive)).expect("Rattle has written the archive");
     println!("cargo:rustc-link-search=native={}", out.display());
     println!("cargo:rustc-link-lib=static=merging_bench");
+    println!("cargo:rustc-link-arg=-Wl,--wrap=memset");
 }

@@ -96,7 +96,7 @@ pub fn input(kind: Kind, shapes: usize, regions: usize, seed: u64) -> Input {
 
 /// A set of that shape. (No -128 and no -32,768: they are narrower than 128 and
 /// 32,768.)
-fn row(rng: &mut Rng, shape: &[u32]) -> Vec<(u8, i32)> {
+pub fn row(rng: &mut Rng, shape: &[u32]) -> Vec<(u8, i32)> {
     let mut row = Vec::new();
     for (r, &width) in shape.iter().enumerate() {
         let size = match width {

@@ -1,111 +1,51 @@
-//! The times of merging: the proved library's beside the source's, on the same
-//! inputs in one run. Both must have made the same merges before a time is told.
+//! The times of the proved library beside the source's, on the same inputs in one run:
+//! whole builds, and merging alone. Both must have given the same before a time is told.
+//!
+//! `bench` measures and prints all; `bench whole` and `bench merging` a part of it. With
+//! `write` the tables of whole builds go into ../docs/BENCH.md as well.
 
+mod clearing;
+mod clock;
+mod document;
+mod fonts;
+mod fresh;
 mod inputs;
 mod library;
+mod merging;
+mod table;
+mod whole;
+mod workloads;
 
+use std::env;
 use std::process::ExitCode;
-use std::time::{Duration, Instant};
-
-use inputs::{input, Input, Kind};
-
-/// Kind, shapes, regions.
-const INPUTS: [(Kind, usize, usize); 8] = [
-    (Kind::Half, 64, 16),
-    (Kind::Half, 256, 64),
-    (Kind::Half, 1024, 64),
-    (Kind::Half, 1024, 256),
-    (Kind::Dense, 1024, 64),
-    (Kind::Dense, 1024, 256),
-    (Kind::Sparse, 1024, 64),
-    (Kind::Sparse, 1024, 256),
-];
-
-/// The best of at least so many runs is told, and of more where they are short.
-const RUNS: usize = 5;
-
-/// How long the runs of an input go on at least, up to [`MOST`].
-const ENOUGH: Duration = Duration::from_secs(2);
-
-/// The most runs of an input.
-const MOST: usize = 200;
-
-const SEED: u64 = 20_261_115;
-
-/// The best times.
-struct Best {
-    library: Duration,
-    optimize: Duration,
-    build: Duration,
-}
 
 fn main() -> ExitCode {
     if !oracle::PRESENT {
         eprintln!("bench: built without the source (FENIKEZO_SOURCE names its folder)");
         return ExitCode::FAILURE;
     }
-    println!(
-        "Best of {RUNS} to {MOST} runs, in ms of processor time. merge: merging alone; build: the source's whole."
-    );
-    println!();
-    println!("| shapes x regions | kind | merges | pairs weighed | source: build | source: merge | library: merge | source / library |");
-    println!("|---|---|---:|---:|---:|---:|---:|---:|");
-    for (kind, shapes, regions) in INPUTS {
-        let input = input(kind, shapes, regions, SEED);
-        let (merges, weighed) = same(&input);
-        let best = times(&input);
-        // Listening costs the source something; its whole build, unheard, bounds that.
-        let source = best.optimize.min(best.build);
-        let ratio = source.as_secs_f64() / best.library.as_secs_f64();
-        println!(
-            "| {shapes} x {regions} | {} | {merges} | {weighed} | {:.2} | {:.2} | {:.2} | {ratio:.2} |",
-            kind.name(),
-            ms(best.build),
-            ms(best.optimize),
-            ms(best.library),
-        );
+    let asked: Vec<String> = env::args().skip(1).collect();
+    if let Some(word) = asked.iter().find(|word| !WORDS.contains(&word.as_str())) {
+        eprintln!("bench: '{word}' is none of {}", WORDS.join(", "));
+        return ExitCode::FAILURE;
+    }
+    let said = |word: &str| asked.iter().any(|other| other == word);
+    let parts = [said("whole"), said("merging")];
+    let all = parts == [false; 2];
+    if all || parts[0] {
+        let tables = table::whole();
+        if said("write") {
+            if let Err(error) = document::write(&tables) {
+                eprintln!("bench: {}: {error}", document::PATH);
+                return ExitCode::FAILURE;
+            }
+        }
+    }
+    if all || parts[1] {
+        merging::print();
     }
     ExitCode::SUCCESS
 }
 
-/// The number of merges and of pairs weighed, once both agree on the groups, on
-/// each merge and on the modelled sizes.
-fn same(input: &Input) -> (usize, u64) {
-    let job = &input.job;
-    let (_, trace) = oracle::build_traced(job.axes as u16, 0, &job.regions, &job.sets)
-        .expect("the source is there");
-    let ours = library::optimize(&input.groups, &input.order, &mut Vec::new());
-    assert_eq!(trace.shapes, input.groups.len() as u64, "groups");
-    assert!(trace.log == ours.log, "the merges differ");
-    assert_eq!([trace.size_before, trace.size_after], ours.sizes, "sizes");
-    (ours.log.len() / 3, ours.weighed)
-}
-
-/// The best times of several runs, in turn, so that both meet the same machine.
-fn times(input: &Input) -> Best {
-    let job = &input.job;
-    let mut work = Vec::new();
-    let mut best = Best {
-        library: Duration::MAX,
-        optimize: Duration::MAX,
-        build: Duration::MAX,
-    };
-    let began = Instant::now();
-    for run in 0..MOST {
-        if run >= RUNS && began.elapsed() >= ENOUGH {
-            break;
-        }
-        let source =
-            oracle::build_timed(job.axes as u16, &job.regions, &job.sets, library::cpu_time)
-                .expect("the source is there");
-        let ours = library::optimize(&input.groups, &input.order, &mut work);
-        best.optimize = best.optimize.min(source.optimize);
-        best.build = best.build.min(source.build);
-        best.library = best.library.min(ours.took);
-    }
-    best
-}
-
-fn ms(time: Duration) -> f64 {
-    1000.0 * time.as_secs_f64()
-}
+/// What may be asked for.
+const WORDS: [&str; 3] = ["whole", "merging", "write"];

@@ -8,7 +8,7 @@
 //! recorded answers, for where the source is not.
 //!
 //! The source tells what it merges by `log::trace!`; [`build_traced`] listens, and
-//! [`build_timed`] takes times.
+//! [`build_timed`] and [`build_whole`] take times.
 
 mod placing;
 pub mod tables;
@@ -50,9 +50,8 @@ pub type Set = Vec<(u8, i32)>;
 /// # Panics
 /// Where the source does: in mode 1 above 65,535 sets.
 pub fn build(axes: u16, mode: u32, regions: &[Region], sets: &[Set]) -> Option<Built> {
-    let regions: Vec<VariationRegion> = regions.iter().map(region).collect();
     let untimed = || Duration::ZERO;
-    ask(axes, mode, &regions, sets, untimed).map(|(built, _)| built)
+    ask(axes, mode, given(regions, sets), untimed).map(|(built, _)| built)
 }
 
 /// [`build`], with what the source tells of its merging.
@@ -83,10 +82,28 @@ pub fn build_timed(
     sets: &[Set],
     now: fn() -> Duration,
 ) -> Option<Times> {
-    let regions: Vec<VariationRegion> = regions.iter().map(region).collect();
-    let (_, build) = trace::quietly(|| ask(axes, 0, &regions, sets, now))?;
-    let (_, optimize) = trace::time(now, || ask(axes, 0, &regions, sets, now));
-    optimize.map(|optimize| Times { build, optimize })
+    let sets_given = given(regions, sets);
+    let (_, spent) = trace::quietly(|| ask(axes, 0, sets_given, now))?;
+    let sets_given = given(regions, sets);
+    let (_, optimize) = trace::time(now, || ask(axes, 0, sets_given, now));
+    optimize.map(|optimize| Times {
+        build: spent.build,
+        optimize,
+    })
+}
+
+/// Builds once with the source, with nobody listening, and takes the time by `now` from
+/// its empty builder on: every set added, and the store and the map built. The sets are
+/// there in the source's own types before. Not for where another thread listens.
+pub fn build_whole(
+    axes: u16,
+    mode: u32,
+    regions: &[Region],
+    sets: &[Set],
+    now: fn() -> Duration,
+) -> Option<Duration> {
+    let sets_given = given(regions, sets);
+    trace::quietly(|| ask(axes, mode, sets_given, now)).map(|(_, spent)| spent.whole)
 }
 
 fn region(region: &Region) -> VariationRegion {
@@ -94,28 +111,44 @@ fn region(region: &Region) -> VariationRegion {
     VariationRegion::new(region.iter().map(axis).collect())
 }
 
-/// What the source answers, and how long its `build` took by `now`.
+/// A set in the source's own types.
+type Given = Vec<(VariationRegion, i32)>;
+
+fn given(regions: &[Region], sets: &[Set]) -> Vec<Given> {
+    let regions: Vec<VariationRegion> = regions.iter().map(region).collect();
+    let value = |v: &(u8, i32)| (regions[v.0 as usize].clone(), v.1);
+    sets.iter()
+        .map(|set| set.iter().map(value).collect())
+        .collect()
+}
+
+/// How long the source took by a clock: all of it, and its `build` alone.
+#[derive(Clone, Copy)]
+struct Spent {
+    whole: Duration,
+    build: Duration,
+}
+
+/// What the source answers, and how long it took by `now`.
 #[cfg(source)]
-fn ask(
-    axes: u16,
-    mode: u32,
-    regions: &[VariationRegion],
-    sets: &[Set],
-    now: fn() -> Duration,
-) -> Option<(Built, Duration)> {
+fn ask(axes: u16, mode: u32, sets: Vec<Given>, now: fn() -> Duration) -> Option<(Built, Spent)> {
+    let began = now();
     let mut builder = if mode == 0 {
         VariationStoreBuilder::new(axes)
     } else {
         VariationStoreBuilder::new_with_implicit_indices(axes)
     };
-    let value = |v: &(u8, i32)| (regions[v.0 as usize].clone(), v.1);
     let ids: Vec<u32> = sets
-        .iter()
-        .map(|set| builder.add_deltas(set.iter().map(value).collect::<Vec<_>>()))
+        .into_iter()
+        .map(|set| builder.add_deltas(set))
         .collect();
-    let began = now();
+    let added = now();
     let (store, remapping) = builder.build();
-    let took = now() - began;
+    let built = now();
+    let spent = Spent {
+        whole: built - began,
+        build: built - added,
+    };
     let last = ids.iter().max().map_or(0, |&id| id + 1);
     let word = |id: u32| {
         let index = remapping.get(id).expect("the source maps every id");
@@ -126,17 +159,11 @@ fn ask(
         map: (0..last).map(word).collect(),
         ids,
     };
-    Some((built, took))
+    Some((built, spent))
 }
 
 #[cfg(not(source))]
-fn ask(
-    _: u16,
-    _: u32,
-    _: &[VariationRegion],
-    _: &[Set],
-    _: fn() -> Duration,
-) -> Option<(Built, Duration)> {
+fn ask(_: u16, _: u32, _: Vec<Given>, _: fn() -> Duration) -> Option<(Built, Spent)> {
     None
 }
 

@@ -1,0 +1,169 @@
+//! The times of one workload: whole builds by the source and by the library.
+
+use std::time::{Duration, Instant};
+
+use ivs::{Done, Lent, Packed};
+
+use crate::clearing::split;
+use crate::clock::{cpu_time, time};
+use crate::fresh::Fresh;
+use crate::workloads::Workload;
+
+/// The best of at least so many runs is told, and of more where they are short.
+pub const RUNS: usize = 5;
+
+/// How long the runs of a workload go on at least, up to [`MOST`].
+const ENOUGH: Duration = Duration::from_secs(4);
+
+/// The most runs of a workload.
+pub const MOST: usize = 400;
+
+/// The best times of a workload.
+#[derive(Clone, Copy)]
+pub struct Best {
+    /// The source, from its empty builder to store and map.
+    pub source: Duration,
+    /// The library, with the same work lent each time.
+    pub warm: Duration,
+    /// Of it the clearing of work.
+    pub clearing: Duration,
+    /// And the rest.
+    pub rest: Duration,
+    /// The library, with work newly mapped.
+    pub fresh: Duration,
+}
+
+/// A workload measured.
+pub struct Measured {
+    /// Records of the job.
+    pub records: usize,
+    /// The numbers of the build.
+    pub done: Done,
+    /// The times.
+    pub best: Best,
+}
+
+/// Measures a workload, once the source and the library have given the same.
+///
+/// # Panics
+/// Where they differ, or without the source.
+pub fn measure(workload: &Workload) -> Measured {
+    let job = workload.job.to_bytes();
+    let records = workload.job.records();
+    let axes = workload.job.axes as u32;
+    let packed = ivs::pack(axes, workload.mode, &job).expect("the job is built");
+    let done = packed.done;
+    let mut buffers = Buffers::like(&packed);
+    same(workload, packed);
+    let work = ivs::work_words(records);
+    let best = times(workload, &job, work, &mut buffers, done);
+    Measured {
+        records,
+        done,
+        best,
+    }
+}
+
+/// Store, ids, map, log, N and sizes are the source's.
+fn same(workload: &Workload, packed: Packed) {
+    let done = plain::Done {
+        counts: counts(&packed.done),
+        store: packed.store,
+        ids: packed.ids,
+        map: packed.map,
+        log: packed.log,
+    };
+    let held = differential::check::source(&workload.job, workload.mode, &done);
+    held.unwrap_or_else(|what| panic!("{}: {what}", workload.name));
+}
+
+/// The library's counts, by the plain reading's names.
+fn counts(done: &Done) -> plain::Counts {
+    plain::Counts {
+        store_bytes: done.store_bytes,
+        subtables: done.subtables,
+        regions_kept: done.regions_kept,
+        distinct_ids: done.distinct_ids,
+        shapes: done.shapes,
+        merges: done.merges,
+        pairs: done.pairs,
+        size_before: done.size_before,
+        size_after: done.size_after,
+        forecast: done.forecast,
+    }
+}
+
+/// What is lent beside work.
+struct Buffers {
+    out: Vec<u8>,
+    ids: Vec<u32>,
+    map: Vec<u32>,
+    log: Vec<u32>,
+}
+
+impl Buffers {
+    /// As much as that build filled, and for the log what any could ask for.
+    fn like(packed: &Packed) -> Buffers {
+        Buffers {
+            out: vec![0; packed.store.len()],
+            ids: vec![0; packed.ids.len()],
+            map: vec![0; packed.map.len()],
+            log: vec![0; 3 * 1_023],
+        }
+    }
+
+    fn lent<'a>(&'a mut self, work: &'a mut [u32]) -> Lent<'a> {
+        Lent {
+            work,
+            out: &mut self.out,
+            ids: &mut self.ids,
+            map: &mut self.map,
+            log: &mut self.log,
+        }
+    }
+}
+
+/// The best times of several runs, in turn, so that all meet the same machine.
+fn times(
+    workload: &Workload,
+    bytes: &[u8],
+    words: usize,
+    buffers: &mut Buffers,
+    due: Done,
+) -> Best {
+    let Workload { mode, job, .. } = workload;
+    let axes = job.axes as u32;
+    let mut build = |work: &mut [u32]| {
+        let done = ivs::build_into(axes, *mode, bytes, &mut buffers.lent(work));
+        assert_eq!(done, Ok(due), "the same each time");
+    };
+    let mut warm = vec![0; words];
+    build(&mut warm);
+    let mut best = Best {
+        source: Duration::MAX,
+        warm: Duration::MAX,
+        clearing: Duration::MAX,
+        rest: Duration::MAX,
+        fresh: Duration::MAX,
+    };
+    let began = Instant::now();
+    for run in 0..MOST {
+        if run >= RUNS && began.elapsed() >= ENOUGH {
+            break;
+        }
+        let took = oracle::build_whole(axes as u16, *mode, &job.regions, &job.sets, cpu_time);
+        best.source = best.source.min(took.expect("the source is there"));
+        let took = split(&mut warm, &mut build);
+        best.warm = best.warm.min(took.whole);
+        best.clearing = best.clearing.min(took.whole - took.before);
+        best.rest = best.rest.min(took.before);
+        let (work, took) = time(|| {
+            let mut work = Fresh::words(words);
+            build(work.all());
+            work
+        });
+        drop(work);
+        best.fresh = best.fresh.min(took);
+    }
+    best
+}
