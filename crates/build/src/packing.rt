@@ -10,7 +10,7 @@ ghost use mathlib.Core.Path.{_≡_};
 ghost use Prim.Native.Nat.{_≤_};
 ghost use mathlib.Core.List.{[]};
 ghost use lib.ListN.{length};
-ghost use Rattle.job.specs.Job.{Said};
+ghost use Rattle.said.specs.Job.{Said};
 ghost use Rattle.encoder.specs.Packed.{own};
 ghost use Rattle.build.specs.Lent.{Finished, lengths};
 ghost use Rattle.build.specs.Build.{coordsOf, packedOf};

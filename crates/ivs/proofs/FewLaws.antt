@@ -8,10 +8,10 @@ use lib.Dec.{eqb}
 use lib.ListN.{length, drop}
 use Rattle.laws.specs.Pick.{pick}
 use Rattle.laws.specs.Every.{All}
-use Rattle.job.specs.Records.{kind, axisKind, valueKind, endKind, regionOf, valueWord}
-use Rattle.job.specs.Refusals.{firstFailed, earlyNo, axisNo, valueNo, endNo}
-use Rattle.job.specs.Sets.{regionList, firstLike, has}
-use Rattle.job.specs.Job.{Said, State, inAxes, inSets, Step, stop, on, Outcome, refused, fine, unless, afterValue, afterEnd, valueStep, endStep, setStep, regionsOnly, step, endedSets, ended, follow, walk, outcomeFrom, outcome}
+use Rattle.said.specs.Records.{kind, axisKind, valueKind, endKind, regionOf, valueWord}
+use Rattle.said.specs.Refusals.{firstFailed, earlyNo, axisNo, valueNo, endNo}
+use Rattle.said.specs.Sets.{regionList, firstLike, has}
+use Rattle.said.specs.Job.{Said, State, inAxes, inSets, Step, stop, on, Outcome, refused, fine, unless, afterValue, afterEnd, valueStep, endStep, setStep, regionsOnly, step, endedSets, ended, follow, walk, outcomeFrom, outcome}
 use Rattle.encoder.specs.Packed.{Packed}
 use Rattle.build.specs.Late.{Lent, lateNo, lateAnswer, reportOf}
 use Rattle.build.specs.declared.answers.Built.{Built}
