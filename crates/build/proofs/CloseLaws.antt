@@ -8,7 +8,7 @@ use lib.ListN.{length, replicate}
 use Rattle.merging.specs.declared.encoder.Merged.{Merged}
 use Rattle.merging.specs.declared.tables.Tables.{Tables}
 use Rattle.merging.specs.Optimized.{Ready, Optimized}
-use Rattle.job.specs.Job.{Said, Outcome, refused, fine, inAxes, walk}
+use Rattle.said.specs.Job.{Said, Outcome, refused, fine, inAxes, walk}
 use Rattle.job.proofs.CheckLaws.{left-early, left-zeros}
 use Rattle.encoder.specs.declared.places.Places.{Places}
 use Rattle.encoder.specs.declared.encoded.Encoded.{Encoded}

@@ -16,9 +16,9 @@ use Rattle.laws.proofs.Products.{row-fits}
 use Rattle.laws.proofs.RangeLaws.{seg-add, seg-cons, seg-none}
 use Rattle.rows.specs.Placing.{joinAll}
 use Rattle.rows.specs.Lent.{chain, coordsAt, coordsOf}
-use Rattle.job.specs.Sets.{coordinates, regionList}
-use Rattle.job.proofs.RecordLaws.{be-two}
-use Rattle.job.proofs.RegionLaws.{regions-at}
+use Rattle.said.specs.Sets.{coordinates, regionList}
+use Rattle.said.proofs.RecordLaws.{be-two}
+use Rattle.said.proofs.RegionLaws.{regions-at}
 use Rattle.build.specs.Build.{regionBytes}
 
 two-bytes : (a b : ℕ) → a < 256 → b < 256 → bytesOf 2 (a * 256 + b) ≡ a ∷ b ∷ []

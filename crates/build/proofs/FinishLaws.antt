@@ -23,7 +23,7 @@ use Rattle.rows.specs.Placing.{Final, allRuns, idWords, names, keptOf, storeOf,
 use Rattle.rows.specs.Lent.{Drafted, Planned, Ready, coordsAt, coordsOf, finalAt, finalsAt, markedIn, setAt, sizesAt, stored}
 use Rattle.rows.proofs.RegionLaws.{kept-most}
 use Rattle.rows.proofs.PlacedLaws.{planned, draft-exact, tables-count}
-use Rattle.job.specs.Refusals.{firstFailed, shapesFull, idsShort, mapShort, logShort, outShort}
+use Rattle.said.specs.Refusals.{firstFailed, shapesFull, idsShort, mapShort, logShort, outShort}
 use Rattle.encoder.specs.declared.places.Places.{Places}
 use Rattle.encoder.specs.declared.encoded.Encoded.{Encoded}
 use Rattle.encoder.specs.Packed.{Packed}

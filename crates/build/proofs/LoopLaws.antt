@@ -13,7 +13,7 @@ use Rattle.laws.proofs.BytesLaws.{over-length}
 use Rattle.laws.proofs.Cases.{lt-or-ge}
 use Rattle.laws.proofs.RangeLaws.{length-seg, seg-none, seg-snoc}
 use Rattle.rows.proofs.OverLaws.{over-none, over-join, set-over}
-use Rattle.job.specs.Refusals.{firstFailed}
+use Rattle.said.specs.Refusals.{firstFailed}
 use Rattle.build.specs.Lent.{RowsNamed, RoomFor, shortNo}
 
 -- ---- naming rows: those before q are named

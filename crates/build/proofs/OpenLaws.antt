@@ -10,8 +10,8 @@ use Rattle.sets.specs.Set.{Set}
 use Rattle.groups.specs.Groups.{groupsOf, maxShapes}
 use Rattle.merging.specs.Lent as merge
 use Rattle.merging.specs.Optimized.{Ready}
-use Rattle.job.specs.Refusals.{earlyNo}
-use Rattle.job.specs.Job.{Said, Outcome, refused, fine, inAxes, walk}
+use Rattle.said.specs.Refusals.{earlyNo}
+use Rattle.said.specs.Job.{Said, Outcome, refused, fine, inAxes, walk}
 use Rattle.encoder.specs.declared.places.Places.{Places}
 use Rattle.encoder.specs.declared.encoded.Gathering.{Gathering}
 use Rattle.encoder.specs.declared.encoded.Gathering.the-variants.{Full, Groups}

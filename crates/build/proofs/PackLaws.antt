@@ -26,8 +26,8 @@ use Rattle.groups.specs.Groups.{groupsOf, maxShapes}
 use Rattle.merging.specs.Model.{merged}
 use Rattle.merging.proofs.Theorems.{fewer, none-of-none}
 use Rattle.rows.specs.Lent as rows
-use Rattle.job.specs.Refusals.{firstFailed}
-use Rattle.job.specs.Job.{Said}
+use Rattle.said.specs.Refusals.{firstFailed}
+use Rattle.said.specs.Job.{Said}
 use Rattle.encoder.specs.declared.places.Places.{Places}
 use Rattle.encoder.specs.declared.encoded.Encoded.{Encoded}
 use Rattle.encoder.specs.Packed.{Packed, shared, own}

@@ -13,12 +13,12 @@ use Rattle.sets.specs.Set.{Set}
 use Rattle.sets.specs.Lent.{Held, setsIn}
 use Rattle.sets.proofs.HeldLaws.{Kept, kept-only, held-kept, sets-same, sets-length}
 use Rattle.rows.specs.Lent as rows
-use Rattle.job.specs.Refusals.{publishedWork, earlyNo}
-use Rattle.job.specs.Sets.{Region, regionList}
-use Rattle.job.specs.Job.{Said, Outcome, refused, fine, inAxes, walk, outcomeFrom, outcome}
+use Rattle.said.specs.Refusals.{publishedWork, earlyNo}
+use Rattle.said.specs.Sets.{Region, regionList}
+use Rattle.said.specs.Job.{Said, Outcome, refused, fine, inAxes, walk, outcomeFrom, outcome}
 use Rattle.job.specs.Lent.{JobHeld, JobRead}
 use Rattle.job.proofs.CheckLaws.{early-first, none-early}
-use Rattle.job.proofs.SaidLaws.{Counts, counts, room-of, no-use}
+use Rattle.said.proofs.SaidLaws.{Counts, counts, room-of, no-use}
 use Rattle.encoder.specs.declared.places.Places.{Places}
 use Rattle.encoder.specs.Places.{PlacesAt}
 use Rattle.encoder.proofs.PlacesLaws.{laid}

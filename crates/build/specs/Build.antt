@@ -5,8 +5,8 @@ use lib.Dec.{eqb}
 use lib.ListN.{length, getD}
 use Rattle.laws.specs.Pick.{pick}
 use Rattle.laws.specs.Bytes.{bytesOf}
-use Rattle.job.specs.Sets.{Region}
-use Rattle.job.specs.Job.{Said, Outcome, refused, fine, outcome}
+use Rattle.said.specs.Sets.{Region}
+use Rattle.said.specs.Job.{Said, Outcome, refused, fine, outcome}
 use Rattle.encoder.specs.Packed.{Packed, shared, own}
 use Rattle.build.specs.declared.answers.Built.{Built}
 use Rattle.build.specs.declared.answers.Built.the-variants.{Refused}

@@ -6,7 +6,7 @@ use lib.ListN.{length, getD}
 use Rattle.laws.specs.Range.{Only}
 use Rattle.sets.specs.Lent.{setsIn}
 use Rattle.rows.specs.Lent as rows
-use Rattle.job.specs.Job.{Said, Outcome}
+use Rattle.said.specs.Job.{Said, Outcome}
 use Rattle.encoder.specs.Lent.{Fit}
 use Rattle.encoder.specs.declared.places.Places.{Places}
 use Rattle.build.specs.declared.answers.Built.{Built}

@@ -10,7 +10,7 @@ use Rattle.groups.specs.Groups.{maxShapes}
 use Rattle.merging.specs.Held.{words}
 use Rattle.rows.specs.Placing.{storeOf, allRuns, idWords, keptOf, forecastOf}
 use Rattle.rows.specs.Lent.{stored}
-use Rattle.job.specs.Refusals.{firstFailed, shapesFull, idsShort, mapShort, logShort, outShort}
+use Rattle.said.specs.Refusals.{firstFailed, shapesFull, idsShort, mapShort, logShort, outShort}
 use Rattle.encoder.specs.Packed.{Packed}
 use Rattle.build.specs.declared.answers.Report.{Report}
 use Rattle.build.specs.declared.answers.Built.{Built}

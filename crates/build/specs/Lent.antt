@@ -8,7 +8,7 @@ use Rattle.laws.specs.Bytes.{over}
 use Rattle.laws.specs.Range.{Only, seg}
 use Rattle.rows.specs.Placing.{storeOf, allRuns, idWords, forecastOf}
 use Rattle.rows.specs.Lent.{Sourced, coordsOf, finalsAt, setAt, stored}
-use Rattle.job.specs.Refusals.{firstFailed, idsShort, mapShort, logShort, outShort}
+use Rattle.said.specs.Refusals.{firstFailed, idsShort, mapShort, logShort, outShort}
 use Rattle.encoder.specs.Packed.{Packed}
 use Rattle.encoder.specs.Lent.{PackedAt, relabel}
 use Rattle.encoder.specs.declared.places.Places.{Places}

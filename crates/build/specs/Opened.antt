@@ -7,8 +7,8 @@ use lib.ListN.{length}
 use Rattle.groups.specs.Groups.{groupsOf, maxShapes}
 use Rattle.merging.specs.declared.encoder.Merged.{Merged}
 use Rattle.merging.specs.Optimized.{Ready, Optimized}
-use Rattle.job.specs.Refusals.{earlyNo}
-use Rattle.job.specs.Job.{Said, Outcome, refused, fine, inAxes, walk}
+use Rattle.said.specs.Refusals.{earlyNo}
+use Rattle.said.specs.Job.{Said, Outcome, refused, fine, inAxes, walk}
 use Rattle.job.specs.Check.{workLeft}
 use Rattle.encoder.specs.declared.places.Places.{Places}
 use Rattle.encoder.specs.Arranged.{tablesOf, JoinFit}

@@ -13,7 +13,7 @@ ghost use mathlib.Core.Path.{_≡_};
 ghost use mathlib.Core.List.{List, []};
 ghost use Prim.Native.Nat.{ℕ, _≤_};
 ghost use lib.ListN.{length};
-ghost use Rattle.job.specs.Job.{Outcome};
+ghost use Rattle.said.specs.Job.{Outcome};
 ghost use Rattle.encoder.specs.Packed.{own};
 ghost use Rattle.build.specs.Lent.{Finished, lengths};
 ghost use Rattle.build.specs.Collected.{RecordsBuilt};

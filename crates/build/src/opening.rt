@@ -10,8 +10,8 @@ ghost use mathlib.Core.Path.{_≡_};
 ghost use mathlib.Core.Bool.{true, false};
 ghost use Prim.Native.Nat.{ℕ, _+_, _*_, _/_, _<_, _≤_};
 ghost use lib.ListN.{length, getD};
-ghost use Rattle.job.specs.Refusals.{publishedWork};
-ghost use Rattle.job.specs.Job.{walk, inAxes};
+ghost use Rattle.said.specs.Refusals.{publishedWork};
+ghost use Rattle.said.specs.Job.{walk, inAxes};
 ghost use Rattle.build.specs.Collected.{StartsAt};
 ghost use Rattle.build.specs.Opened.{noPlaces, refusedAt, ReadAt, OpenedAt};
 

@@ -20,12 +20,12 @@ use Rattle.groups.specs.Groups.{maxShapes}
 use Rattle.merging.specs.Held.{words}
 use Rattle.rows.specs.Placing.{allRuns, idWords}
 use Rattle.rows.specs.Lent.{stored}
-use Rattle.job.specs.Records.{recordBytes}
-use Rattle.job.specs.Sets.{Region}
-use Rattle.job.specs.Job.{Said, Outcome, refused, fine, inAxes, walk, outcome}
-use Rattle.job.specs.Inner.{Open}
-use Rattle.job.proofs.SaidLaws.{room-of}
-use Rattle.job.proofs.SoundLaws.{Bytes, Coordinates, WellSaid, well-said, first-passed, fine-walk}
+use Rattle.said.specs.Records.{recordBytes}
+use Rattle.said.specs.Sets.{Region}
+use Rattle.said.specs.Job.{Said, Outcome, refused, fine, inAxes, walk, outcome}
+use Rattle.said.specs.Open.{Open}
+use Rattle.said.proofs.SaidLaws.{room-of}
+use Rattle.said.proofs.SoundLaws.{Bytes, Coordinates, WellSaid, well-said, first-passed, fine-walk}
 use Rattle.encoder.specs.Packed.{Packed}
 use Rattle.build.specs.declared.answers.Report.{Report}
 use Rattle.build.specs.declared.answers.Built.{Built}

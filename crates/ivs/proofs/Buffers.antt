@@ -9,8 +9,8 @@ use lib.ListN.{length, replicate}
 use lib.Dec.{eqb}
 use borrow.Author.Tests.{eq-eqb, ne-eqb}
 use Rattle.laws.specs.Pick.{pick}
-use Rattle.job.specs.Refusals.{earlyNo}
-use Rattle.job.specs.Job.{Said, Outcome, refused, fine, outcome}
+use Rattle.said.specs.Refusals.{earlyNo}
+use Rattle.said.specs.Job.{Said, Outcome, refused, fine, outcome}
 use Rattle.job.specs.Check.{workLeft}
 use Rattle.build.specs.declared.answers.Report.{Report}
 use Rattle.build.specs.declared.answers.Built.{Built}

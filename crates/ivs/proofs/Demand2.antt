@@ -20,9 +20,9 @@ use Rattle.reader.specs.declared.reader.Reading.the-variants.{Written, NoColumn
 use Rattle.reader.specs.Store.{readStore, valueOf, listAt, regionCount}
 use Rattle.rows.specs.Placing.{allRuns, idWords, names, keptOf, newIndex}
 use Rattle.rows.specs.Lent.{stored}
-use Rattle.job.specs.Records.{recordBytes}
-use Rattle.job.specs.Job.{Said, fine, outcome}
-use Rattle.job.proofs.SoundLaws.{Bytes}
+use Rattle.said.specs.Records.{recordBytes}
+use Rattle.said.specs.Job.{Said, fine, outcome}
+use Rattle.said.proofs.SoundLaws.{Bytes}
 use Rattle.encoder.specs.Packed.{Packed, shared, own}
 use Rattle.encoder.proofs.DenseIds.{ids-length}
 use Rattle.build.specs.declared.answers.Report.{Report}

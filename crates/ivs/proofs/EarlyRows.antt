@@ -9,8 +9,8 @@ use lib.ListN.{length}
 use lib.Dec.{eqb, ltb, leb}
 use borrow.Author.Tests.{ltb-true, ltb-false, leb-true, leb-false, eqb-true, eqb-false, lt-ltb, le-ltb, le-leb, lt-leb, eq-eqb, ne-eqb}
 use Rattle.laws.proofs.Cases.{and-true}
-use Rattle.job.specs.Refusals.{firstFailed, publishedWork, earlyNo}
-use Rattle.job.specs.Job.{outcome, refused}
+use Rattle.said.specs.Refusals.{firstFailed, publishedWork, earlyNo}
+use Rattle.said.specs.Job.{outcome, refused}
 use Rattle.build.specs.declared.answers.Built.{Built}
 use Rattle.build.specs.declared.answers.Built.the-variants.{Refused}
 use Rattle.build.specs.Late.{Lengths}

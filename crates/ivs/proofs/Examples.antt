@@ -27,10 +27,10 @@ use Rattle.rows.specs.Columns.{addIf, ofWidth, columnsOf, wordCount, bytesFor}
 use Rattle.rows.specs.Row.{wordIn, cellsOf, rowOf}
 use Rattle.rows.specs.Placing as rows
 use Rattle.rows.specs.Lent.{stored}
-use Rattle.job.specs.Records.{zeros, axisZeros, valueZeros, endZeros, valueWord}
-use Rattle.job.specs.Refusals.{firstFailed, publishedWork, earlyNo, axisNo, valueNo, endNo}
-use Rattle.job.specs.Sets as said
-use Rattle.job.specs.Job as job
+use Rattle.said.specs.Records.{zeros, axisZeros, valueZeros, endZeros, valueWord}
+use Rattle.said.specs.Refusals.{firstFailed, publishedWork, earlyNo, axisNo, valueNo, endNo}
+use Rattle.said.specs.Sets as said
+use Rattle.said.specs.Job as job
 use Rattle.job.specs.Check.{workLeft}
 use Rattle.encoder.specs.Packed as packed
 use Rattle.build.specs.declared.answers.Report.{Report}

@@ -7,7 +7,7 @@ use Prim.Native.Nat.{ℕ, _≤_, _<_}
 use native.Mathlib.Omega.{arith}
 use Rattle.laws.specs.Every.{All}
 use Rattle.laws.proofs.Cases.{true-false}
-use Rattle.job.specs.Refusals.{firstFailed}
+use Rattle.said.specs.Refusals.{firstFailed}
 
 abbrev pub Tests : Type 0
 Tests = List (Bool × ℕ)

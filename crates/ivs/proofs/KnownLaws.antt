@@ -7,10 +7,10 @@ use Prim.Native.Nat.{ℕ, zero, suc, _+_, _*_, _/_, _%_, _≤_, _<_}
 use native.Mathlib.Omega.{arith}
 use lib.ListN.{length, getD}
 use Rattle.laws.proofs.Cases.{lt-or-ge, same-or-not}
-use Rattle.job.specs.Records.{kind, regionOf}
-use Rattle.job.specs.Sets.{Region, regionList, firstLike, has}
-use Rattle.job.specs.Job.{Said, State, inAxes, inSets, stop, on, step}
-use Rattle.job.proofs.MeaningLaws.{first-equal, equal-first}
+use Rattle.said.specs.Records.{kind, regionOf}
+use Rattle.said.specs.Sets.{Region, regionList, firstLike, has}
+use Rattle.said.specs.Job.{Said, State, inAxes, inSets, stop, on, step}
+use Rattle.said.proofs.MeaningLaws.{first-equal, equal-first}
 use Rattle.ivs.specs.Exactly.{Exactly}
 use Rattle.ivs.specs.Passing.{recordAt, Passed, saidAt}
 use Rattle.ivs.specs.Counts.{countKind, axisRecords, knownRegions, NamedBefore}

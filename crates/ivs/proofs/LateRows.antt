@@ -12,8 +12,8 @@ use Rattle.laws.specs.Pick.{pick}
 use Rattle.laws.proofs.Cases.{same-or-not}
 use Rattle.laws.proofs.UpLaws.{up-long}
 use Rattle.groups.specs.Groups.{groupsOf}
-use Rattle.job.specs.Refusals.{firstFailed}
-use Rattle.job.specs.Job.{Said, outcome, fine}
+use Rattle.said.specs.Refusals.{firstFailed}
+use Rattle.said.specs.Job.{Said, outcome, fine}
 use Rattle.encoder.specs.Packed.{Packed, shared, own}
 use Rattle.encoder.proofs.DenseIds.{ids-length}
 use Rattle.build.specs.declared.answers.Report.{Report}

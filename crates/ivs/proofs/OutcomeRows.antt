@@ -10,8 +10,8 @@ use lib.Dec.{eqb}
 use borrow.Author.Tests.{eq-eqb, ne-eqb}
 use Rattle.laws.specs.Pick.{pick}
 use Rattle.laws.proofs.Cases.{same-or-not}
-use Rattle.job.specs.Refusals.{firstFailed, earlyNo}
-use Rattle.job.specs.Job.{Said, State, inAxes, inSets, step, Outcome, refused, fine, ended, endedSets, walk, outcome, outcomeFrom}
+use Rattle.said.specs.Refusals.{firstFailed, earlyNo}
+use Rattle.said.specs.Job.{Said, State, inAxes, inSets, step, Outcome, refused, fine, ended, endedSets, walk, outcome, outcomeFrom}
 use Rattle.build.specs.declared.answers.Built.{Built}
 use Rattle.build.specs.declared.answers.Built.the-variants.{Refused, Done}
 use Rattle.build.specs.Late.{Lengths, lateNo, lateAnswer, reportOf}

@@ -7,10 +7,10 @@ use Prim.Native.Nat.{ℕ, _/_, _%_, _≤_, _<_}
 use native.Mathlib.Omega.{arith}
 use lib.ListN.{length}
 use Rattle.laws.proofs.Cases.{same-or-not}
-use Rattle.job.specs.Records.{kind, regionOf, valueZeros}
-use Rattle.job.specs.Refusals.{axisNo}
-use Rattle.job.specs.Sets.{Region, firstLike}
-use Rattle.job.specs.Job.{Said, State, inAxes, stop, valueStep, endStep, step, refused}
+use Rattle.said.specs.Records.{kind, regionOf, valueZeros}
+use Rattle.said.specs.Refusals.{axisNo}
+use Rattle.said.specs.Sets.{Region, firstLike}
+use Rattle.said.specs.Job.{Said, State, inAxes, stop, valueStep, endStep, step, refused}
 use Rattle.build.specs.declared.answers.Built.the-variants.{Refused}
 use Rattle.build.specs.Late.{Lengths}
 use Rattle.build.specs.Build.{answerOf}

@@ -9,10 +9,10 @@ use lib.ListN.{length}
 use lib.Dec.{eqb, ltb}
 use borrow.Author.Tests.{eq-eqb, ne-eqb, eqb-true, eqb-false, ltb-true, ltb-false, lt-ltb, le-ltb, not-false}
 use Rattle.laws.proofs.Cases.{and-true}
-use Rattle.job.specs.Records.{kind, regionOf, axisOf, axisZeros, valueZeros, endZeros}
-use Rattle.job.specs.Refusals.{firstFailed, axisNo, valueNo, endNo}
-use Rattle.job.specs.Sets.{firstLike, has}
-use Rattle.job.specs.Job.{Said}
+use Rattle.said.specs.Records.{kind, regionOf, axisOf, axisZeros, valueZeros, endZeros}
+use Rattle.said.specs.Refusals.{firstFailed, axisNo, valueNo, endNo}
+use Rattle.said.specs.Sets.{firstLike, has}
+use Rattle.said.specs.Job.{Said}
 use Rattle.ivs.specs.Exactly.{Exactly}
 use Rattle.ivs.specs.Counts.{NotZero, BadRecord}
 use Rattle.ivs.specs.Counts.BadRecord.{axis-zero, axis-order}

@@ -10,10 +10,10 @@ use lib.Dec.{eqb, ltb}
 use borrow.Author.Tests.{eq-eqb, ne-eqb, eqb-true, eqb-false, ltb-true}
 use Rattle.laws.proofs.Cases.{Which, which, lt-or-ge, same-or-not}
 use Rattle.laws.proofs.Cases.Which.{holds, fails}
-use Rattle.job.specs.Records.{kind, regionOf, valueZeros, valueWord}
-use Rattle.job.specs.Refusals.{firstFailed, axisNo, valueNo, endNo}
-use Rattle.job.specs.Sets.{Region, regionList, firstLike, has}
-use Rattle.job.specs.Job.{Said, State, inAxes, inSets, Step, stop, on, unless, afterValue, afterEnd, valueStep, endStep, regionsOnly, step}
+use Rattle.said.specs.Records.{kind, regionOf, valueZeros, valueWord}
+use Rattle.said.specs.Refusals.{firstFailed, axisNo, valueNo, endNo}
+use Rattle.said.specs.Sets.{Region, regionList, firstLike, has}
+use Rattle.said.specs.Job.{Said, State, inAxes, inSets, Step, stop, on, unless, afterValue, afterEnd, valueStep, endStep, regionsOnly, step}
 use Rattle.ivs.specs.Exactly.{Exactly}
 use Rattle.ivs.specs.Passing.{recordAt, Passed, saidAt, Whole}
 use Rattle.ivs.specs.Counts.{countKind, axisRecords, endsBefore, knownRegions}

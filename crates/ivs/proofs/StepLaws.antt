@@ -9,10 +9,10 @@ use lib.ListN.{length}
 use lib.Dec.{eqb, ltb}
 use borrow.Author.Tests.{eq-eqb, ne-eqb}
 use Rattle.laws.proofs.Cases.{same-or-not}
-use Rattle.job.specs.Records.{kind, regionOf}
-use Rattle.job.specs.Refusals.{firstFailed, axisNo, valueNo, endNo}
-use Rattle.job.specs.Sets.{firstLike, has}
-use Rattle.job.specs.Job.{Said, State, inAxes, inSets, Step, stop, on, unless, valueStep, endStep, setStep, step}
+use Rattle.said.specs.Records.{kind, regionOf}
+use Rattle.said.specs.Refusals.{firstFailed, axisNo, valueNo, endNo}
+use Rattle.said.specs.Sets.{firstLike, has}
+use Rattle.said.specs.Job.{Said, State, inAxes, inSets, Step, stop, on, unless, valueStep, endStep, setStep, step}
 use Rattle.ivs.specs.Passing.{saidAt, Whole}
 use Rattle.ivs.proofs.FailedLaws.{among, later, none-failed}
 

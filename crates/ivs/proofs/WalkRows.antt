@@ -8,7 +8,7 @@ use native.Mathlib.Numerals.{add-one}
 use native.Mathlib.Omega.{arith}
 use lib.ListN.{length, drop}
 use lib.Seq.{drop-drop}
-use Rattle.job.specs.Job.{Said, State, inAxes, inSets, Step, stop, on, step, Outcome, refused, fine, ended, endedSets, follow, walk}
+use Rattle.said.specs.Job.{Said, State, inAxes, inSets, Step, stop, on, step, Outcome, refused, fine, ended, endedSets, follow, walk}
 use Rattle.ivs.specs.Passing.{recordAt, Passed, StopsAt, EndsAs}
 
 module _ (axes mode : ℕ) (job : List ℕ) where

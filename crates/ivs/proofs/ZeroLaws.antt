@@ -11,7 +11,7 @@ use borrow.Author.Tests.{eq-eqb, ne-eqb, eqb-true, eqb-false}
 use Rattle.laws.specs.Bounded.{allBelow}
 use Rattle.laws.proofs.BoundedLaws.{all-at, all-intro, all-false}
 use Rattle.laws.proofs.Cases.{and-true}
-use Rattle.job.specs.Records.{zeros, axisZeros, valueZeros, endZeros}
+use Rattle.said.specs.Records.{zeros, axisZeros, valueZeros, endZeros}
 use Rattle.ivs.specs.Counts.{Zeros, NotZero}
 use Rattle.ivs.proofs.FailedLaws.{and-false, and-both, and-first, and-second}
 

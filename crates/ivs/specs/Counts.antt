@@ -6,8 +6,8 @@ use Prim.Native.Nat.{ℕ, zero, suc, _+_, _/_, _%_, _≤_, _<_}
 use lib.ListN.{length, getD}
 use lib.Dec.{eqb}
 use Rattle.laws.specs.Pick.{pick}
-use Rattle.job.specs.Records.{kind, regionOf, axisOf}
-use Rattle.job.specs.Sets.{Region, regionList}
+use Rattle.said.specs.Records.{kind, regionOf, axisOf}
+use Rattle.said.specs.Sets.{Region, regionList}
 use Rattle.ivs.specs.Passing.{recordAt}
 
 -- how many of the first i records are of this kind

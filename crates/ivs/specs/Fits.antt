@@ -2,7 +2,7 @@
 -- are not given. Assumes nothing.
 use mathlib.Core.Path.{_≡_}
 use Prim.Native.Nat.{ℕ, _/_, _%_, _≤_, _<_}
-use Rattle.job.specs.Refusals.{publishedWork}
+use Rattle.said.specs.Refusals.{publishedWork}
 
 -- "1 to 64 axes"
 pub record AxesFit (axes : ℕ) : Type 0 where

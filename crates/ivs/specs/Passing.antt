@@ -4,8 +4,8 @@ use mathlib.Core.Path.{_≡_}
 use mathlib.Core.List.{List}
 use Prim.Native.Nat.{ℕ, zero, suc, _*_, _/_, _%_, _<_}
 use lib.ListN.{drop}
-use Rattle.job.specs.Sets.{regionList}
-use Rattle.job.specs.Job.{Said, State, inAxes, inSets, stop, on, regionsOnly, step, Outcome, ended}
+use Rattle.said.specs.Sets.{regionList}
+use Rattle.said.specs.Job.{Said, State, inAxes, inSets, stop, on, regionsOnly, step, Outcome, ended}
 
 -- the bytes of a job from record i on
 abbrev pub recordAt : List ℕ → ℕ → List ℕ

@@ -4,7 +4,7 @@ use mathlib.Core.Path.{_≡_}
 use mathlib.Core.List.{List}
 use Prim.Native.Nat.{ℕ, _-_, _*_, _≤_}
 use lib.ListN.{length}
-use Rattle.job.specs.Job.{Said, fine, outcome}
+use Rattle.said.specs.Job.{Said, fine, outcome}
 use Rattle.encoder.specs.Packed.{Packed}
 use Rattle.build.specs.Late.{Lengths, storeFor}
 use Rattle.build.specs.Build.{coordsOf, packedOf}

@@ -2,7 +2,7 @@
 use mathlib.Core.List.{List}
 use Prim.Native.Nat.{ℕ, _/_, _<_}
 use lib.ListN.{length}
-use Rattle.job.specs.Job.{State}
+use Rattle.said.specs.Job.{State}
 use Rattle.ivs.specs.Fits.{WorkFit}
 use Rattle.ivs.specs.Passing.{Passed}
 

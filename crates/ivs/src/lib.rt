@@ -5,7 +5,7 @@ use crate::report::tell;
 use reader::Reading;
 ghost use mathlib.Core.Path.{_≡_};
 ghost use Rattle.laws.specs.Signed.{twos};
-ghost use Rattle.job.specs.Refusals.{workWords};
+ghost use Rattle.said.specs.Refusals.{workWords};
 ghost use Rattle.reader.specs.Store.{readStore};
 ghost use lib.ListN.{length};
 ghost use Rattle.job.specs.Check.{workLeft};

@@ -6,12 +6,12 @@ use native.Mathlib.Omega.{arith}
 use lib.ListN.{length, replicate}
 use borrow.Author.Tests.{eq-eqb, ne-eqb}
 use Rattle.sets.proofs.HeldLaws.{sets-length}
-use Rattle.job.specs.Records.{recordBytes}
-use Rattle.job.specs.Refusals.{publishedWork, earlyNo}
-use Rattle.job.specs.Job.{Outcome, inAxes, walk, outcomeFrom, outcome}
-use Rattle.job.specs.Job.{refused, fine}
+use Rattle.said.specs.Records.{recordBytes}
+use Rattle.said.specs.Refusals.{publishedWork, earlyNo}
+use Rattle.said.specs.Job.{Outcome, inAxes, walk, outcomeFrom, outcome}
+use Rattle.said.specs.Job.{refused, fine}
 use Rattle.job.specs.Lent.{JobRead}
-use Rattle.job.specs.Inner.{Open}
+use Rattle.said.specs.Open.{Open}
 use Rattle.job.specs.Check.{checkedOf, workLeft}
 use Rattle.job.specs.declared.checking.Checked.the-variants.{Refused, Sound}
 

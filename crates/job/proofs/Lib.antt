@@ -1,12 +1,2 @@
-pub mod RecordLaws
-pub mod RegionLaws
-pub mod UseLaws
-pub mod GoodLaws
-pub mod HoldLaws
-pub mod WalkLaws
-pub mod ReadingLaws
 pub mod WholeLaws
 pub mod CheckLaws
-pub mod MeaningLaws
-pub mod SaidLaws
-pub mod SoundLaws

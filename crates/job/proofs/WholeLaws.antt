@@ -1,48 +1,28 @@
 -- The tables before the first set, and what work holds after the last. Assumes nothing.
-use mathlib.Core.Path.{_≡_, refl, sym, ap, _∙_, subst}
-use mathlib.Core.Bool.{Bool, true, false}
-use mathlib.Core.List.{List, [], _∷_, _++_}
-use mathlib.Core.Logic.{⊎-elim}
-use Prim.Native.Nat.{ℕ, zero, suc, _+_, _-_, _*_, _/_, _%_, _≤_, _<_}
-use native.Mathlib.Nat.{add-zero, mul-left-comm, mul-le-mul-left, div-mul-le-self, div-le-self}
+use mathlib.Core.Path.{_≡_, refl, sym, _∙_, subst}
+use mathlib.Core.List.{List, [], _∷_}
+use Prim.Native.Nat.{ℕ, _+_, _*_, _/_, _≤_, _<_}
+use native.Mathlib.Nat.{mul-left-comm, mul-le-mul-left, div-mul-le-self, div-le-self}
 use native.Mathlib.Omega.{arith}
-use lib.ListN.{length, getD, drop}
+use lib.ListN.{length, getD}
 use lib.Seq.{ext-getD}
-use lib.Dec.{eqb}
-use borrow.Author.Tests.{eq-eqb}
-use Rattle.laws.specs.Range.{Only, seg}
-use Rattle.laws.proofs.Cases.{Which, which, lt-or-ge}
-use Rattle.laws.proofs.Cases.Which.{holds, fails}
+use Rattle.laws.specs.Range.{seg}
 use Rattle.laws.proofs.EveryLaws.{all-getD}
 use Rattle.laws.proofs.RangeLaws.{only-refl, only-trans, only-weaken, length-seg, getD-seg}
-use Rattle.sets.specs.Set.{Set, Ascending, Proper}
-use Rattle.sets.specs.Lent.{entries, startOf, countOf, setOf, Held, setsIn}
+use Rattle.sets.specs.Set.{Ascending, Proper}
+use Rattle.sets.specs.Lent.{entries, setsIn}
 use Rattle.sets.proofs.HeldLaws.{sets-length, sets-at}
-use Rattle.job.specs.declared.tables.Tables.{Tables}
-use Rattle.job.specs.Sets.{Region, regionList, sameRegion, like, firstLike, has}
-use Rattle.job.specs.Job.{Said, inAxes, inSets, regionsOnly, refused, fine, walk}
-use Rattle.job.specs.Inner.{AxesRead}
-use Rattle.job.specs.Lent.{slotIn, Uses, Stamps, Zeroed, FirstsOf, Good, Holds, Room, tablesAt, Prepared, SetsHeld, SetsRead, JobHeld, JobRead}
-use Rattle.job.specs.Refusals.{publishedWork}
-use Rattle.job.proofs.RegionLaws.{regions-length}
-use Rattle.job.proofs.HoldLaws.{stamps-none}
-use Rattle.job.proofs.GoodLaws.{good-start}
-
--- the first like a region is a region
-same-self : (c : Region) → sameRegion c c ≡ true
-unfolding sameRegion
-same-self [] = refl
-same-self (x ∷ c) = rw (eq-eqb x x refl, same-self c)
-
-pub like-below : (l : List Region) (r : ℕ) → r < length l → like (getD l r []) l < length l
-unfolding like
-like-below [] r h = absurd (omega arith)
-like-below (d ∷ l) zero h = rw (same-self d) (omega arith)
-like-below (d ∷ l) (suc r) h = go (like-below l r (omega arith)) (which (sameRegion (getD l r []) d))
-  where
-    go : like (getD l r []) l < length l → Which (sameRegion (getD l r []) d) → like (getD l r []) (d ∷ l) < suc (length l)
-    go rec (holds e) = rw e (omega arith)
-    go rec (fails e) = rw e (omega arith)
+use Rattle.values.specs.declared.tables.Tables.{Tables}
+use Rattle.said.specs.Sets.{regionList, firstLike, has}
+use Rattle.said.specs.Job.{regionsOnly}
+use Rattle.walk.specs.Inner.{AxesRead}
+use Rattle.values.specs.Lent.{slotIn, Zeroed, Holds}
+use Rattle.walk.specs.Lent.{FirstsOf, Room, SetsHeld, SetsRead}
+use Rattle.job.specs.Lent.{tablesAt, Prepared, JobHeld, JobRead}
+use Rattle.said.specs.Refusals.{publishedWork}
+use Rattle.said.proofs.RegionLaws.{regions-length, like-below}
+use Rattle.values.proofs.HoldLaws.{stamps-none}
+use Rattle.said.proofs.GoodLaws.{good-start}
 
 module _ (axes regions records : ℕ) (job old mid new : List ℕ) (few : records ≤ 1048576) (room : 16 * records ≤ length old)
     (small : regions * (6 * axes) ≤ 6 * records) (fits : regions ≤ records)

@@ -4,8 +4,8 @@ use Prim.Native.Nat.{ℕ}
 use lib.Dec.{eqb}
 use lib.ListN.{length, replicate}
 use Rattle.laws.specs.Pick.{pick}
-use Rattle.job.specs.Refusals.{earlyNo}
-use Rattle.job.specs.Job.{Outcome, refused, fine}
+use Rattle.said.specs.Refusals.{earlyNo}
+use Rattle.said.specs.Job.{Outcome, refused, fine}
 use Rattle.job.specs.declared.checking.Checked.{Checked}
 use Rattle.job.specs.declared.checking.Checked.the-variants.{Refused, Sound}
 

@@ -5,7 +5,7 @@ use crate::whole::read_job;
 use laws::wide;
 ghost use mathlib.Core.Path.{_≡_};
 ghost use lib.ListN.{length};
-ghost use Rattle.job.specs.Job.{outcome};
+ghost use Rattle.said.specs.Job.{outcome};
 ghost use Rattle.job.specs.Check.{checkedOf, workLeft};
 
 // A refusal's number and place, or the numbers of regions, sets and values.

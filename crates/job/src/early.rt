@@ -3,8 +3,8 @@ ghost use mathlib.Core.Path.{_≡_};
 ghost use mathlib.Core.List.{List};
 ghost use Prim.Native.Nat.{ℕ, _<_, _≤_};
 ghost use lib.ListN.{length, replicate};
-ghost use Rattle.job.specs.Refusals.{publishedWork, workWords, earlyNo};
-ghost use Rattle.job.specs.Inner.{Open};
+ghost use Rattle.said.specs.Refusals.{publishedWork, workWords, earlyNo};
+ghost use Rattle.said.specs.Open.{Open};
 
 // The words of work that a job of so many records needs.
 fn needed(records: usize) -> usize

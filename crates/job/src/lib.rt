@@ -1,12 +1,6 @@
-// A job, from its bytes to its sets: checks and refusals, regions, the sets that it says.
-mod axes;
+// A job, from its bytes to its sets: what is tested before the first record, its records whole, and the looking at it.
 mod checking;
 mod early;
-mod reading;
-mod records;
-mod regions;
-mod tables;
-mod values;
 mod whole;
 
 pub use checking::Checked;

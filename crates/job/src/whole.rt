@@ -1,15 +1,16 @@
 // A job's records, whole: axis records, first regions, sets.
-use crate::axes::axes_end;
-use crate::reading::read_sets;
-use crate::regions::find_firsts;
-use crate::tables::Tables;
-use crate::tables::zero_part;
+use values::Tables;
+use values::zero_part;
+use walk::axes_end;
+use walk::find_firsts;
+use walk::read_sets;
 ghost use mathlib.Core.Path.{_≡_};
 ghost use Prim.Native.Nat.{ℕ, _+_, _*_, _/_, _%_, _<_, _≤_};
 ghost use lib.ListN.{length};
-ghost use Rattle.job.specs.Sets.{regionList};
-ghost use Rattle.job.specs.Job.{regionsOnly};
-ghost use Rattle.job.specs.Lent.{Holds, Prepared, tablesAt, JobRead};
+ghost use Rattle.said.specs.Sets.{regionList};
+ghost use Rattle.said.specs.Job.{regionsOnly};
+ghost use Rattle.values.specs.Lent.{Holds};
+ghost use Rattle.job.specs.Lent.{Prepared, tablesAt, JobRead};
 
 // A refusal number with its place, or 0 and the counts.
 pub struct JobEnd {

@@ -1,6 +1,6 @@
 use borrow.Author.Tests.{eq-eqb, ne-eqb, lt-ltb, le-ltb, le-leb, lt-leb}
 use Prim.Native.Nat.{_/_, _%_}
-use Rattle.job.specs.Refusals.{publishedWork, earlyNo, firstFailed}
+use Rattle.said.specs.Refusals.{publishedWork, earlyNo, firstFailed}
 use native.Mathlib.Omega.{arith}
 use borrow.Author.Needs.{needs}
 use Rattle.job.proofs.early.early_no.Statement.{statement}

@@ -1,6 +1,6 @@
 use Prim.Native.Nat.{ℕ, _*_, _≤_}
 use native.Mathlib.Nat.{mul-le-mul, min-eq-left, min-eq-right}
-use Rattle.job.specs.Refusals.{publishedWork}
+use Rattle.said.specs.Refusals.{publishedWork}
 use native.Mathlib.Omega.{arith}
 use borrow.Author.Needs.{needs}
 use Rattle.job.proofs.early.needed.Statement.{statement}

@@ -1,5 +1,5 @@
 use borrow.Author.Tests.{le-leb, lt-leb}
-use Rattle.job.specs.Refusals.{workWords}
+use Rattle.said.specs.Refusals.{workWords}
 use native.Mathlib.Omega.{arith}
 use borrow.Author.Needs.{needs}
 use Rattle.job.proofs.early.work_words.Statement.{statement}

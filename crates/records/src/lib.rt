@@ -1,0 +1,103 @@
+// One record, by the bytes from its first one on: its zero bytes, its numbers, its refusal. The one file of code that knows the layout.
+ghost use mathlib.Core.Path.{_≡_};
+ghost use Prim.Native.Nat.{ℕ, _+_, _<_, _≤_};
+ghost use lib.ListN.{length, getD};
+ghost use Rattle.laws.specs.Bytes.{be};
+ghost use Rattle.said.specs.Records.{zeros, valueZeros, valueWord};
+ghost use Rattle.said.specs.Refusals.{axisNo, endNo};
+
+// A byte as an index, and as a word.
+pub fn byte_wide(b: u8) -> usize
+    ensures { λ r. ⌜ r ≡ b ⌝ }
+{
+    b as usize
+}
+
+fn word(b: u8) -> u32
+    ensures { λ r. ⌜ r ≡ b ⌝ }
+{
+    b as u32
+}
+
+// The n bytes from p on are 0.
+fn zero_bytes(rec: &[u8], p: usize, n: usize) -> bool
+    requires { ⌜ p + n ≤ length (now rec) ⌝ }
+    ensures { λ r. ⌜ r ≡ zeros (now (rec .entry)) p n ⌝ }
+{
+    let mut t = 0;
+    while t < n {
+        if rec[p + t] != 0 {
+            return false;
+        }
+        t += 1;
+    }
+    true
+}
+
+// The number of the two bytes from p on.
+pub fn two_bytes(rec: &[u8], p: usize) -> u32
+    requires { ⌜ p + 2 ≤ length (now rec) ⌝ }
+    ensures { λ r. ⌜ r ≡ be 2 (now (rec .entry)) p ⌝ }
+    ensures { λ r. ⌜ r < 65536 ⌝ }
+{
+    word(rec[p]) * 256 + word(rec[p + 1])
+}
+
+// The word of a value record's value: two's complement with the sign bit turned.
+pub fn value_word(rec: &[u8]) -> u32
+    requires { ⌜ 12 ≤ length (now rec) ⌝ }
+    ensures { λ r. ⌜ r ≡ valueWord (now (rec .entry)) ⌝ }
+{
+    let x = two_bytes(rec, 4) * 65536 + two_bytes(rec, 6);
+    if x < 0x8000_0000 {
+        return x + 0x8000_0000;
+    }
+    x - 0x8000_0000
+}
+
+// The refusal number of an axis record, the i-th.
+pub fn axis_no(rec: &[u8], axes: usize, i: usize) -> usize
+    requires { ⌜ (0 < axes) × (12 ≤ length (now rec)) ⌝ }
+    ensures { λ r. ⌜ r ≡ axisNo axes (now (rec .entry)) i ⌝ }
+{
+    if byte_wide(rec[1]) != i / axes {
+        return 5;
+    }
+    if byte_wide(rec[2]) != i % axes {
+        return 5;
+    }
+    if !zero_bytes(rec, 3, 1) {
+        return 5;
+    }
+    if !zero_bytes(rec, 10, 2) {
+        return 5;
+    }
+    0
+}
+
+// The zero bytes of a value record are zero.
+pub fn value_fine(rec: &[u8]) -> bool
+    requires { ⌜ 12 ≤ length (now rec) ⌝ }
+    ensures { λ r. ⌜ r ≡ valueZeros (now (rec .entry)) ⌝ }
+{
+    if !zero_bytes(rec, 2, 2) {
+        return false;
+    }
+    zero_bytes(rec, 8, 4)
+}
+
+// The refusal number of an end record after so many others.
+pub fn end_no(rec: &[u8], mode: u32, sets: usize) -> usize
+    requires { ⌜ 12 ≤ length (now rec) ⌝ }
+    ensures { λ r. ⌜ r ≡ endNo mode (now (rec .entry)) sets ⌝ }
+{
+    if !zero_bytes(rec, 1, 11) {
+        return 5;
+    }
+    if mode == 1 {
+        if sets == 65535 {
+            return 9;
+        }
+    }
+    0
+}

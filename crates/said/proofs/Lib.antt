@@ -1,0 +1,7 @@
+pub mod RecordLaws
+pub mod RegionLaws
+pub mod IndexLaws
+pub mod GoodLaws
+pub mod MeaningLaws
+pub mod SaidLaws
+pub mod SoundLaws

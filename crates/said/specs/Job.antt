@@ -1,0 +1,110 @@
+-- A job, record by record: where it is refused, or what it says. Document 01, "The job" and "Refusal numbers".
+use mathlib.Core.Bool.{Bool, true, false}
+use mathlib.Core.List.{List, [], _∷_, _++_}
+use Prim.Native.Nat.{ℕ, zero, suc, _+_, _*_, _/_, _%_}
+use lib.ListN.{length, drop}
+use lib.Dec.{eqb}
+use Rattle.laws.specs.Pick.{pick}
+use Rattle.sets.specs.Set.{Set}
+use Rattle.said.specs.Records.{recordBytes, kind, axisKind, valueKind, endKind, regionOf, valueWord}
+use Rattle.said.specs.Refusals.{badRecord, unfinished, earlyNo, axisNo, valueNo, endNo}
+use Rattle.said.specs.Sets.{Region, regionList, firstLike, has, withUse, indexIn, withValue}
+
+-- what the records so far say, once the axis records are over
+pub record Said : Type 0 where
+  -- the regions
+  pub regions : List Region
+  -- those in use, by region index
+  pub used : List ℕ
+  -- the sets that have ended, and how many values there were
+  pub sets : List Set
+  pub values : ℕ
+  -- of the set that has not ended: the regions that it has named, none between sets; and the set
+  pub named : List ℕ
+  pub begun : Set
+
+pub data State : Type 0 where
+  -- all records so far were axis records
+  inAxes : State
+  inSets : Said → State
+
+pub data Step : Type 0 where
+  stop : ℕ → Step
+  on : State → Step
+
+-- on, unless there is a refusal number
+unfoldable pub unless : ℕ → State → Step
+unless zero s = on s
+unless (suc n) s = stop (suc n)
+
+-- a value of the first region like it, q, whose index is that among the regions in use
+unfoldable pub afterValue : Said → ℕ → ℕ → Said
+afterValue s q w = record {
+  regions = s .regions;
+  used = withUse (s .used) q;
+  sets = s .sets;
+  values = s .values + 1;
+  named = q ∷ s .named;
+  begun = withValue (indexIn q (withUse (s .used) q)) w (s .begun);
+}
+
+-- "An end record is one `add_deltas` call with the values of its set."
+unfoldable pub afterEnd : Said → Said
+afterEnd s = record { regions = s .regions; used = s .used; sets = s .sets ++ (s .begun ∷ []); values = s .values; named = []; begun = [] }
+
+unfoldable pub valueStep : List ℕ → Said → Step
+valueStep r s =
+    unless (valueNo r (length (s .regions)) (has (firstLike (s .regions) (regionOf r)) (s .named)))
+    (inSets (afterValue s (firstLike (s .regions) (regionOf r)) (valueWord r)))
+
+unfoldable pub endStep : ℕ → List ℕ → Said → Step
+endStep mode r s = unless (endNo mode r (length (s .sets))) (inSets (afterEnd s))
+
+-- "BAD_RECORD: unknown kind, .. an axis record .. after the first value or end"
+unfoldable pub setStep : ℕ → List ℕ → Said → Step
+setStep mode r s = pick (eqb (kind r) valueKind) (valueStep r s) (pick (eqb (kind r) endKind) (endStep mode r s) (stop badRecord))
+
+-- no sets yet
+unfoldable pub regionsOnly : List Region → Said
+regionsOnly regions = record { regions = regions; used = []; sets = []; values = 0; named = []; begun = [] }
+
+-- Record i, of the bytes r. "BAD_RECORD: .. a value or end inside an unfinished region"
+unfoldable pub step : ℕ → ℕ → List ℕ → List ℕ → ℕ → State → Step
+step axes mode job r i inAxes =
+    pick (eqb (kind r) axisKind) (unless (axisNo axes r i) inAxes)
+    (pick (eqb (i % axes) 0) (setStep mode r (regionsOnly (regionList axes (i / axes) job))) (stop badRecord))
+step axes mode job r i (inSets s) = setStep mode r s
+
+-- a refusal's number and place, or what the job says
+pub data Outcome : Type 0 where
+  refused : ℕ → ℕ → Outcome
+  fine : Said → Outcome
+
+-- the job ends after i records. "UNFINISHED: the job ends inside a set or a region"; its place is the record count
+unfoldable pub endedSets : ℕ → Said → List ℕ → Outcome
+endedSets i s [] = fine s
+endedSets i s (q ∷ named) = refused unfinished i
+
+unfoldable pub ended : ℕ → List ℕ → ℕ → State → Outcome
+ended axes job i inAxes = pick (eqb (i % axes) 0) (fine (regionsOnly (regionList axes (i / axes) job))) (refused unfinished i)
+ended axes job i (inSets s) = endedSets i s (s .named)
+
+unfoldable pub follow : ℕ → Step → (State → Outcome) → Outcome
+follow i (stop n) go = refused n i
+follow i (on s) go = go s
+
+-- so many records from record i on, from a state: `rest` are the bytes from that record on. "the earliest bad record answers"
+unfoldable pub walk : ℕ → ℕ → List ℕ → List ℕ → ℕ → ℕ → State → Outcome
+walk axes mode job rest zero i s = ended axes job i s
+walk axes mode job rest (suc left) i s =
+    follow i (step axes mode job rest i s) (λ s′. walk axes mode job (drop recordBytes rest) left (i + 1) s′)
+
+-- "1 to 4 are tested in that order. Then records from the first on"; the place of 1 to 4 is 0
+unfoldable pub outcomeFrom : ℕ → Outcome → Outcome
+outcomeFrom zero o = o
+outcomeFrom (suc n) o = refused (suc n) 0
+
+-- of axis count, mode, job and the words of work
+unfoldable pub outcome : ℕ → ℕ → List ℕ → ℕ → Outcome
+outcome axes mode job work =
+    outcomeFrom (earlyNo axes mode (length job) work) (walk axes mode job job (length job / recordBytes) 0 inAxes)

@@ -1,0 +1,91 @@
+-- Refusals: their numbers, and the tests of one record. Document 01, "Refusal numbers".
+use mathlib.Core.Bool.{Bool, true, false, not, _&&_}
+use mathlib.Core.List.{List, [], _∷_}
+use mathlib.Core.Path.{_≡_}
+use Prim.Native.Nat.{ℕ, zero, suc, _+_, _*_, _/_, _%_, _≤_, _<_, min}
+use lib.Dec.{eqb, ltb, leb}
+use Rattle.laws.specs.Pick.{pick}
+use Rattle.said.specs.Records.{recordBytes, mostRecords, mostAxes, kind, axisKind, regionOf, axisOf, axisZeros, valueZeros, endZeros}
+
+abbrev pub badAxes : ℕ
+badAxes = 1
+
+abbrev pub badMode : ℕ
+badMode = 2
+
+abbrev pub badJobLength : ℕ
+badJobLength = 3
+
+abbrev pub workShort : ℕ
+workShort = 4
+
+abbrev pub badRecord : ℕ
+badRecord = 5
+
+abbrev pub unknownRegion : ℕ
+unknownRegion = 6
+
+abbrev pub regionTwice : ℕ
+regionTwice = 7
+
+abbrev pub unfinished : ℕ
+unfinished = 8
+
+abbrev pub setsFull : ℕ
+setsFull = 9
+
+abbrev pub shapesFull : ℕ
+shapesFull = 10
+
+abbrev pub idsShort : ℕ
+idsShort = 11
+
+abbrev pub mapShort : ℕ
+mapShort = 12
+
+abbrev pub logShort : ℕ
+logShort = 13
+
+abbrev pub outShort : ℕ
+outShort = 14
+
+-- Tests in their order, each with its number: the number of the first that fails, 0 where all hold.
+unfoldable pub firstFailed : List (Bool × ℕ) → ℕ
+firstFailed [] = 0
+firstFailed (t ∷ l) = pick (t .0) (firstFailed l) (t .1)
+
+-- "The work needed is a published number of words that depends on the record count alone"
+unfoldable pub publishedWork : ℕ → ℕ
+publishedWork n = 16 * n + 4 * (min n 1024 * min n 1024)
+
+-- the published number as it is asked for: 0 above the record limit
+unfoldable pub workWords : ℕ → ℕ
+workWords n = pick (leb n mostRecords) (publishedWork n) 0
+
+-- "1 to 4 are tested in that order": axis count, mode, the job's bytes, the words of work
+unfoldable pub earlyNo : ℕ → ℕ → ℕ → ℕ → ℕ
+earlyNo axes mode bytes work =
+    firstFailed
+    ((ltb 0 axes && leb axes mostAxes, badAxes)
+    ∷ (leb mode 1, badMode)
+    ∷ (eqb (bytes % recordBytes) 0 && leb (bytes / recordBytes) mostRecords, badJobLength)
+    ∷ (leb (publishedWork (bytes / recordBytes)) work, workShort)
+    ∷ [])
+
+-- Record i, an axis record. "BAD_RECORD: .. a zero byte not zero, an axis record out of its order"; "region 0 axis 0, up to its last axis,
+-- then region 1, and so on"
+unfoldable pub axisNo : ℕ → List ℕ → ℕ → ℕ
+axisNo axes r i = firstFailed ((eqb (regionOf r) (i / axes) && eqb (axisOf r) (i % axes) && axisZeros r, badRecord) ∷ [])
+
+-- A value record, where there are so many regions, and the set has named its region already or not. "at one record 5 before 6 before 7"
+unfoldable pub valueNo : List ℕ → ℕ → Bool → ℕ
+valueNo r regions named =
+    firstFailed
+    ((valueZeros r, badRecord)
+    ∷ (ltb (regionOf r) regions, unknownRegion)
+    ∷ (not named, regionTwice)
+    ∷ [])
+
+-- An end record after so many others. "SETS_FULL: mode 1, the 65,536th end record"; "5 before 9"
+unfoldable pub endNo : ℕ → List ℕ → ℕ → ℕ
+endNo mode r sets = firstFailed ((endZeros r, badRecord) ∷ (not (eqb mode 1 && eqb sets 65535), setsFull) ∷ [])

@@ -1,0 +1,8 @@
+// One value of a job: its refusal, or the value in its set. The tables that this takes, over lent words.
+mod tables;
+mod values;
+
+pub use tables::Tables;
+pub use tables::zero_part;
+pub use values::Took;
+pub use values::take_value;
