@@ -16,7 +16,7 @@ use Rattle.laws.proofs.BoundedLaws.{length-tabulate, getD-tabulate}
 use Rattle.laws.proofs.SortMap.{keep-in, keep-out}
 use Rattle.laws.proofs.Pigeon.{two-intro}
 use Rattle.encoder.proofs.NumberLaws.{at-mem}
-use Rattle.rows.specs.Placing.{joinAll}
+use Rattle.rows.specs.Subtable.{joinAll}
 
 module _ {A : Type 0} where
   mem-left : (x : A) (l m : List A) → List·Memᴰ x l → List·Memᴰ x (l ++ m)

@@ -10,8 +10,8 @@ use Rattle.shapes.specs.Lent.{Narrow}
 use Rattle.sets.specs.Lent.{setOf, setsIn, Held}
 use Rattle.groups.specs.Groups.{groupsOf, maxShapes}
 use Rattle.merging.specs.Held.{words}
-use Rattle.rows.specs.Placing.{Final}
-use Rattle.rows.specs.Lent.{finalAt, finalsAt}
+use Rattle.store.specs.Placing.{Final}
+use Rattle.store.specs.Lent.{finalAt, finalsAt}
 use Rattle.encoder.specs.Packed.{Packed, shared, own}
 use Rattle.encoder.specs.Places.{Laid}
 use Rattle.encoder.specs.declared.places.Places.{Places}
