@@ -16,7 +16,7 @@ use Rattle.encoder.specs.Packed.{Packed, own}
 use Rattle.encoder.specs.Lent.{Fit, PackedAt, OwnAt}
 use Rattle.encoder.specs.Arranged.{tablesOf, JoinFit, RegroupFit, JoinedGroups}
 use Rattle.encoder.proofs.ReadyLaws.{idle}
-use Rattle.rows.specs.Lent as rows
+use Rattle.store.specs.Lent as store
 use Rattle.build.specs.declared.answers.Built.{Built}
 use Rattle.build.specs.declared.answers.Built.the-variants.{Refused}
 use Rattle.build.specs.declared.opening.Stage.{Stage}
@@ -75,7 +75,7 @@ module _ (axes mode : ℕ) (job : List ℕ) (s : Stage) {w : List ℕ} {m : Merg
       joined-fit = shared-fit held (f mid joins j)
 
       pub joined-done : (b : Built) (out ids map log out′ ids′ map′ log′ : List ℕ)
-          → ((k : Packed) → PackedAt k (s .places) e w′ → Finished axes (rows.coordsOf job axes w′ (s .starts) (s .places .regions)) k (lengths out ids map log) b out ids map log out′ ids′ map′ log′)
+          → ((k : Packed) → PackedAt k (s .places) e w′ → Finished axes (store.coordsOf job axes w′ (s .starts) (s .places .regions)) k (lengths out ids map log) b out ids map log out′ ids′ map′ log′)
           → RecordsBuilt axes mode o b out ids map log out′ ids′ map′ log′
       joined-done b out ids map log out′ ids′ map′ log′ g =
           built b out ids map log out′ ids′ map′ log′ (shared-done held (f mid joins j) mode v (lengths out ids map log) b out ids map log out′ ids′ map′ log′ g)
@@ -99,7 +99,7 @@ module _ (axes mode : ℕ) (job : List ℕ) (s : Stage) {w : List ℕ} {m : Merg
       alone-own = own-fit alone f
 
       pub alone-done : (b : Built) (out ids map log out′ ids′ map′ log′ : List ℕ)
-          → ((k : Packed) → PackedAt k (s .places) e w′ → Finished axes (rows.coordsOf job axes w′ (s .starts) (s .places .regions)) k (lengths out ids map log) b out ids map log out′ ids′ map′ log′)
+          → ((k : Packed) → PackedAt k (s .places) e w′ → Finished axes (store.coordsOf job axes w′ (s .starts) (s .places .regions)) k (lengths out ids map log) b out ids map log out′ ids′ map′ log′)
           → RecordsBuilt axes mode o b out ids map log out′ ids′ map′ log′
       alone-done b out ids map log out′ ids′ map′ log′ g =
           built b out ids map log out′ ids′ map′ log′ (own-done alone f mode v (lengths out ids map log) b out ids map log out′ ids′ map′ log′ g)

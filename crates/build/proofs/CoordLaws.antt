@@ -14,8 +14,8 @@ use Rattle.laws.proofs.BytesLaws.{be-drop}
 use Rattle.laws.proofs.EveryLaws.{all-getD}
 use Rattle.laws.proofs.Products.{row-fits}
 use Rattle.laws.proofs.RangeLaws.{seg-add, seg-cons, seg-none}
-use Rattle.rows.specs.Placing.{joinAll}
-use Rattle.rows.specs.Lent.{chain, coordsAt, coordsOf}
+use Rattle.rows.specs.Subtable.{joinAll}
+use Rattle.store.specs.Lent.{chain, coordsAt, coordsOf}
 use Rattle.said.specs.Sets.{coordinates, regionList}
 use Rattle.said.proofs.RecordLaws.{be-two}
 use Rattle.said.proofs.RegionLaws.{regions-at}

@@ -19,10 +19,11 @@ use Rattle.laws.proofs.SortLaws.{keep-same}
 use Rattle.groups.specs.Groups.{maxShapes}
 use Rattle.merging.specs.Model.{Entry}
 use Rattle.merging.specs.Held.{words}
-use Rattle.rows.specs.Placing.{Final, allRuns, idWords, names, keptOf, storeOf, forecastOf}
-use Rattle.rows.specs.Lent.{Drafted, Planned, Ready, coordsAt, coordsOf, finalAt, finalsAt, markedIn, setAt, sizesAt, stored}
-use Rattle.rows.proofs.RegionLaws.{kept-most}
-use Rattle.rows.proofs.PlacedLaws.{planned, draft-exact, tables-count}
+use Rattle.store.specs.Placing.{Final, allRuns, idWords, names, keptOf, storeOf, forecastOf}
+use Rattle.rows.specs.Lent.{setAt}
+use Rattle.store.specs.Lent.{Drafted, Planned, Ready, coordsAt, coordsOf, finalAt, finalsAt, markedIn, sizesAt, stored}
+use Rattle.store.proofs.RegionLaws.{kept-most}
+use Rattle.store.proofs.PlacedLaws.{planned, draft-exact, tables-count}
 use Rattle.said.specs.Refusals.{firstFailed, shapesFull, idsShort, mapShort, logShort, outShort}
 use Rattle.encoder.specs.declared.places.Places.{Places}
 use Rattle.encoder.specs.declared.encoded.Encoded.{Encoded}

@@ -16,9 +16,10 @@ use Rattle.laws.proofs.SortMap as sort
 use Rattle.laws.proofs.UpLaws.{up-all}
 use Rattle.sets.specs.Set.{Set}
 use Rattle.reader.specs.Store.{listAt, axisCount, regionCount, headerOk}
-use Rattle.rows.specs.Placing.{Final, joinAll, allRuns, names, keptOf, newIndex, subtableOf, listOf, storeOf}
-use Rattle.rows.proofs.RegionLaws.{kept-most}
-use Rattle.rows.proofs.StoreBack.{list-is, from-list, axis-count, regions-are, header-good}
+use Rattle.rows.specs.Subtable.{joinAll, subtableOf}
+use Rattle.store.specs.Placing.{Final, allRuns, names, keptOf, newIndex, listOf, storeOf}
+use Rattle.store.proofs.RegionLaws.{kept-most}
+use Rattle.readback.proofs.StoreBack.{list-is, from-list, axis-count, regions-are, header-good}
 use Rattle.encoder.specs.Packed.{Packed}
 use Rattle.build.specs.Late.{storeFor}
 use Rattle.build.proofs.RowsBack.{coords-long}

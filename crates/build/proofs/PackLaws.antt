@@ -25,7 +25,7 @@ use Rattle.sets.proofs.HeldLaws.{kept-only, held-kept, sets-same, sets-length}
 use Rattle.groups.specs.Groups.{groupsOf, maxShapes}
 use Rattle.merging.specs.Model.{merged}
 use Rattle.merging.proofs.Theorems.{fewer, none-of-none}
-use Rattle.rows.specs.Lent as rows
+use Rattle.store.specs.Lent as store
 use Rattle.said.specs.Refusals.{firstFailed}
 use Rattle.said.specs.Job.{Said}
 use Rattle.encoder.specs.declared.places.Places.{Places}
@@ -109,11 +109,11 @@ module _ {axes starts : ℕ} {job w : List ℕ} {p : Places} {s : Said} (c : Col
     start-kept : (r : ℕ) → r < p .regions → getD w′ (starts + r) 0 ≡ getD w (starts + r) 0
     start-kept r h = kept (starts + r) (omega (arith, c .starts-to))
 
-    coords-kept : rows.coordsOf job axes w′ starts (p .regions) ≡ coordsOf s
-    unfolding rows.coordsOf
+    coords-kept : store.coordsOf job axes w′ starts (p .regions) ≡ coordsOf s
+    unfolding store.coordsOf
     coords-kept =
-        tabulate-same 0 (p .regions) (λ r. rows.coordsAt job axes (getD w′ (starts + r) 0)) (λ r. rows.coordsAt job axes (getD w (starts + r) 0))
-        (λ r a b. ap (rows.coordsAt job axes) (start-kept r (omega arith))) ∙ c .coords-are
+        tabulate-same 0 (p .regions) (λ r. store.coordsAt job axes (getD w′ (starts + r) 0)) (λ r. store.coordsAt job axes (getD w (starts + r) 0))
+        (λ r a b. ap (store.coordsAt job axes) (start-kept r (omega arith))) ∙ c .coords-are
 
     -- what a job says is still held where only the tables changed
     pub collected-kept : Collected axes starts job p s w′
@@ -147,7 +147,7 @@ module _ {axes starts : ℕ} {job w : List ℕ} {p : Places} {s : Said} (c : Col
       }
 
     finished : (k k′ : Packed) (l : Lengths) (r : Built) (out ids map log out′ ids′ map′ log′ : List ℕ) → k ≡ k′
-        → Finished axes (rows.coordsOf job axes w′ starts (p .regions)) k l r out ids map log out′ ids′ map′ log′ → Finished axes (coordsOf s) k′ l r out ids map log out′ ids′ map′ log′
+        → Finished axes (store.coordsOf job axes w′ starts (p .regions)) k l r out ids map log out′ ids′ map′ log′ → Finished axes (coordsOf s) k′ l r out ids map log out′ ids′ map′ log′
     finished k k′ l r out ids map log out′ ids′ map′ log′ e f =
         subst (λ (x : Packed). Finished axes (coordsOf s) x l r out ids map log out′ ids′ map′ log′) e
         (subst (λ (z : List (List ℕ)). Finished axes z k l r out ids map log out′ ids′ map′ log′) coords-kept f)
@@ -159,7 +159,7 @@ module _ {axes starts : ℕ} {job w : List ℕ} {p : Places} {s : Said} (c : Col
     shared-fit = finish-fit (h .only) (shared (p .regions) all) e (h .packed) (shared-merges (p .regions) all) (shared-ids (p .regions) all)
 
     pub shared-done : (mode : ℕ) → mode ≡ 0 → (l : Lengths) (b : Built) (out ids map log out′ ids′ map′ log′ : List ℕ)
-        → ((k : Packed) → PackedAt k p e w′ → Finished axes (rows.coordsOf job axes w′ starts (p .regions)) k l b out ids map log out′ ids′ map′ log′)
+        → ((k : Packed) → PackedAt k p e w′ → Finished axes (store.coordsOf job axes w′ starts (p .regions)) k l b out ids map log out′ ids′ map′ log′)
         → Finished axes (coordsOf s) (packedOf mode s) l b out ids map log out′ ids′ map′ log′
     shared-done mode z l b out ids map log out′ ids′ map′ log′ f =
         finished (h .only) (shared (p .regions) all) (packedOf mode s) l b out ids map log out′ ids′ map′ log′ (shared-is mode z) (f (shared (p .regions) all) (h .packed))
@@ -171,7 +171,7 @@ module _ {axes starts : ℕ} {job w : List ℕ} {p : Places} {s : Said} (c : Col
     own-fit = finish-fit (h .only) (own (p .regions) all) e (h .result) (own-merges (p .regions) all) (own-ids (p .regions) all)
 
     pub own-done : (mode : ℕ) → (mode ≡ 0 → ⊥) → (l : Lengths) (b : Built) (out ids map log out′ ids′ map′ log′ : List ℕ)
-        → ((k : Packed) → PackedAt k p e w′ → Finished axes (rows.coordsOf job axes w′ starts (p .regions)) k l b out ids map log out′ ids′ map′ log′)
+        → ((k : Packed) → PackedAt k p e w′ → Finished axes (store.coordsOf job axes w′ starts (p .regions)) k l b out ids map log out′ ids′ map′ log′)
         → Finished axes (coordsOf s) (packedOf mode s) l b out ids map log out′ ids′ map′ log′
     own-done mode z l b out ids map log out′ ids′ map′ log′ f =
         finished (h .only) (own (p .regions) all) (packedOf mode s) l b out ids map log out′ ids′ map′ log′ (own-is mode z) (f (own (p .regions) all) (h .result))

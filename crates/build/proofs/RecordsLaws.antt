@@ -12,7 +12,7 @@ use Rattle.laws.proofs.RangeLaws.{getD-seg}
 use Rattle.sets.specs.Set.{Set}
 use Rattle.sets.specs.Lent.{Held, setsIn}
 use Rattle.sets.proofs.HeldLaws.{Kept, kept-only, held-kept, sets-same, sets-length}
-use Rattle.rows.specs.Lent as rows
+use Rattle.store.specs.Lent as store
 use Rattle.said.specs.Refusals.{publishedWork, earlyNo}
 use Rattle.said.specs.Sets.{Region, regionList}
 use Rattle.said.specs.Job.{Said, Outcome, refused, fine, inAxes, walk, outcomeFrom, outcome}
@@ -116,7 +116,7 @@ module _ {axes mode records : ℕ} {job w w₁ : List ℕ} (some : 0 < axes) (fe
         let e : 12 * axes * n ≡ 12 * (n * axes) = omega arith in
         omega (arith, regions-fit)
 
-    coords₂ : rows.coordsOf job axes w₂ (4 * records) (length (r .good z .said .used)) ≡ coordsOf (r .good z .said)
+    coords₂ : store.coordsOf job axes w₂ (4 * records) (length (r .good z .said .used)) ≡ coordsOf (r .good z .said)
     unfolding coordsOf
     coords₂ =
         coords-are job bytes axes (length (says .regions)) job-long w₂ (4 * records) (says .used) (cs .used-low) (λ i h. start-word i (omega (arith, held .uses-are)))
@@ -135,7 +135,7 @@ module _ {axes mode records : ℕ} {job w w₁ : List ℕ} (some : 0 < axes) (fe
       sourced = λ i h.
           let l : i < uses = omega (arith, q .regions-is) in
           rw (start-word i l) (record { inside = λ a k. omega (arith, in-job axes (length (says .regions)) (getD (says .used) i 0) records a (used-low i l) k regions-fit) });
-      coords-are = ap (rows.coordsOf job axes w₂ (4 * records)) (q .regions-is ∙ sym (held .uses-are)) ∙ coords₂;
+      coords-are = ap (store.coordsOf job axes w₂ (4 * records)) (q .regions-is ∙ sym (held .uses-are)) ∙ coords₂;
       no-use = no-use axes mode job records says some bytes (held .is);
     }
 

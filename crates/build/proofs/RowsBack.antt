@@ -30,10 +30,11 @@ use Rattle.sets.specs.Set.{Set, wordOf}
 use Rattle.reader.specs.declared.reader.Reading.the-variants.{Written, NoColumn}
 use Rattle.reader.specs.Store.{readStore, valueOf}
 use Rattle.rows.specs.Row.{valueIn, Covers}
-use Rattle.rows.specs.Placing.{Final, joinAll, allRuns, idWords, names, keptOf, newIndex, storeOf}
-use Rattle.rows.specs.Lent.{stored}
-use Rattle.rows.proofs.MapLaws.{map-at}
-use Rattle.rows.proofs.StoreBack.{Sound, index-less, store-none, store-value, store-back}
+use Rattle.rows.specs.Subtable.{joinAll}
+use Rattle.store.specs.Placing.{Final, allRuns, idWords, names, keptOf, newIndex, storeOf}
+use Rattle.store.specs.Lent.{stored}
+use Rattle.readback.proofs.MapBack.{map-at}
+use Rattle.readback.proofs.StoreBack.{Sound, index-less, store-none, store-value, store-back}
 use Rattle.encoder.specs.Packed.{Packed}
 use Rattle.build.specs.Late.{storeFor}
 use Rattle.build.proofs.PackedLaws.{Good, word-same}

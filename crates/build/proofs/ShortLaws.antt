@@ -15,12 +15,13 @@ use Rattle.shapes.specs.Group.{maxItems}
 use Rattle.sets.specs.Set.{Set}
 use Rattle.reader.specs.Store.{columnAt}
 use Rattle.rows.specs.Columns.{columnsOf, wordCount}
-use Rattle.rows.specs.Placing.{Final, joinAll, runCount, runsOf, allRuns, names, keptOf, newIndex, subtableOf, listOf, storeOf}
+use Rattle.rows.specs.Subtable.{joinAll, runCount, subtableOf}
+use Rattle.store.specs.Placing.{Final, runsOf, allRuns, names, keptOf, newIndex, listOf, storeOf}
 use Rattle.rows.proofs.CollectLaws.{columns-count, columns-most}
-use Rattle.rows.proofs.RegionLaws.{kept-most}
-use Rattle.rows.proofs.PlacedLaws.{sub-length}
-use Rattle.rows.proofs.SizeLaws.{runs-few}
-use Rattle.rows.proofs.StoreBack.{store-long}
+use Rattle.store.proofs.RegionLaws.{kept-most}
+use Rattle.store.proofs.PlacedLaws.{sub-length}
+use Rattle.store.proofs.SizeLaws.{runs-few}
+use Rattle.readback.proofs.StoreBack.{store-long}
 use Rattle.encoder.specs.Packed.{Packed}
 use Rattle.build.specs.Late.{storeFor}
 use Rattle.build.proofs.StoreLaws.{row-most, table-most}

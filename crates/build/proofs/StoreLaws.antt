@@ -31,12 +31,14 @@ use Rattle.sets.specs.Lent.{entries, setOf}
 use Rattle.reader.specs.Store.{columnAt}
 use Rattle.rows.specs.Columns.{columnsOf, wordCount}
 use Rattle.rows.specs.Row.{Set, rowOf}
-use Rattle.rows.specs.Placing.{Final, joinAll, runCount, runsOf, allRuns, names, keptOf, newIndex, indexBytes, rowsOf, subtableOf, listOf, placed, storeOf, modelOf, modelled, forecastOf}
-use Rattle.rows.specs.Lent.{entriesAt, setAt, chain, finalAt, finalsAt, groupSizes, runSizes, sizesAt, tableSize, total, Drafted, Planned}
+use Rattle.rows.specs.Subtable.{joinAll, runCount, indexBytes, rowsOf, subtableOf}
+use Rattle.store.specs.Placing.{Final, runsOf, allRuns, names, keptOf, newIndex, listOf, placed, storeOf, modelOf, modelled, forecastOf}
+use Rattle.rows.specs.Lent.{entriesAt, setAt}
+use Rattle.store.specs.Lent.{chain, finalAt, finalsAt, groupSizes, runSizes, sizesAt, tableSize, total, Drafted, Planned}
 use Rattle.rows.proofs.CollectLaws.{columns-count, columns-most}
 use Rattle.reader.proofs.ColumnLaws.{at-zero, at-step, bytes-range}
-use Rattle.rows.proofs.SizeLaws.{size-none, size-some, runs-few}
-use Rattle.rows.proofs.PlacedLaws.{map-tabulate}
+use Rattle.store.proofs.SizeLaws.{size-none, size-some, runs-few}
+use Rattle.store.proofs.PlacedLaws.{map-tabulate}
 use Rattle.encoder.specs.declared.places.Places.{Places}
 use Rattle.encoder.specs.declared.encoded.Encoded.{Encoded}
 use Rattle.encoder.specs.Packed.{Packed}

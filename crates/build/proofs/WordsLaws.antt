@@ -10,8 +10,9 @@ use Rattle.laws.specs.Range.{seg}
 use Rattle.laws.proofs.EveryLaws.{all-imp}
 use Rattle.laws.proofs.RangeLaws.{all-seg, seg-all}
 use Rattle.shapes.specs.Lent.{Narrow}
-use Rattle.rows.specs.Placing.{Final, allRuns, idWords, forecastOf}
-use Rattle.rows.specs.Lent.{Handed, IdsBelow, Small, Stored, finalAt, finalsAt, stored}
+use Rattle.store.specs.Placing.{Final, allRuns, idWords, forecastOf}
+use Rattle.rows.specs.Lent.{Stored}
+use Rattle.store.specs.Lent.{Handed, IdsBelow, Small, finalAt, finalsAt, stored}
 use Rattle.encoder.specs.declared.places.Places.{Places}
 use Rattle.encoder.specs.declared.encoded.Encoded.{Encoded}
 use Rattle.encoder.specs.Lent.{relabel}

@@ -5,7 +5,7 @@ use Prim.Native.Nat.{ℕ, _+_, _*_, _≤_, _<_}
 use lib.ListN.{length, getD}
 use Rattle.laws.specs.Range.{Only}
 use Rattle.sets.specs.Lent.{setsIn}
-use Rattle.rows.specs.Lent as rows
+use Rattle.store.specs.Lent as store
 use Rattle.said.specs.Job.{Said, Outcome}
 use Rattle.encoder.specs.Lent.{Fit}
 use Rattle.encoder.specs.declared.places.Places.{Places}
@@ -26,8 +26,8 @@ pub record Collected (axes starts : ℕ) (job : List ℕ) (p : Places) (s : Said
   pub starts-to : starts + p .regions ≤ p .line
   pub sets-are : setsIn 0 (p .sets) w ≡ s .sets
   pub regions-are : length (s .used) ≡ p .regions
-  pub sourced : (r : ℕ) → r < p .regions → rows.Sourced axes job (getD w (starts + r) 0)
-  pub coords-are : rows.coordsOf job axes w starts (p .regions) ≡ coordsOf s
+  pub sourced : (r : ℕ) → r < p .regions → store.Sourced axes job (getD w (starts + r) 0)
+  pub coords-are : store.coordsOf job axes w starts (p .regions) ≡ coordsOf s
   pub no-use : length (s .sets) ≡ 0 → length (s .used) ≡ 0
 
 -- what the records say is answered, and everything lent is as it says

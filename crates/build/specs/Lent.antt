@@ -6,8 +6,9 @@ use lib.Dec.{leb}
 use lib.ListN.{length, getD}
 use Rattle.laws.specs.Bytes.{over}
 use Rattle.laws.specs.Range.{Only, seg}
-use Rattle.rows.specs.Placing.{storeOf, allRuns, idWords, forecastOf}
-use Rattle.rows.specs.Lent.{Sourced, coordsOf, finalsAt, setAt, stored}
+use Rattle.store.specs.Placing.{storeOf, allRuns, idWords, forecastOf}
+use Rattle.rows.specs.Lent.{setAt}
+use Rattle.store.specs.Lent.{Sourced, coordsOf, finalsAt, stored}
 use Rattle.said.specs.Refusals.{firstFailed, idsShort, mapShort, logShort, outShort}
 use Rattle.encoder.specs.Packed.{Packed}
 use Rattle.encoder.specs.Lent.{PackedAt, relabel}

@@ -30,8 +30,8 @@ use Rattle.groups.specs.Cover.{coverFrom, coverOf, CoverFit, CoverAt}
 use Rattle.groups.proofs.GroupLaws.{shape-length}
 use Rattle.groups.proofs.GroupSteps.{shape-narrow}
 use Rattle.merging.specs.Held.{words}
-use Rattle.rows.specs.Placing.{Final}
-use Rattle.rows.specs.Lent.{finalAt, finalsAt}
+use Rattle.store.specs.Placing.{Final}
+use Rattle.store.specs.Lent.{finalAt, finalsAt}
 use Rattle.encoder.specs.declared.places.Places.{Places}
 use Rattle.encoder.specs.Packed.{own, oneCost}
 use Rattle.encoder.specs.Places.{Laid}

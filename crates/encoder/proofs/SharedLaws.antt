@@ -42,8 +42,8 @@ use Rattle.merging.specs.Optimized.{Optimized}
 use Rattle.merging.proofs.Bridge.{has}
 use Rattle.merging.proofs.Unique.{final}
 use Rattle.merging.proofs.Demand.{demand}
-use Rattle.rows.specs.Placing.{Final}
-use Rattle.rows.specs.Lent.{finalAt, finalsAt}
+use Rattle.store.specs.Placing.{Final}
+use Rattle.store.specs.Lent.{finalAt, finalsAt}
 use Rattle.encoder.specs.declared.places.Places.{Places}
 use Rattle.encoder.specs.declared.encoded.Encoded.{Encoded}
 use Rattle.encoder.specs.Packed.{noLater, dense, belongs, finalOf, isAhead, finalsOf, isAmong, shared}

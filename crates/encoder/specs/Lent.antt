@@ -9,8 +9,8 @@ use Rattle.laws.specs.Range.{Only, seg}
 use Rattle.shapes.specs.Lent.{Narrow}
 use Rattle.sets.specs.Lent.{setOf, setsIn, Held}
 use Rattle.merging.specs.Held.{words}
-use Rattle.rows.specs.Placing.{Final}
-use Rattle.rows.specs.Lent.{finalAt, finalsAt}
+use Rattle.store.specs.Placing.{Final}
+use Rattle.store.specs.Lent.{finalAt, finalsAt}
 use Rattle.encoder.specs.Packed.{Packed, own}
 use Rattle.encoder.specs.Places.{Laid}
 use Rattle.encoder.specs.declared.places.Places.{Places}

@@ -18,8 +18,8 @@ use Rattle.laws.proofs.ListLaws.{getD-map-in}
 use Rattle.laws.proofs.BytesLaws.{bytes-length}
 use Rattle.groups.specs.Groups.{maxShapes}
 use Rattle.merging.specs.Held.{words}
-use Rattle.rows.specs.Placing.{allRuns, idWords}
-use Rattle.rows.specs.Lent.{stored}
+use Rattle.store.specs.Placing.{allRuns, idWords}
+use Rattle.store.specs.Lent.{stored}
 use Rattle.said.specs.Records.{recordBytes}
 use Rattle.said.specs.Sets.{Region}
 use Rattle.said.specs.Job.{Said, Outcome, refused, fine, inAxes, walk, outcome}

@@ -18,8 +18,8 @@ use Rattle.sets.specs.Set.{Set, wordOf}
 use Rattle.groups.specs.Groups.{groupsOf, maxShapes}
 use Rattle.reader.specs.declared.reader.Reading.the-variants.{Written, NoColumn}
 use Rattle.reader.specs.Store.{readStore, valueOf, listAt, regionCount}
-use Rattle.rows.specs.Placing.{allRuns, idWords, names, keptOf, newIndex}
-use Rattle.rows.specs.Lent.{stored}
+use Rattle.store.specs.Placing.{allRuns, idWords, names, keptOf, newIndex}
+use Rattle.store.specs.Lent.{stored}
 use Rattle.said.specs.Records.{recordBytes}
 use Rattle.said.specs.Job.{Said, fine, outcome}
 use Rattle.said.proofs.SoundLaws.{Bytes}

@@ -21,7 +21,7 @@ use Rattle.merging.specs.Held.{words}
 use Rattle.merging.proofs.Theorems as merging
 use Rattle.merging.proofs.Theorems.{Merges, saved, merged-merges, run-total, all-gains-zero, fewer, none-of-none, weighed-is, weighed-few}
 use Rattle.merging.proofs.Origins.{homes, one-home, Made, made}
-use Rattle.rows.specs.Placing.{allRuns, storeOf}
+use Rattle.store.specs.Placing.{allRuns, storeOf}
 use Rattle.said.specs.Job.{Said, fine, outcome}
 use Rattle.encoder.specs.Packed.{Packed, shared, own, isAhead, finalOf, finalsOf, oneCost}
 use Rattle.build.specs.declared.answers.Report.{Report}

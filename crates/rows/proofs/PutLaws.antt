@@ -1,9 +1,8 @@
 -- Laws of putting bytes one piece after another, and of the parts of a subtable. Assumes nothing.
 use mathlib.Core.Path.{_≡_, refl, sym, ap, _∙_}
-use mathlib.Core.Bool.{Bool, true, false}
-use mathlib.Core.List.{List, [], _∷_, _++_, append-assoc, append-nil, map}
-use Prim.Native.Nat.{ℕ, zero, suc, _+_, _-_, _*_, _≤_, _<_}
-use native.Mathlib.Nat.{add-zero, suc-mul, zero-mul}
+use mathlib.Core.List.{List, [], _∷_, _++_, append-nil}
+use Prim.Native.Nat.{ℕ, suc, _+_, _-_, _*_, _≤_, _<_}
+use native.Mathlib.Nat.{suc-mul, zero-mul}
 use native.Mathlib.Numerals.{add-one}
 use native.Mathlib.Omega.{arith}
 use lib.ListN.{length, getD, take, drop, length-append, length-drop, length-map, drop-of-length-le}
@@ -11,13 +10,12 @@ use lib.Seq.{drop-cons, drop-length, drop-drop, take-all}
 use Rattle.laws.specs.Bytes.{bytesOf, over}
 use Rattle.laws.specs.Signed.{twos}
 use Rattle.laws.specs.Range.{seg}
-use Rattle.laws.specs.Every.{All}
 use Rattle.laws.proofs.BytesLaws.{bytes-length, over-length}
-use Rattle.laws.proofs.RangeLaws.{seg-cons, seg-none, length-seg, seg-all}
-use Rattle.reader.specs.Store.{columnAt, columnsOk}
+use Rattle.laws.proofs.RangeLaws.{seg-cons, seg-none, length-seg}
+use Rattle.reader.specs.Store.{columnAt}
 use Rattle.rows.specs.Row.{Set, valueIn}
-use Rattle.rows.specs.Placing.{indexBytes}
-use Rattle.rows.specs.Lent.{headerBytes, Put, Stored, setAt, rowBytes, cellWords, rowsBytes, headBytes, tableBytes}
+use Rattle.rows.specs.Subtable.{indexBytes}
+use Rattle.rows.specs.Lent.{Put, setAt, rowBytes, cellWords, rowsBytes, headBytes}
 use Rattle.rows.proofs.OverLaws.{over-none, over-join}
 use Rattle.rows.proofs.RowLaws.{row-length}
 
@@ -186,20 +184,3 @@ module _ (word : ℕ) (cols work : List ℕ) (index ids count : ℕ) (at : ℕ) 
   rows-done new a i p h =
       let e : count - i ≡ 0 = omega arith in
       put-done at all old new a (rest i) p (rw (e, seg-none (ids + i) work))
-
--- ---- the header of the store
-
-pub header-put : (runs : ℕ) (o p q r : List ℕ) → 8 ≤ length o
-    → p ≡ over o 0 2 (bytesOf 2 1) → q ≡ over p 2 4 (bytesOf 4 (8 + 4 * runs)) → r ≡ over q 6 2 (bytesOf 2 runs) → Put 0 (headerBytes runs) o r 8
-header-put runs o p q r room e f g =
-    let a = bytesOf 2 1 in
-    let b = bytesOf 4 (8 + 4 * runs) in
-    let c = bytesOf 2 runs in
-    let la = bytes-length 2 1 in
-    let lb = bytes-length 4 (8 + 4 * runs) in
-    let lc = bytes-length 2 runs in
-    let n : length (a ++ (b ++ c)) ≡ 8 = length-append a (b ++ c) ∙ omega (arith, length-append b c) in
-    let h : 0 + length (a ++ (b ++ c)) ≤ length o = omega arith in
-    let p1 = put-more 0 (a ++ (b ++ c)) o o 0 a (b ++ c) p 2 h (put-start 0 (a ++ (b ++ c)) o) la e in
-    let p2 = put-more 0 (a ++ (b ++ c)) o p 2 b c q 4 h p1 lb f in
-    put-last 0 (a ++ (b ++ c)) o q 6 c r 2 p2 lc g

@@ -1,30 +1,29 @@
 -- Laws of one subtable's bytes, and of a group cut into runs. Assumes nothing.
 use mathlib.Core.Path.{_≡_, refl, sym, ap, _∙_}
-use mathlib.Core.Bool.{Bool, true, false}
-use mathlib.Core.List.{List, [], _∷_, _++_, append-assoc, map}
+use mathlib.Core.List.{List, [], _∷_, _++_, append-assoc}
 use mathlib.Core.Logic.{⊎-elim}
-use Prim.Native.Nat.{ℕ, zero, suc, _+_, _-_, _*_, _/_, _≤_, _<_, min}
+use Prim.Native.Nat.{ℕ, suc, _+_, _-_, _*_, _/_, _≤_, _<_, min}
 use native.Mathlib.Numerals.{add-one}
 use native.Mathlib.Omega.{arith}
-use lib.ListN.{length, getD, take, drop, length-append}
+use lib.ListN.{length, take, drop, length-append}
 use lib.Seq.{take-take, take-all}
 use borrow.Author.Tests.{eq-eqb, ne-eqb}
-use Rattle.laws.specs.Bytes.{bytesOf, over}
+use Rattle.laws.specs.Bytes.{bytesOf}
 use Rattle.laws.specs.Bounded.{tabulate}
 use Rattle.laws.specs.Range.{seg}
 use Rattle.laws.specs.Every.{All}
 use Rattle.laws.proofs.BytesLaws.{bytes-length}
-use Rattle.laws.proofs.RangeLaws.{seg-none, length-seg, seg-drop, seg-all, all-seg}
+use Rattle.laws.proofs.RangeLaws.{length-seg, seg-drop, seg-all, all-seg}
 use Rattle.laws.proofs.Cases.{lt-or-ge}
 use Rattle.shapes.specs.Shape.{Shape}
 use Rattle.shapes.specs.Group.{maxItems}
-use Rattle.reader.specs.Store.{columnAt, columnsOk}
+use Rattle.reader.specs.Store.{columnAt}
 use Rattle.rows.specs.Columns.{columnsOf, wordCount}
-use Rattle.rows.specs.Row.{Set, rowOf}
-use Rattle.rows.specs.Placing.{Final, joinAll, runCount, runsOf, indexBytes, rowsOf, subtableOf}
+use Rattle.rows.specs.Row.{Set}
+use Rattle.rows.specs.Subtable.{joinAll, runCount, indexBytes, rowsOf, subtableOf}
 use Rattle.rows.specs.Lent.{Put, rowsBytes, headBytes, tableBytes, runAt, runsBytes}
 use Rattle.rows.proofs.PutLaws.{Putting, put-start, put-more, put-done, put-join, put-long, index-length, rows-length}
-use Rattle.rows.proofs.BackLaws.{row-is}
+use Rattle.rows.proofs.CellLaws.{row-is}
 
 -- ---- one subtable
 

@@ -1,27 +1,20 @@
--- What the clauses of `src/` say of lent words and bytes. Assumes nothing.
+-- What the clauses of `src/` say of lent words and bytes: one subtable. Assumes nothing.
 use mathlib.Core.Path.{_≡_}
-use mathlib.Core.Bool.{Bool, true, false, not}
-use lib.Dec.{eqb}
+use mathlib.Core.Bool.{true}
 use mathlib.Core.List.{List, [], _∷_, _++_, map}
-use Prim.Native.Nat.{ℕ, zero, suc, _+_, _-_, _*_, _≤_, _<_, min}
-use Rattle.laws.specs.Pick.{pick}
-use Rattle.laws.specs.Bag.{weigh}
-use lib.ListN.{length, getD, set, take, drop}
+use Prim.Native.Nat.{ℕ, zero, suc, _+_, _*_, _≤_, _<_}
+use lib.ListN.{length, getD, take, drop}
 use Rattle.laws.specs.Bytes.{bytesOf, over}
 use Rattle.shapes.specs.Shape.{Shape}
 use Rattle.laws.specs.Signed.{twos}
 use Rattle.reader.specs.declared.column.Column.{Column}
 use Rattle.reader.specs.declared.column.Column.the-variants.{At, Missing}
-use Rattle.reader.specs.Store.{columnAt, columnBytes, columnsOk, find}
+use Rattle.reader.specs.Store.{columnBytes, columnsOk, find}
 use Rattle.rows.specs.Columns.{columnsOf, wordCount}
 use Rattle.rows.specs.Row.{Set, valueIn}
 use Rattle.laws.specs.Bounded.{tabulate}
 use Rattle.shapes.specs.Group.{maxItems}
-use Rattle.laws.specs.Range.{seg}
-use Rattle.laws.specs.Every.{All}
-use Rattle.laws.specs.Bounded.{upTo}
-use Rattle.laws.specs.Sorting.{keep}
-use Rattle.rows.specs.Placing.{Final, idWords, indexBytes, names, runCount, joinAll, subtableOf}
+use Rattle.rows.specs.Subtable.{indexBytes, runCount, joinAll}
 
 -- n entries that stand in w from index a on, two words each
 unfoldable pub entriesAt : ℕ → ℕ → List ℕ → Set
@@ -92,169 +85,3 @@ runAt ids k = take maxItems (drop (maxItems * k) ids)
 
 unfoldable pub runsBytes : (List ℕ → List ℕ) → List ℕ → List ℕ
 runsBytes f ids = joinAll (tabulate 0 (runCount (length ids)) (λ k. f (runAt ids k)))
-
--- f at each number below n, one after the other
-unfoldable pub chain : (ℕ → List ℕ) → ℕ → List ℕ
-chain f n = joinAll (tabulate 0 n f)
-
--- the group whose three words stand at group: where its shape is, where its ids are, how many there are
-unfoldable pub finalAt : ℕ → List ℕ → ℕ → Final
-finalAt regions w group = record {
-  shape = seg (getD w group 0) regions w;
-  ids = seg (getD w (group + 1) 0) (getD w (group + 2) 0) w;
-}
-
--- all of that group lies in w
-pub record Handed (regions index : ℕ) (w : List ℕ) (group : ℕ) : Type 0 where
-  pub row : group + 3 ≤ length w
-  pub shape : getD w group 0 + regions ≤ length w
-  pub ids : getD w (group + 1) 0 + getD w (group + 2) 0 ≤ length w
-  pub sets : All (Stored index w) (seg (getD w (group + 1) 0) (getD w (group + 2) 0) w)
-
--- the subtables of one group
-unfoldable pub groupBytes : (ℕ → ℕ) → (ℕ → Set) → Final → List ℕ
-groupBytes number set g = runsBytes (subtableOf number set (g .shape)) (g .ids)
-
--- the groups whose words stand from groups on
-unfoldable pub finalsAt : ℕ → ℕ → ℕ → List ℕ → List Final
-finalsAt regions groups n w = tabulate 0 n (λ g. finalAt regions w (groups + 3 * g))
-
--- a region is marked
-abbrev pub markedIn : List ℕ → ℕ → Bool
-markedIn marks r = not (eqb (getD marks r 0) 0)
-
--- the regions that have a width in the shape were marked, and no others
-pub record Named (s old new : List ℕ) : Type 0 where
-  pub long : length new ≡ length old
-  pub some : (r : ℕ) → r < length s → (getD s r 0 ≡ 0 → ⊥) → getD new r 0 ≡ 1
-  pub none : (r : ℕ) → getD s r 0 ≡ 0 → getD new r 0 ≡ getD old r 0
-
--- the regions that the groups name are marked, and no others
-pub record Marks (gs : List Final) (marks : List ℕ) : Type 0 where
-  pub is : (r : ℕ) → markedIn marks r ≡ names r gs
-
--- each region's new number is how many marked ones stand before it
-pub record Numbered (marks : List ℕ) (regions : ℕ) (numbers : List ℕ) (kept : ℕ) : Type 0 where
-  pub at : (r : ℕ) → r < regions → getD numbers r 0 ≡ length (keep (markedIn marks) (upTo r))
-  pub all : kept ≡ length (keep (markedIn marks) (upTo regions))
-
--- the coordinates of a region's axes, six bytes each, that stand in a source 12 bytes apart from a place on
-unfoldable pub coordsAt : List ℕ → ℕ → ℕ → List ℕ
-coordsAt src axes from = chain (λ a. seg (from + 12 * a) 6 src) axes
-
--- they lie in the source
-pub record Sourced (axes : ℕ) (src : List ℕ) (from : ℕ) : Type 0 where
-  pub inside : (a : ℕ) → a < axes → from + 12 * a + 6 ≤ length src
-
--- those of some regions, whose places stand in w from starts on
-unfoldable pub keptBytes : List ℕ → ℕ → List ℕ → ℕ → List ℕ → List ℕ
-keptBytes src axes w starts rs = joinAll (map (λ r. coordsAt src axes (getD w (starts + r) 0)) rs)
-
-abbrev pub listBytes : ℕ → ℕ → List ℕ → List ℕ
-listBytes axes kept coords = bytesOf 2 axes ++ (bytesOf 2 kept ++ coords)
-
--- ---- sizes
-
--- the bytes of a subtable of n columns and rows of `row` bytes
-unfoldable pub tableSize : ℕ → ℕ → ℕ → ℕ
-tableSize n row items = pick (eqb items 0) 0 (6 + 2 * n + items * row)
-
--- of each run of a group of so many sets
-unfoldable pub runSizes : ℕ → ℕ → ℕ → List ℕ
-runSizes n row count = tabulate 0 (runCount count) (λ k. tableSize n row (min maxItems (count - maxItems * k)))
-
-unfoldable pub groupSizes : Final → List ℕ
-groupSizes g = runSizes (length (columnsOf (g .shape))) (columnAt (wordCount (g .shape)) (length (columnsOf (g .shape)))) (length (g .ids))
-
--- of each subtable of the groups
-unfoldable pub sizesAt : ℕ → ℕ → ℕ → List ℕ → List ℕ
-sizesAt regions groups n w = chain (λ g. groupSizes (finalAt regions w (groups + 3 * g))) n
-
-abbrev pub total : List ℕ → ℕ
-total l = weigh (λ (x : ℕ). x) l
-
--- how much they are together, and how many
-pub record Summed (sizes : List ℕ) (bytes runs : ℕ) : Type 0 where
-  pub bytes-is : bytes ≡ total sizes
-  pub runs-is : runs ≡ length sizes
-
--- the numbers are those of the group's rows
-pub record FormOf (g : Final) (word count : ℕ) : Type 0 where
-  pub word-is : word ≡ wordCount (g .shape)
-  pub count-is : count ≡ length (columnsOf (g .shape))
-  pub word-below : word < 65536
-  pub count-most : count ≤ 256
-
--- the group whose words stand at group has no more sets than a job has records
-pub record Small (w : List ℕ) (group : ℕ) : Type 0 where
-  pub few : getD w (group + 2) 0 ≤ 1048576
-
--- the offset that is written for a subtable of a size: 0 for a null one
-unfoldable pub spotOf : ℕ → ℕ → ℕ
-spotOf at size = pick (eqb size 0) 0 at
-
--- the offsets of subtables of these sizes, the first one's being at
-unfoldable pub spotsOf : ℕ → List ℕ → List ℕ
-spotsOf at [] = []
-spotsOf at (l ∷ ls) = bytesOf 4 (spotOf at l) ++ spotsOf (at + l) ls
-
--- offsets were put, and the next subtable would begin at next
-pub record Spotted (at first : ℕ) (sizes old new : List ℕ) (r next : ℕ) : Type 0 where
-  pub put : Put at (spotsOf first sizes) old new r
-  pub next-is : next ≡ first + total sizes
-
--- the coordinates of all regions
-unfoldable pub coordsOf : List ℕ → ℕ → List ℕ → ℕ → ℕ → List (List ℕ)
-coordsOf src axes w starts regions = tabulate 0 regions (λ r. coordsAt src axes (getD w (starts + r) 0))
-
--- ---- the whole store
-
-abbrev pub headerBytes : ℕ → List ℕ
-headerBytes runs = bytesOf 2 1 ++ (bytesOf 4 (8 + 4 * runs) ++ bytesOf 2 runs)
-
--- groups, sets and coordinates lie in what is lent, within document 01's bounds
-pub record Ready (src : List ℕ) (axes starts : ℕ) (w : List ℕ) (regions groups count index : ℕ) : Type 0 where
-  pub axes-most : axes ≤ 64
-  pub regions-most : regions ≤ 256
-  pub groups-most : count ≤ 1024
-  pub rows : groups + 3 * count ≤ length w
-  pub starting : starts + regions ≤ length w
-  pub handed : (g : ℕ) → g < count → Handed regions index w (groups + 3 * g)
-  pub small : (g : ℕ) → g < count → Small w (groups + 3 * g)
-  pub sourced : (r : ℕ) → r < regions → Sourced axes src (getD w (starts + r) 0)
-
--- the regions that are kept, their numbers, and how many subtables there are; offsets fit 32 bits
-pub record Planned (axes : ℕ) (w : List ℕ) (regions groups count : ℕ) (marks numbers : List ℕ) (runs kept : ℕ) : Type 0 where
-  pub marks-room : regions ≤ length marks
-  pub numbers-room : regions ≤ length numbers
-  pub marked : Marks (finalsAt regions groups count w) marks
-  pub numbered : Numbered marks regions numbers kept
-  pub runs-is : runs ≡ length (sizesAt regions groups count w)
-  pub runs-few : runs < 65536
-  pub short : 8 + 4 * runs + (4 + 6 * axes * kept) + total (sizesAt regions groups count w) < 4294967296
-
--- the same, worked out before anything is written, and the bytes that the store takes
-pub record Drafted (axes : ℕ) (w : List ℕ) (regions groups count : ℕ) (marks numbers : List ℕ) (bytes runs kept : ℕ) : Type 0 where
-  pub marks-room : regions ≤ length marks
-  pub numbers-room : regions ≤ length numbers
-  pub marked : Marks (finalsAt regions groups count w) marks
-  pub numbered : Numbered marks regions numbers kept
-  pub runs-is : runs ≡ length (sizesAt regions groups count w)
-  pub runs-few : runs < 65536
-  pub bytes-is : bytes ≡ 8 + 4 * runs + (4 + 6 * axes * kept) + total (sizesAt regions groups count w)
-
--- ---- the map
-
--- words stored at their ids, one after another
-unfoldable pub stored : List (ℕ × ℕ) → List ℕ → List ℕ
-stored [] m = m
-stored (e ∷ l) m = stored l (set m (e .0) (e .1))
-
--- the ids of these runs have their words, and what follows is at position r
-pub record Mapped (first : ℕ) (rs : List Final) (old new : List ℕ) (r : ℕ) : Type 0 where
-  pub is : new ≡ stored (idWords first rs) old
-  pub next : r ≡ first + length rs
-
--- the ids of the group whose words stand at group are below n
-pub record IdsBelow (n : ℕ) (w : List ℕ) (group : ℕ) : Type 0 where
-  pub below : All (λ x. x < n) (seg (getD w (group + 1) 0) (getD w (group + 2) 0) w)

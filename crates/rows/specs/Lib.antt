@@ -1,4 +1,4 @@
 pub mod Columns
 pub mod Row
-pub mod Placing
+pub mod Subtable
 pub mod Lent

@@ -1,20 +1,15 @@
-// Rows and bytes of an item variation store: what it will be (`draft`), and how it is written (`write_store`).
+// Rows and bytes of one subtable: its columns, a row, the runs that a group is cut into, and how they are written (`write_runs`).
 // A value in work is a word, the value plus 2^31.
 mod bytes;
 mod column;
-mod groups;
-mod ids;
-mod list;
-mod outline;
-mod outlook;
-mod regions;
 mod row;
-mod size;
-mod store;
 mod subtable;
 
-pub use ids::write_map;
-pub use outline::Plan;
-pub use outline::draft;
-pub use outlook::forecast;
-pub use store::write_store;
+pub use bytes::put;
+pub use column::Form;
+pub use column::clear;
+pub use column::columns;
+pub use column::place;
+pub use subtable::run_count;
+pub use subtable::run_items;
+pub use subtable::write_runs;

@@ -1,0 +1,6 @@
+pub mod WorkedBytes
+pub mod BackLaws
+pub mod TableBack
+pub mod StoreBack
+pub mod MapBack
+pub mod PlainLaws

@@ -1,0 +1,361 @@
+-- The store of the definition, by the pieces that the code writes. Assumes nothing.
+use mathlib.Core.Path.{_≡_, refl, sym, ap, ap₂, _∙_}
+use mathlib.Core.Bool.{Bool, true, false}
+use mathlib.Core.List.{List, [], _∷_, _++_, append-assoc, map}
+use mathlib.Core.Logic.{⊎-elim}
+use Prim.Native.Nat.{ℕ, zero, suc, _+_, _-_, _*_, _≤_, _<_, min}
+use native.Mathlib.Nat.{add-zero, suc-mul, zero-mul, mul-comm}
+use native.Mathlib.Omega.{arith}
+use lib.Dec.{eqb}
+use lib.ListN.{length, getD, take, drop, length-append, length-map, length-take, length-drop}
+use borrow.Author.Tests.{eq-eqb, ne-eqb}
+use Rattle.laws.specs.Every.{All}
+use Rattle.laws.specs.Bag.{weigh}
+use Rattle.laws.specs.Bytes.{bytesOf}
+use Rattle.laws.specs.Bounded.{tabulate, upTo}
+use Rattle.laws.specs.Range.{seg}
+use Rattle.laws.specs.Sorting.{keep}
+use Rattle.laws.proofs.EveryLaws.{all, all-imp}
+use Rattle.laws.proofs.ListLaws.{map-append}
+use Rattle.laws.proofs.BoundedLaws.{tabulate-same, length-tabulate, getD-tabulate}
+use Rattle.laws.proofs.SortLaws.{keep-same}
+use Rattle.laws.proofs.SortMap.{keep-all}
+use Rattle.laws.proofs.UpLaws.{up-all}
+use Rattle.laws.proofs.BytesLaws.{bytes-length}
+use Rattle.laws.proofs.Cases.{same-or-not}
+use Rattle.shapes.specs.Shape.{Shape}
+use Rattle.shapes.specs.Group.{maxItems}
+use Rattle.reader.specs.Store.{columnAt}
+use Rattle.rows.specs.Columns.{columnsOf, wordCount}
+use Rattle.rows.specs.Row.{Set}
+use Rattle.rows.specs.Subtable.{joinAll, runCount, indexBytes, subtableOf}
+use Rattle.store.specs.Placing.{Final, runsOf, allRuns, names, keptOf, newIndex, offsetsOf, listOf, placed, storeOf}
+use Rattle.rows.specs.Lent.{Put, setAt, numberIn, runAt, runsBytes}
+use Rattle.store.specs.Lent.{Drafted, Marks, Numbered, Planned, Ready, Sourced, Spotted, headerBytes, chain, coordsAt, coordsOf, finalAt, finalsAt, groupBytes, groupSizes, keptBytes, listBytes, markedIn, runSizes, sizesAt, spotOf, spotsOf, tableSize, total}
+use Rattle.rows.proofs.ColumnsLaws.{columns-in}
+use Rattle.laws.proofs.RangeLaws.{length-seg}
+use Rattle.store.proofs.RegionLaws.{kept-most}
+use Rattle.store.proofs.SpotLaws.{spots-length}
+use Rattle.store.proofs.ListLaws.{list-length}
+use Rattle.rows.proofs.PutLaws.{put-join, put-long}
+use Rattle.rows.proofs.RunLaws.{table-is, table-none, table-length}
+
+-- ---- lists of lists
+
+module _ {A B : Type 0} where
+  pub map-tabulate : (g : A → B) (a n : ℕ) (f : ℕ → A) → map g (tabulate a n f) ≡ tabulate a n (λ k. g (f k))
+  unfolding tabulate
+  map-tabulate g a zero f = refl
+  map-tabulate g a (suc n) f = ap (λ (l : List B). g (f a) ∷ l) (map-tabulate g (suc a) n f)
+
+  map-join : (g : A → B) (ls : List (List A)) → map g (joinAll ls) ≡ joinAll (map (map g) ls)
+  unfolding joinAll
+  map-join g [] = refl
+  map-join g (l ∷ ls) = map-append g l (joinAll ls) ∙ ap (λ (k : List B). map g l ++ k) (map-join g ls)
+
+join-append : {A : Type 0} (l m : List (List A)) → joinAll (l ++ m) ≡ joinAll l ++ joinAll m
+unfolding joinAll
+join-append [] m = refl
+join-append (x ∷ l) m = rw (join-append l m, append-assoc)
+
+join-join : {A : Type 0} (ls : List (List (List A))) → joinAll (joinAll ls) ≡ joinAll (map joinAll ls)
+unfolding joinAll
+join-join [] = refl
+join-join (l ∷ ls) = join-append l (joinAll ls) ∙ rw (join-join ls)
+
+-- ---- one subtable
+
+pub sub-length : (number : ℕ → ℕ) (set : ℕ → Set) (s : Shape) (xs : List ℕ) → length s < 32768
+    → length (subtableOf number set s xs) ≡ tableSize (length (columnsOf s)) (columnAt (wordCount s) (length (columnsOf s))) (length xs)
+unfolding tableSize
+sub-length number set s xs few =
+    let cols = columnsOf s in
+    let word = wordCount s in
+    ap length (table-is number s set xs few) ∙ ⊎-elim
+    (λ (e : length xs ≡ 0). rw (eq-eqb (length xs) 0 e, table-none number word cols set xs e))
+    (λ d. rw (ne-eqb (length xs) 0 d) (table-length number word cols set xs d))
+    (same-or-not (length xs) 0)
+
+-- only the numbers of the shape's regions matter
+index-same : (f g : ℕ → ℕ) (l : List ℕ) → All (λ r. f r ≡ g r) l → indexBytes f l ≡ indexBytes g l
+unfolding indexBytes
+index-same f g [] h = refl
+index-same f g (r ∷ l) h = rw (h .0, index-same f g l (h .1))
+
+sub-same : (f g : ℕ → ℕ) (set : ℕ → Set) (s : Shape) (xs : List ℕ) → ((r : ℕ) → r < length s → f r ≡ g r) → subtableOf f set s xs ≡ subtableOf g set s xs
+unfolding subtableOf
+sub-same f g set s [] h = refl
+sub-same f g set s (x ∷ xs) h = rw (index-same f g (columnsOf s) (all-imp (λ r i. h r (i .0)) (columnsOf s) (columns-in s)))
+
+-- ---- one group
+
+tablesOf : (ℕ → ℕ) → (ℕ → Set) → Final → List (List ℕ)
+tablesOf number set g = tabulate 0 (runCount (length (g .ids))) (λ k. subtableOf number set (g .shape) (runAt (g .ids) k))
+
+group-tables : (number : ℕ → ℕ) (set : ℕ → Set) (g : Final) → map (λ r. subtableOf number set (r .shape) (r .ids)) (runsOf g) ≡ tablesOf number set g
+unfolding runsOf tablesOf
+group-tables number set g =
+    map-tabulate (λ (r : Final). subtableOf number set (r .shape) (r .ids)) 0 (runCount (length (g .ids))) (λ k. record { shape = g .shape; ids = runAt (g .ids) k })
+
+group-joined : (number : ℕ → ℕ) (set : ℕ → Set) (g : Final) → joinAll (tablesOf number set g) ≡ groupBytes number set g
+unfolding tablesOf groupBytes runsBytes
+group-joined number set g = refl
+
+run-length : (ids : List ℕ) (k : ℕ) → length (runAt ids k) ≡ min maxItems (length ids - maxItems * k)
+run-length ids k = length-take maxItems (drop (maxItems * k) ids) ∙ rw (length-drop (maxItems * k) ids)
+
+group-sized : (number : ℕ → ℕ) (set : ℕ → Set) (g : Final) → length (g .shape) < 32768 → map length (tablesOf number set g) ≡ groupSizes g
+unfolding tablesOf groupSizes runSizes
+group-sized number set g few =
+    let n = length (columnsOf (g .shape)) in
+    let row = columnAt (wordCount (g .shape)) n in
+    map-tabulate (λ (t : List ℕ). length t) 0 (runCount (length (g .ids))) (λ k. subtableOf number set (g .shape) (runAt (g .ids) k))
+    ∙ tabulate-same 0 (runCount (length (g .ids))) (λ k. length (subtableOf number set (g .shape) (runAt (g .ids) k))) (λ k. tableSize n row (min maxItems (length (g .ids) - maxItems * k)))
+    (λ k p q. sub-length number set (g .shape) (runAt (g .ids) k) few ∙ ap (tableSize n row) (run-length (g .ids) k))
+
+pub group-same : (f h : ℕ → ℕ) (set : ℕ → Set) (g : Final) → ((r : ℕ) → r < length (g .shape) → f r ≡ h r) → groupBytes f set g ≡ groupBytes h set g
+unfolding groupBytes runsBytes
+group-same f h set g e =
+    ap joinAll (tabulate-same 0 (runCount (length (g .ids))) (λ k. subtableOf f set (g .shape) (runAt (g .ids) k)) (λ k. subtableOf h set (g .shape) (runAt (g .ids) k)) (λ k p q. sub-same f h set (g .shape) (runAt (g .ids) k) e))
+
+-- ---- all groups
+
+-- offsets depend on the sizes alone
+offsets-are : (at : ℕ) (ts : List (List ℕ)) → offsetsOf at ts ≡ spotsOf at (map (λ (t : List ℕ). length t) ts)
+unfolding offsetsOf spotsOf spotOf
+offsets-are at [] = refl
+offsets-are at ([] ∷ ts) = rw (add-zero, offsets-are at ts)
+offsets-are at ((b ∷ t) ∷ ts) = rw (ne-eqb (suc (length t)) 0 (omega arith), offsets-are (at + suc (length t)) ts)
+
+module _ (number : ℕ → ℕ) (set : ℕ → Set) (f : ℕ → Final) (n : ℕ) where
+  abbrev pub tables : List (List ℕ)
+  tables = map (λ (r : Final). subtableOf number set (r .shape) (r .ids)) (allRuns (tabulate 0 n f))
+
+  tables-are : tables ≡ joinAll (tabulate 0 n (λ g. tablesOf number set (f g)))
+  unfolding allRuns
+  tables-are =
+      let T : Final → List ℕ = (λ (r : Final). subtableOf number set (r .shape) (r .ids)) in
+      ap (λ (l : List (List Final)). map T (joinAll l)) (map-tabulate runsOf 0 n f)
+      ∙ map-join T (tabulate 0 n (λ g. runsOf (f g)))
+      ∙ ap joinAll (map-tabulate (map T) 0 n (λ g. runsOf (f g)))
+      ∙ ap joinAll (tabulate-same 0 n (λ g. map T (runsOf (f g))) (λ g. tablesOf number set (f g)) (λ g p q. group-tables number set (f g)))
+
+  pub tables-joined : joinAll tables ≡ chain (λ g. groupBytes number set (f g)) n
+  unfolding chain
+  tables-joined =
+      ap joinAll tables-are
+      ∙ join-join (tabulate 0 n (λ g. tablesOf number set (f g)))
+      ∙ ap joinAll (map-tabulate joinAll 0 n (λ g. tablesOf number set (f g)) ∙ tabulate-same 0 n (λ g. joinAll (tablesOf number set (f g))) (λ g. groupBytes number set (f g)) (λ g p q. group-joined number set (f g)))
+
+  module _ (few : (g : ℕ) → g < n → length (f g .shape) < 32768) where
+    pub tables-sized : map (λ (t : List ℕ). length t) tables ≡ chain (λ g. groupSizes (f g)) n
+    unfolding chain
+    tables-sized =
+        let L : List ℕ → ℕ = (λ (t : List ℕ). length t) in
+        ap (map L) tables-are
+        ∙ map-join L (tabulate 0 n (λ g. tablesOf number set (f g)))
+        ∙ ap joinAll (map-tabulate (map L) 0 n (λ g. tablesOf number set (f g)) ∙ tabulate-same 0 n (λ g. map L (tablesOf number set (f g))) (λ g. groupSizes (f g)) (λ g p q. group-sized number set (f g) (few g (omega arith))))
+
+    pub tables-count : length tables ≡ length (chain (λ g. groupSizes (f g)) n)
+    tables-count = sym (length-map tables (λ (t : List ℕ). length t)) ∙ ap length tables-sized
+
+    pub tables-offsets : (at : ℕ) → offsetsOf at tables ≡ spotsOf at (chain (λ g. groupSizes (f g)) n)
+    tables-offsets at = offsets-are at tables ∙ ap (spotsOf at) tables-sized
+
+-- ---- the region list
+
+map-same : {B : Type 0} (f g : ℕ → B) (l : List ℕ) → All (λ r. f r ≡ g r) l → map f l ≡ map g l
+map-same f g [] h = refl
+map-same f g (x ∷ l) h = ap₂ _∷_ (h .0) (map-same f g l (h .1))
+
+module _ (src : List ℕ) (axes : ℕ) (w : List ℕ) (starts regions : ℕ) (gs : List Final) (marks : List ℕ) (m : Marks gs marks) where
+  kept-is : keptOf (length (coordsOf src axes w starts regions)) gs ≡ keep (markedIn marks) (upTo regions)
+  unfolding coordsOf
+  kept-is =
+      ap (λ (n : ℕ). keep (λ r. names r gs) (upTo n)) (length-tabulate 0 regions (λ r. coordsAt src axes (getD w (starts + r) 0)))
+      ∙ keep-same (λ r. names r gs) (markedIn marks) (upTo regions) (all (λ r. sym (m .is r)) (upTo regions))
+
+  coord-at : (r : ℕ) → r < regions → getD (coordsOf src axes w starts regions) r [] ≡ coordsAt src axes (getD w (starts + r) 0)
+  unfolding coordsOf
+  coord-at r h =
+      getD-tabulate 0 regions (λ r. coordsAt src axes (getD w (starts + r) 0)) [] r h
+      ∙ (let e : 0 + r ≡ r = omega arith in rw e)
+
+  pub list-is : listOf axes (coordsOf src axes w starts regions) (keptOf (length (coordsOf src axes w starts regions)) gs)
+      ≡ listBytes axes (length (keep (markedIn marks) (upTo regions))) (keptBytes src axes w starts (keep (markedIn marks) (upTo regions)))
+  unfolding listOf keptBytes
+  list-is =
+      let kept = keep (markedIn marks) (upTo regions) in
+      let coords = coordsOf src axes w starts regions in
+      let f : ℕ → List ℕ = (λ r. coordsAt src axes (getD w (starts + r) 0)) in
+      rw kept-is
+      (ap (λ (l : List (List ℕ)). bytesOf 2 axes ++ (bytesOf 2 (length kept) ++ joinAll l))
+      (map-same (λ r. getD coords r []) f kept
+      (keep-all (markedIn marks) (λ r. getD coords r [] ≡ f r) (upTo regions)
+      (all-imp (λ r h. coord-at r (omega arith)) (upTo regions) (up-all regions)))))
+
+-- ---- how long the list is
+
+join-length : (f : ℕ → List ℕ) (c : ℕ) (l : List ℕ) → All (λ r. length (f r) ≡ c) l → length (joinAll (map f l)) ≡ length l * c
+unfolding joinAll
+join-length f c [] h = rw zero-mul
+join-length f c (x ∷ l) h = length-append (f x) (joinAll (map f l)) ∙ omega (arith, h .0, join-length f c l (h .1), suc-mul (length l) c)
+
+pieces-length : (src : List ℕ) (from n k : ℕ) → ((a : ℕ) → k ≤ a → a < k + n → from + 12 * a + 6 ≤ length src)
+    → length (joinAll (tabulate k n (λ a. seg (from + 12 * a) 6 src))) ≡ 6 * n
+unfolding joinAll tabulate
+pieces-length src from zero k h = refl
+pieces-length src from (suc n) k h =
+    length-append (seg (from + 12 * k) 6 src) (joinAll (tabulate (suc k) n (λ a. seg (from + 12 * a) 6 src)))
+    ∙ omega (arith, length-seg (from + 12 * k) 6 src (h k (omega arith) (omega arith)), pieces-length src from n (suc k) (λ a p q. h a (omega arith) (omega arith)))
+
+coords-length : (src : List ℕ) (axes from : ℕ) → Sourced axes src from → length (coordsAt src axes from) ≡ 6 * axes
+unfolding coordsAt chain
+coords-length src axes from s = pieces-length src from axes 0 (λ a p q. s .inside a (omega arith))
+
+pub kept-length : (src : List ℕ) (axes : ℕ) (w : List ℕ) (starts regions : ℕ) (p : ℕ → Bool) → ((r : ℕ) → r < regions → Sourced axes src (getD w (starts + r) 0))
+    → length (keptBytes src axes w starts (keep p (upTo regions))) ≡ 6 * axes * length (keep p (upTo regions))
+unfolding keptBytes
+kept-length src axes w starts regions p s =
+    join-length (λ r. coordsAt src axes (getD w (starts + r) 0)) (6 * axes) (keep p (upTo regions))
+    (keep-all p (λ r. length (coordsAt src axes (getD w (starts + r) 0)) ≡ 6 * axes) (upTo regions)
+    (all-imp (λ r h. coords-length src axes (getD w (starts + r) 0) (s r (omega arith))) (upTo regions) (up-all regions)))
+    ∙ mul-comm (length (keep p (upTo regions))) (6 * axes)
+
+-- ---- the whole store
+
+shape-few : (regions : ℕ) (w : List ℕ) (group : ℕ) → regions ≤ 256 → length (finalAt regions w group .shape) ≤ 256
+unfolding finalAt seg
+shape-few regions w group h = omega (arith, length-take regions (drop (getD w group 0) w))
+
+shape-within : (regions : ℕ) (w : List ℕ) (group : ℕ) → length (finalAt regions w group .shape) ≤ regions
+unfolding finalAt seg
+shape-within regions w group = omega (arith, length-take regions (drop (getD w group 0) w))
+
+module _ (src : List ℕ) (axes starts : ℕ) (w : List ℕ) (regions groups count index : ℕ) (marks numbers : List ℕ) (runs kept : ℕ)
+    (ready : Ready src axes starts w regions groups count index) (plan : Planned axes w regions groups count marks numbers runs kept) where
+  abbrev pub store : List ℕ
+  store = storeOf axes (coordsOf src axes w starts regions) (setAt index w) (finalsAt regions groups count w)
+
+  abbrev pub list : List ℕ
+  list = listBytes axes kept (keptBytes src axes w starts (keep (markedIn marks) (upTo regions)))
+
+  abbrev pub sizes : List ℕ
+  sizes = sizesAt regions groups count w
+
+  abbrev pub body : List ℕ
+  body = chain (λ g. groupBytes (numberIn numbers) (setAt index w) (finalAt regions w (groups + 3 * g))) count
+
+  number-is : (r : ℕ) → r < regions → numberIn numbers r ≡ newIndex (finalsAt regions groups count w) r
+  number-is r h =
+      plan .numbered .at r h
+      ∙ sym (ap length (keep-same (λ q. names q (finalsAt regions groups count w)) (markedIn marks) (upTo r) (all (λ q. sym (plan .marked .is q)) (upTo r))))
+
+  pub list-long : length list ≡ 4 + 6 * axes * kept
+  list-long =
+      let k = kept-length src axes w starts regions (markedIn marks) (ready .sourced) in
+      let e = ap (λ (n : ℕ). 6 * axes * n) (plan .numbered .all) in
+      omega (arith, list-length axes kept (keptBytes src axes w starts (keep (markedIn marks) (upTo regions))))
+
+  pub kept-few : kept ≤ 256
+  kept-few = omega (arith, plan .numbered .all, kept-most (markedIn marks) regions, ready .regions-most)
+
+  body-is : joinAll (tables (newIndex (finalsAt regions groups count w)) (setAt index w) (λ g. finalAt regions w (groups + 3 * g)) count) ≡ body
+  unfolding chain
+  body-is =
+      let gs = finalsAt regions groups count w in
+      let f : ℕ → Final = (λ g. finalAt regions w (groups + 3 * g)) in
+      tables-joined (newIndex gs) (setAt index w) f count
+      ∙ ap joinAll (tabulate-same 0 count (λ g. groupBytes (newIndex gs) (setAt index w) (f g)) (λ g. groupBytes (numberIn numbers) (setAt index w) (f g))
+      (λ g p q. group-same (newIndex gs) (numberIn numbers) (setAt index w) (f g) (λ r h. sym (number-is r (omega (arith, shape-within regions w (groups + 3 * g)))))))
+
+  pub store-is : store ≡ headerBytes runs ++ (spotsOf (8 + 4 * runs + (4 + 6 * axes * kept)) sizes ++ (list ++ body))
+  unfolding storeOf placed finalsAt sizesAt
+  store-is =
+      let gs = tabulate 0 count (λ g. finalAt regions w (groups + 3 * g)) in
+      let f : ℕ → Final = (λ g. finalAt regions w (groups + 3 * g)) in
+      let number = newIndex gs in
+      let few : (g : ℕ) → g < count → length (f g .shape) < 32768 = (λ g h. omega (arith, shape-few regions w (groups + 3 * g) (ready .regions-most))) in
+      let n = tables-count number (setAt index w) f count few ∙ sym (plan .runs-is) in
+      let l = list-is src axes w starts regions gs marks (plan .marked) ∙ ap (λ (k : ℕ). listBytes axes k (keptBytes src axes w starts (keep (markedIn marks) (upTo regions)))) (sym (plan .numbered .all)) in
+      rw (l, n, list-long, tables-offsets number (setAt index w) f count few (8 + 4 * runs + (4 + 6 * axes * kept)), body-is)
+      (regroup (bytesOf 2 1) (bytesOf 4 (8 + 4 * runs)) (bytesOf 2 runs) (spotsOf (8 + 4 * runs + (4 + 6 * axes * kept)) (chain (λ g. groupSizes (f g)) count) ++ (list ++ body)))
+    where
+      regroup : (a b c d : List ℕ) → a ++ (b ++ (c ++ d)) ≡ (a ++ (b ++ c)) ++ d
+      regroup a b c d = simp append-assoc
+
+  header-long : length (headerBytes runs) ≡ 8
+  header-long = length-append (bytesOf 2 1) (bytesOf 4 (8 + 4 * runs) ++ bytesOf 2 runs)
+      ∙ omega (arith, length-append (bytesOf 4 (8 + 4 * runs)) (bytesOf 2 runs), bytes-length 2 1, bytes-length 4 (8 + 4 * runs), bytes-length 2 runs)
+
+  spots-long : (first : ℕ) → length (spotsOf first sizes) ≡ 4 * runs
+  spots-long first = spots-length first sizes ∙ ap (λ (n : ℕ). 4 * n) (sym (plan .runs-is))
+
+  pub store-long : length store ≡ 8 + 4 * runs + (4 + 6 * axes * kept) + length body
+  store-long =
+      let first = 8 + 4 * runs + (4 + 6 * axes * kept) in
+      ap length store-is
+      ∙ length-append (headerBytes runs) (spotsOf first sizes ++ (list ++ body))
+      ∙ omega (arith, header-long, length-append (spotsOf first sizes) (list ++ body), spots-long first, length-append list body, list-long)
+
+  -- the pieces, one after another
+  module _ (o : List ℕ) (room : length store ≤ length o) where
+    pub spots-room : (p : List ℕ) (at : ℕ) → Put 0 (headerBytes runs) o p at
+        → (at + length (spotsOf (8 + 4 * runs + (4 + 6 * axes * kept)) sizes) ≤ length p) × (length p ≡ length o)
+    spots-room p at h =
+        let l = put-long 0 (headerBytes runs) o p at h (omega (arith, header-long, store-long)) in
+        (omega (arith, h .end, header-long, spots-long (8 + 4 * runs + (4 + 6 * axes * kept)), store-long), l)
+
+    pub list-room : (p q : List ℕ) (at b next : ℕ) → Put 0 (headerBytes runs) o p at → Spotted at (8 + 4 * runs + (4 + 6 * axes * kept)) sizes p q b next
+        → (b + length list ≤ length q) × (length q ≡ length o)
+    list-room p q at b next h s =
+        let r = spots-room p at h in
+        let l = put-long at (spotsOf (8 + 4 * runs + (4 + 6 * axes * kept)) sizes) p q b (s .put) (r .0) in
+        (omega (arith, h .end, s .put .end, header-long, spots-long (8 + 4 * runs + (4 + 6 * axes * kept)), list-long, store-long, r .1), omega (arith, r .1))
+
+    pub body-room : (p q r : List ℕ) (at b next c : ℕ) → Put 0 (headerBytes runs) o p at → Spotted at (8 + 4 * runs + (4 + 6 * axes * kept)) sizes p q b next
+        → Put b list q r c → (c + length body ≤ length r) × (length r ≡ length o)
+    body-room p q r at b next c h s k =
+        let m = list-room p q at b next h s in
+        let l = put-long b list q r c k (m .0) in
+        (omega (arith, h .end, s .put .end, k .end, header-long, spots-long (8 + 4 * runs + (4 + 6 * axes * kept)), list-long, store-long, m .1), omega (arith, m .1))
+
+    pub store-put : (p q r t : List ℕ) (at b next c e : ℕ) → Put 0 (headerBytes runs) o p at → Spotted at (8 + 4 * runs + (4 + 6 * axes * kept)) sizes p q b next
+        → Put b list q r c → Put c body r t e → Put 0 store o t e
+    store-put p q r t at b next c e h s k j =
+        let first = 8 + 4 * runs + (4 + 6 * axes * kept) in
+        let m1 = spots-room p at h in
+        let m2 = list-room p q at b next h s in
+        let j1 : Put b (list ++ body) q t e = put-join b list body q r t c e k j (omega (arith, h .end, s .put .end, header-long, spots-long first, list-long, store-long, m2 .1)) in
+        let j2 : Put at (spotsOf first sizes ++ (list ++ body)) p t e = put-join at (spotsOf first sizes) (list ++ body) p q t b e (s .put) j1 (omega (arith, h .end, header-long, spots-long first, list-long, store-long, m1 .1, length-append list body)) in
+        rw store-is (put-join 0 (headerBytes runs) (spotsOf first sizes ++ (list ++ body)) o p t at e h j2 (omega (arith, header-long, spots-long first, list-long, store-long, length-append list body, length-append (spotsOf first sizes) (list ++ body))))
+
+-- ---- what was drafted is what is written
+
+join-total : (ts : List (List ℕ)) → length (joinAll ts) ≡ total (map (λ (t : List ℕ). length t) ts)
+unfolding joinAll weigh
+join-total [] = refl
+join-total (t ∷ ts) = length-append t (joinAll ts) ∙ rw (join-total ts)
+
+module _ (src : List ℕ) (axes starts : ℕ) (w : List ℕ) (regions groups count index : ℕ) (marks numbers : List ℕ) (bytes runs kept : ℕ)
+    (ready : Ready src axes starts w regions groups count index) (d : Drafted axes w regions groups count marks numbers bytes runs kept) (h : bytes < 4294967296) where
+  pub planned : Planned axes w regions groups count marks numbers runs kept
+  planned = record {
+    marks-room = d .marks-room;
+    numbers-room = d .numbers-room;
+    marked = d .marked;
+    numbered = d .numbered;
+    runs-is = d .runs-is;
+    runs-few = d .runs-few;
+    short = omega (arith, d .bytes-is);
+  }
+
+  -- the bytes that were drafted are exactly those of the store
+  pub draft-exact : bytes ≡ length (storeOf axes (coordsOf src axes w starts regions) (setAt index w) (finalsAt regions groups count w))
+  unfolding sizesAt
+  draft-exact =
+      let f : ℕ → Final = (λ g. finalAt regions w (groups + 3 * g)) in
+      let number = newIndex (finalsAt regions groups count w) in
+      let few : (g : ℕ) → g < count → length (f g .shape) < 32768 = (λ g l. omega (arith, shape-few regions w (groups + 3 * g) (ready .regions-most))) in
+      let b = sym (ap length (body-is src axes starts w regions groups count index marks numbers runs kept ready planned)) ∙ join-total (tables number (setAt index w) f count) ∙ ap total (tables-sized number (setAt index w) f count few) in
+      omega (arith, d .bytes-is, store-long src axes starts w regions groups count index marks numbers runs kept ready planned)

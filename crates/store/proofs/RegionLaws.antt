@@ -1,0 +1,172 @@
+-- Laws of the regions that a store keeps. Assumes nothing.
+use mathlib.Core.Path.{_≡_, refl, sym, ap, _∙_}
+use mathlib.Core.Bool.{Bool, true, false, not, _||_, or-true, or-false}
+use mathlib.Core.List.{List, [], _∷_, _++_, append-assoc}
+use mathlib.Core.Logic.{⊎-elim}
+use Prim.Native.Nat.{ℕ, zero, suc, _+_, _-_, _*_, _≤_, _<_}
+use native.Mathlib.Numerals.{add-one}
+use native.Mathlib.Omega.{arith}
+use lib.Dec.{eqb}
+use lib.ListN.{length, getD, set, length-set, length-append, List·getD-eq-default}
+use lib.Seq.{getD-set-same, getD-set-other}
+use borrow.Author.Count.{below-more}
+use borrow.Author.Tests.{eq-eqb, ne-eqb}
+use Rattle.laws.specs.Pick.{pick}
+use Rattle.laws.specs.Bounded.{tabulate, upTo}
+use Rattle.laws.specs.Sorting.{keep}
+use Rattle.laws.proofs.BoundedLaws.{tabulate-snoc}
+use Rattle.laws.proofs.UpLaws.{up-long}
+use Rattle.laws.proofs.Cases.{Which, which, same-or-not, lt-or-ge}
+use Rattle.laws.proofs.Cases.Which.{holds, fails}
+use Rattle.shapes.specs.Shape.{Shape}
+use Rattle.store.specs.Placing.{Final, names}
+use Rattle.store.specs.Lent.{finalAt, finalsAt, markedIn, Named, Marks, Numbered}
+
+-- ---- marks of one shape
+
+pub record Naming (s old new : List ℕ) (i : ℕ) : Type 0 where
+  pub within : i ≤ length s
+  pub long : length new ≡ length old
+  pub some : (r : ℕ) → r < i → (getD s r 0 ≡ 0 → ⊥) → getD new r 0 ≡ 1
+  pub none : (r : ℕ) → getD s r 0 ≡ 0 → getD new r 0 ≡ getD old r 0
+
+module _ (s old : List ℕ) (room : length s ≤ length old) where
+  pub naming-start : Naming s old old 0
+  naming-start = record { within = omega arith; long = refl; some = λ r h. absurd (omega arith); none = λ r e. refl }
+
+  module _ (new : List ℕ) (i : ℕ) (m : Naming s old new i) (h : i < length s) where
+    pub naming-some : (getD s i 0 ≡ 0 → ⊥) → Naming s old (set new i 1) (i + 1)
+    naming-some n = record {
+      within = omega arith;
+      long = length-set new i 1 ∙ m .long;
+      some = below-more _ _
+          (λ r l d. getD-set-other new i r 1 0 (omega arith) ∙ m .some r l d)
+          (λ d. getD-set-same new i 1 0 (omega (arith, m .long)));
+      none = λ r e. getD-set-other new i r 1 0 (λ q. n (rw q at e)) ∙ m .none r e;
+    }
+
+    pub naming-none : getD s i 0 ≡ 0 → Naming s old new (i + 1)
+    naming-none e = record {
+      within = omega arith;
+      long = m .long;
+      some = below-more _ _ (m .some) (λ d. absurd (d e));
+      none = m .none;
+    }
+
+  pub naming-done : (new : List ℕ) (i : ℕ) → Naming s old new i → length s ≤ i → Named s old new
+  naming-done new i m h = record { long = m .long; some = λ r l d. m .some r (omega arith) d; none = m .none }
+
+-- ---- marks of all groups
+
+or-shift : (a b c : Bool) → a || (b || c) ≡ (a || b) || c
+or-shift true b c = refl
+or-shift false b c = refl
+
+names-snoc : (r : ℕ) (l : List Final) (g : Final) → names r (l ++ (g ∷ [])) ≡ names r l || not (eqb (getD (g .shape) r 0) 0)
+unfolding names
+names-snoc r [] g = or-false (not (eqb (getD (g .shape) r 0) 0))
+names-snoc r (x ∷ l) g = rw (names-snoc r l g) (or-shift (not (eqb (getD (x .shape) r 0) 0)) (names r l) (not (eqb (getD (g .shape) r 0) 0)))
+
+pub marks-none : (regions groups : ℕ) (w marks : List ℕ) → ((r : ℕ) → getD marks r 0 ≡ 0) → Marks (finalsAt regions groups 0 w) marks
+unfolding finalsAt tabulate names
+marks-none regions groups w marks z = record { is = λ r. rw (z r) }
+
+module _ (old new : List ℕ) (l : List Final) (g : Final) (m : Marks l old) (n : Named (g .shape) old new) where
+  marks-snoc : Marks (l ++ (g ∷ [])) new
+  marks-snoc = record {
+    is = λ r. ⊎-elim
+        (λ (e : getD (g .shape) r 0 ≡ 0).
+        rw (names-snoc r l g, n .none r e, eq-eqb (getD (g .shape) r 0) 0 e, or-false (names r l)) (m .is r))
+        (λ d.
+        let b : r < length (g .shape) = ⊎-elim (λ h. h) (λ h. absurd (d (List·getD-eq-default (g .shape) 0 h))) (lt-or-ge r (length (g .shape))) in
+        rw (names-snoc r l g, n .some r b d, ne-eqb (getD (g .shape) r 0) 0 d, or-true (names r l)))
+        (same-or-not (getD (g .shape) r 0) 0);
+  }
+
+pub marks-more : (regions groups g : ℕ) (w old new : List ℕ) → Marks (finalsAt regions groups g w) old → Named (finalAt regions w (groups + 3 * g) .shape) old new
+    → Marks (finalsAt regions groups (g + 1) w) new
+unfolding finalsAt
+marks-more regions groups g w old new m n =
+    let f : ℕ → Final = (λ i. finalAt regions w (groups + 3 * i)) in
+    let e : 0 + g ≡ g = omega arith in
+    let step : tabulate 0 (g + 1) f ≡ tabulate 0 g f ++ (f g ∷ []) = tabulate-snoc 0 g f ∙ ap (λ (k : ℕ). tabulate 0 g f ++ (f k ∷ [])) e in
+    rw step (marks-snoc old new (tabulate 0 g f) (f g) m n)
+
+-- ---- new numbers
+
+module _ (p : ℕ → Bool) where
+  keep-snoc-in : (l : List ℕ) (x : ℕ) → p x ≡ true → length (keep p (l ++ (x ∷ []))) ≡ length (keep p l) + 1
+  unfolding keep
+  keep-snoc-in [] x e = rw e (omega arith)
+  keep-snoc-in (y ∷ l) x e = go (which (p y)) (keep-snoc-in l x e)
+    where
+      go : Which (p y) → length (keep p (l ++ (x ∷ []))) ≡ length (keep p l) + 1 → length (keep p (y ∷ l ++ (x ∷ []))) ≡ length (keep p (y ∷ l)) + 1
+      go (holds t) h = rw (t, h) (omega arith)
+      go (fails t) h = rw (t, h)
+
+  keep-snoc-out : (l : List ℕ) (x : ℕ) → p x ≡ false → keep p (l ++ (x ∷ [])) ≡ keep p l
+  unfolding keep
+  keep-snoc-out [] x e = rw e
+  keep-snoc-out (y ∷ l) x e = rw (keep-snoc-out l x e)
+
+  keep-most : (l : List ℕ) → length (keep p l) ≤ length l
+  unfolding keep
+  keep-most [] = omega arith
+  keep-most (y ∷ l) = go (which (p y)) (keep-most l)
+    where
+      go : Which (p y) → length (keep p l) ≤ length l → length (keep p (y ∷ l)) ≤ suc (length l)
+      go (holds t) h = rw t (omega arith)
+      go (fails t) h = rw t (omega arith)
+
+  up-next : (r : ℕ) → upTo (r + 1) ≡ upTo r ++ (r ∷ [])
+  up-next r = tabulate-snoc 0 r (λ k. k) ∙ (let e : 0 + r ≡ r = omega arith in rw e)
+
+  pub kept-in : (r : ℕ) → p r ≡ true → length (keep p (upTo (r + 1))) ≡ length (keep p (upTo r)) + 1
+  kept-in r e = rw (up-next r) (keep-snoc-in (upTo r) r e)
+
+  pub kept-out : (r : ℕ) → p r ≡ false → length (keep p (upTo (r + 1))) ≡ length (keep p (upTo r))
+  kept-out r e = rw (up-next r) (ap length (keep-snoc-out (upTo r) r e))
+
+  pub kept-most : (r : ℕ) → length (keep p (upTo r)) ≤ r
+  kept-most r = omega (arith, keep-most (upTo r), up-long r)
+
+-- the first r regions are numbered
+pub record Numbering (marks : List ℕ) (regions : ℕ) (old numbers : List ℕ) (n r : ℕ) : Type 0 where
+  pub within : r ≤ regions
+  pub long : length numbers ≡ length old
+  pub at : (k : ℕ) → k < r → getD numbers k 0 ≡ length (keep (markedIn marks) (upTo k))
+  pub all : n ≡ length (keep (markedIn marks) (upTo r))
+
+module _ (marks : List ℕ) (regions : ℕ) (old : List ℕ) (room : regions ≤ length old) where
+  pub number-start : Numbering marks regions old old 0 0
+  unfolding tabulate keep
+  number-start = record { within = omega arith; long = refl; at = λ k h. absurd (omega arith); all = refl }
+
+  pub number-most : (numbers : List ℕ) (n r : ℕ) → Numbering marks regions old numbers n r → n ≤ r
+  number-most numbers n r m = omega (arith, m .all, kept-most (markedIn marks) r)
+
+  module _ (numbers : List ℕ) (n r : ℕ) (m : Numbering marks regions old numbers n r) (h : r < regions) where
+    more : (v : ℕ) → v ≡ length (keep (markedIn marks) (upTo (r + 1))) → Numbering marks regions old (set numbers r n) v (r + 1)
+    more v e = record {
+      within = omega arith;
+      long = length-set numbers r n ∙ m .long;
+      at = below-more _ _
+          (λ k l. getD-set-other numbers r k n 0 (omega arith) ∙ m .at k l)
+          (getD-set-same numbers r n 0 (omega (arith, m .long)) ∙ m .all);
+      all = e;
+    }
+
+    pub number-in : (getD marks r 0 ≡ 0 → ⊥) → Numbering marks regions old (set numbers r n) (n + 1) (r + 1)
+    number-in d =
+        let b : markedIn marks r ≡ true = rw (ne-eqb (getD marks r 0) 0 d) in
+        more (n + 1) (omega (arith, m .all, kept-in (markedIn marks) r b))
+
+    pub number-out : getD marks r 0 ≡ 0 → Numbering marks regions old (set numbers r n) n (r + 1)
+    number-out e =
+        let b : markedIn marks r ≡ false = rw (eq-eqb (getD marks r 0) 0 e) in
+        more n (omega (arith, m .all, kept-out (markedIn marks) r b))
+
+  pub number-done : (numbers : List ℕ) (n r : ℕ) → Numbering marks regions old numbers n r → regions ≤ r → Numbered marks regions numbers n
+  number-done numbers n r m h =
+      let e : r ≡ regions = omega (arith, m .within) in
+      record { at = λ k l. m .at k (omega arith); all = rw e at (m .all) }

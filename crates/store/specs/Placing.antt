@@ -1,0 +1,89 @@
+-- The whole store. Document 01, "Byte placing": "Format 1 (u16), region list offset (u32), subtable count (u16), subtable offsets (u32 each,
+-- 0 for null); region list: axis count, region count (u16), then start, peak, end per axis; subtables in order: item count, word count,
+-- region count, region indexes (u16), rows. No gaps or sharing."
+use mathlib.Core.Bool.{Bool, false, not, _||_}
+use mathlib.Core.List.{List, [], _∷_, _++_, map}
+use Prim.Native.Nat.{ℕ, suc, _+_, _*_}
+use lib.Dec.{eqb}
+use lib.ListN.{length, getD, take, drop}
+use Rattle.laws.specs.Pick.{pick}
+use Rattle.laws.specs.Bytes.{bytesOf}
+use Rattle.laws.specs.Bounded.{tabulate, upTo}
+use Rattle.laws.specs.Sorting.{keep}
+use Rattle.shapes.specs.Shape.{Shape}
+use Rattle.shapes.specs.Group.{groupCost, maxItems}
+use Rattle.rows.specs.Row.{Set}
+use Rattle.rows.specs.Subtable.{joinAll, runCount, subtableOf}
+
+-- a final group: its shape, and the ids of its sets in the order of rows
+pub record Final : Type 0 where
+  pub shape : Shape
+  pub ids : List ℕ
+
+-- ---- runs: each of 65,535 sets, the last of what is left; `runCount` says how many
+
+unfoldable pub runsOf : Final → List Final
+runsOf g = tabulate 0 (runCount (length (g .ids))) (λ k. record { shape = g .shape; ids = take maxItems (drop (maxItems * k) (g .ids)) })
+
+unfoldable pub allRuns : List Final → List Final
+allRuns gs = joinAll (map runsOf gs)
+
+-- "Outer is the run's position, inner the row's. The id's map word is outer x 65,536 + inner."
+unfoldable pub inRun : ℕ → ℕ → List ℕ → List (ℕ × ℕ)
+inRun outer inner [] = []
+inRun outer inner (x ∷ xs) = (x, outer * 65536 + inner) ∷ inRun outer (suc inner) xs
+
+unfoldable pub idWords : ℕ → List Final → List (ℕ × ℕ)
+idWords outer [] = []
+idWords outer (r ∷ rs) = inRun outer 0 (r .ids) ++ idWords (suc outer) rs
+
+-- ---- regions: "Regions no subtable names are dropped, the rest renumbered in order."
+
+unfoldable pub names : ℕ → List Final → Bool
+names r [] = false
+names r (g ∷ gs) = not (eqb (getD (g .shape) r 0) 0) || names r gs
+
+abbrev pub keptOf : ℕ → List Final → List ℕ
+keptOf regions gs = keep (λ r. names r gs) (upTo regions)
+
+-- the new number of region r
+abbrev pub newIndex : List Final → ℕ → ℕ
+newIndex gs r = length (keptOf r gs)
+
+-- ---- the parts of the store
+
+-- each subtable's offset, the first one's being at
+unfoldable pub offsetsOf : ℕ → List (List ℕ) → List ℕ
+offsetsOf at [] = []
+offsetsOf at ([] ∷ ts) = bytesOf 4 0 ++ offsetsOf at ts
+offsetsOf at ((b ∷ t) ∷ ts) = bytesOf 4 at ++ offsetsOf (at + length (b ∷ t)) ts
+
+-- coords has start, peak and end of each region's axes, as bytes
+unfoldable pub listOf : ℕ → List (List ℕ) → List ℕ → List ℕ
+listOf axes coords kept = bytesOf 2 axes ++ (bytesOf 2 (length kept) ++ joinAll (map (λ r. getD coords r []) kept))
+
+unfoldable pub placed : List ℕ → List (List ℕ) → List ℕ
+placed list tables =
+    bytesOf 2 1
+    ++ (bytesOf 4 (8 + 4 * length tables)
+    ++ (bytesOf 2 (length tables)
+    ++ (offsetsOf (8 + 4 * length tables + length list) tables
+    ++ (list
+    ++ joinAll tables))))
+
+unfoldable pub storeOf : ℕ → List (List ℕ) → (ℕ → Set) → List Final → List ℕ
+storeOf axes coords set gs =
+    placed (listOf axes coords (keptOf (length coords) gs))
+    (map (λ r. subtableOf (newIndex gs) set (r .shape) (r .ids)) (allRuns gs))
+
+-- ---- "The forecast is 12 + 6 x axes x regions kept + the model's cost of each final group written + 4 per null subtable."
+
+unfoldable pub modelOf : Final → ℕ
+modelOf g = pick (eqb (length (g .ids)) 0) 4 (groupCost (record { shape = g .shape; sets = length (g .ids) }))
+
+unfoldable pub modelled : List Final → ℕ
+modelled [] = 0
+modelled (g ∷ gs) = modelOf g + modelled gs
+
+unfoldable pub forecastOf : ℕ → ℕ → List Final → ℕ
+forecastOf axes kept gs = 12 + 6 * axes * kept + modelled gs
