@@ -22,8 +22,8 @@ use Rattle.sets.specs.Ids.{sharedIds, distinct}
 use Rattle.sets.specs.Lent.{setsIn}
 use Rattle.sets.proofs.HeldLaws.{sets-length}
 use Rattle.groups.specs.Groups.{groupsOf}
-use Rattle.merging.specs.Model.{merged}
-use Rattle.merging.proofs.Theorems.{fewer, none-of-none}
+use Rattle.rule.specs.Model.{merged}
+use Rattle.rule.proofs.Theorems.{fewer, none-of-none}
 use Rattle.rows.specs.Lent as rows
 use Rattle.job.specs.Refusals.{firstFailed}
 use Rattle.job.specs.Job.{Said}

@@ -20,10 +20,10 @@ use Rattle.groups.specs.Groups.{Before, groupsOf}
 use Rattle.groups.specs.Table as tab
 use Rattle.groups.proofs.GroupLaws.{before-unlike, groups-some, groups-long, groups-unlike, groups-count}
 use Rattle.groups.proofs.AddSteps.{none, groups-length, shape-at}
+use Rattle.rule.proofs.Theorems.{Proper}
 use Rattle.merging.specs.declared.tables.Tables.{Tables}
 use Rattle.merging.specs.Lent as merge
 use Rattle.merging.specs.Optimized.{Ready}
-use Rattle.merging.proofs.Theorems.{Proper}
 use Rattle.encoder.specs.declared.places.Places.{Places}
 use Rattle.encoder.specs.Places.{Laid}
 use Rattle.encoder.specs.Arranged.{shapesAt, JoinFit}

@@ -9,7 +9,7 @@ use Rattle.laws.specs.Range.{Only, seg}
 use Rattle.shapes.specs.Lent.{Narrow}
 use Rattle.sets.specs.Lent.{setOf, setsIn, Held}
 use Rattle.groups.specs.Groups.{groupsOf, maxShapes}
-use Rattle.merging.specs.Held.{words}
+use Rattle.rule.specs.Told.{words}
 use Rattle.rows.specs.Placing.{Final}
 use Rattle.rows.specs.Lent.{finalAt, finalsAt}
 use Rattle.encoder.specs.Packed.{Packed, shared, own}

@@ -17,7 +17,7 @@ use Rattle.laws.proofs.EveryLaws.{all-imp, all-map, all-getD, two-getD}
 use Rattle.laws.proofs.ListLaws.{getD-map-in}
 use Rattle.laws.proofs.BytesLaws.{bytes-length}
 use Rattle.groups.specs.Groups.{maxShapes}
-use Rattle.merging.specs.Held.{words}
+use Rattle.rule.specs.Told.{words}
 use Rattle.rows.specs.Placing.{allRuns, idWords}
 use Rattle.rows.specs.Lent.{stored}
 use Rattle.job.specs.Records.{recordBytes}

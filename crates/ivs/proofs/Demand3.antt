@@ -1,4 +1,4 @@
--- Demand 3 of the whole build, of the merges that it makes and logs, over the rule (merging's specs/Model.antt) on the job's groups: each sentence a
+-- Demand 3 of the whole build, of the merges that it makes and logs, over the rule (rule's specs/Model.antt) on the job's groups: each sentence a
 -- field. And what mode 1 answers for them. Assumes nothing.
 use mathlib.Core.Path.{_≡_, refl, sym, ap, subst, _∙_}
 use mathlib.Core.Option.{some}
@@ -16,11 +16,11 @@ use Rattle.sets.specs.Set.{Set}
 use Rattle.sets.specs.Ids.{distinct}
 use Rattle.groups.specs.Groups.{groupsOf}
 use Rattle.groups.proofs.GroupLaws.{groups-unlike, groups-some, groups-long}
-use Rattle.merging.specs.Model.{Pair, Entry, gainOf, choice, run, start, merged, total}
-use Rattle.merging.specs.Held.{words}
-use Rattle.merging.proofs.Theorems as merging
-use Rattle.merging.proofs.Theorems.{Merges, saved, merged-merges, run-total, all-gains-zero, fewer, none-of-none, weighed-is, weighed-few}
-use Rattle.merging.proofs.Origins.{homes, one-home, Made, made}
+use Rattle.rule.specs.Model.{Pair, Entry, gainOf, choice, run, start, merged, total}
+use Rattle.rule.specs.Told.{words}
+use Rattle.rule.proofs.Theorems as theorems
+use Rattle.rule.proofs.Theorems.{Merges, saved, merged-merges, run-total, all-gains-zero, fewer, none-of-none, weighed-is, weighed-few}
+use Rattle.rule.proofs.Origins.{homes, one-home, Made, made}
 use Rattle.rows.specs.Placing.{allRuns, storeOf}
 use Rattle.job.specs.Job.{Said, fine, outcome}
 use Rattle.encoder.specs.Packed.{Packed, shared, own, isAhead, finalOf, finalsOf, oneCost}
@@ -91,7 +91,7 @@ ruled xs = record {
 }
 
 -- the groups of a job's sets differ in shape, and each has sets
-groups-proper : (n : ℕ) (all : List Set) → merging.Proper n (groupsOf n all)
+groups-proper : (n : ℕ) (all : List Set) → theorems.Proper n (groupsOf n all)
 groups-proper n all = record {
   full = all-and _ _ (groupsOf n all) (groups-some n all) (groups-long n all);
   distinct = groups-unlike n all;
@@ -215,7 +215,7 @@ module _ (axes : ℕ) (job : List ℕ) (work : ℕ) (l : Lent) (r : Report) (a :
     said = s;
     said-is = a .said-is;
     rule = ruled-here;
-    no-fold = λ j c e. merging.no-fold (length (s .used)) j (groupsSaid s) (groups-proper (length (s .used)) (s .sets)) c e;
+    no-fold = λ j c e. theorems.no-fold (length (s .used)) j (groupsSaid s) (groups-proper (length (s .used)) (s .sets)) c e;
     log-fits = fits;
     log-is = λ log _. log-all log;
     log-front = λ log _. log-begins log;
