@@ -1,5 +1,5 @@
 -- Demand 3 of document 01, of what `optimize` answers and leaves: each sentence a field. (That a living group never has the joined shape is
--- `no-fold` of Theorems.antt, for shapes that differ at the start.) Assumes nothing.
+-- `no-fold` of rule's Theorems.antt, for shapes that differ at the start.) Assumes nothing.
 use mathlib.Core.Path.{_≡_, _∙_}
 use mathlib.Core.List.{List}
 use Prim.Native.Nat.{ℕ, _+_, _-_, _*_, _/_, _≤_, _<_}

@@ -2,14 +2,14 @@
 use mathlib.Core.Path.{_≡_}
 use mathlib.Core.Bool.{Bool, true, false}
 use mathlib.Core.Logic.{_≢_, _⊎_}
-use mathlib.Core.List.{List, [], _∷_, List·Memᴰ}
+use mathlib.Core.List.{List, [], _∷_}
 use Prim.Native.Nat.{ℕ, _+_, _-_, _*_, _≤_, _<_}
 use lib.ListN.{length, getD}
 use Rattle.laws.specs.Bag.{sum, weigh}
 use Rattle.laws.specs.Every.{All}
 use Rattle.laws.specs.Range.{Only, seg}
 use Rattle.shapes.specs.Group.{Group, gain, joined}
-use Rattle.rule.specs.Model.{Living, Entry, State, start, run, total}
+use Rattle.rule.specs.Model.{Living, State, start, run, total}
 use Rattle.rule.specs.Told.{Among, words}
 use Rattle.queue.specs.declared.Waiting.{Waiting}
 use Rattle.queue.specs.Queue.{AtLeast, HeapOrdered, Has}
