@@ -8,7 +8,14 @@ use std::path::PathBuf;
 use std::process::Command;
 
 /// The crate, and those that it reaches.
-const CRATES: [&str; 4] = ["laws", "shapes", "merging", "merging_bench"];
+const CRATES: [&str; 6] = [
+    "laws",
+    "shapes",
+    "rule",
+    "queue",
+    "merging",
+    "merging_bench",
+];
 
 fn main() {
     let here = PathBuf::from(env::var_os("CARGO_MANIFEST_DIR").expect("cargo sets it"));

@@ -17,8 +17,8 @@ use Rattle.laws.proofs.BoundedLaws.{length-tabulate}
 use Rattle.laws.proofs.RangeLaws.{length-seg}
 use Rattle.laws.proofs.SortLaws.{keep-same}
 use Rattle.groups.specs.Groups.{maxShapes}
-use Rattle.merging.specs.Model.{Entry}
-use Rattle.merging.specs.Held.{words}
+use Rattle.rule.specs.Model.{Entry}
+use Rattle.rule.specs.Told.{words}
 use Rattle.store.specs.Placing.{Final, allRuns, idWords, names, keptOf, storeOf, forecastOf}
 use Rattle.rows.specs.Lent.{setAt}
 use Rattle.store.specs.Lent.{Drafted, Planned, Ready, coordsAt, coordsOf, finalAt, finalsAt, markedIn, sizesAt, stored}

@@ -10,7 +10,7 @@ use Rattle.laws.specs.Range.{seg}
 use Rattle.shapes.specs.Lent.{Narrow}
 use Rattle.sets.specs.Lent.{Held}
 use Rattle.groups.specs.Cover.{coverFrom}
-use Rattle.merging.specs.Held.{words}
+use Rattle.rule.specs.Told.{words}
 use Rattle.store.specs.Lent.{coordsOf, finalAt, finalsAt}
 use Rattle.encoder.specs.declared.places.Places.{Places}
 use Rattle.encoder.specs.declared.encoded.Encoded.{Encoded}

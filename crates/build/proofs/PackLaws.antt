@@ -23,8 +23,8 @@ use Rattle.sets.specs.Ids.{sharedIds, distinct}
 use Rattle.sets.specs.Lent.{setsIn}
 use Rattle.sets.proofs.HeldLaws.{kept-only, held-kept, sets-same, sets-length}
 use Rattle.groups.specs.Groups.{groupsOf, maxShapes}
-use Rattle.merging.specs.Model.{merged}
-use Rattle.merging.proofs.Theorems.{fewer, none-of-none}
+use Rattle.rule.specs.Model.{merged}
+use Rattle.rule.proofs.Theorems.{fewer, none-of-none}
 use Rattle.store.specs.Lent as store
 use Rattle.said.specs.Refusals.{firstFailed}
 use Rattle.said.specs.Job.{Said}

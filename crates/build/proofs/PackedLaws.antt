@@ -36,9 +36,9 @@ use Rattle.groups.specs.Groups.{shapeOf, groupsOf}
 use Rattle.groups.specs.Cover.{coverFrom, coverOf}
 use Rattle.groups.proofs.GroupLaws.{shape-length, from-all, groups-long, groups-unlike, groups-some, groups-has, Has}
 use Rattle.groups.proofs.CoverSteps.{cover-length, covers-each}
-use Rattle.merging.specs.Model.{Living, start, run, merged}
-use Rattle.merging.proofs.Theorems as theorems
-use Rattle.merging.proofs.Origins.{times, homes, one-home, no-home, joinOf, Made, made, Home, home}
+use Rattle.rule.specs.Model.{Living, start, run, merged}
+use Rattle.rule.proofs.Theorems as theorems
+use Rattle.rule.proofs.Origins.{times, homes, one-home, no-home, joinOf, Made, made, Home, home}
 use Rattle.rows.specs.Row.{wordIn, Widths, Covers}
 use Rattle.rows.specs.Subtable.{joinAll}
 use Rattle.store.specs.Placing.{Final}

@@ -7,7 +7,7 @@ use lib.ListN.{length, getD}
 use Rattle.laws.specs.Pick.{pick}
 use Rattle.laws.specs.Bytes.{over}
 use Rattle.groups.specs.Groups.{maxShapes}
-use Rattle.merging.specs.Held.{words}
+use Rattle.rule.specs.Told.{words}
 use Rattle.store.specs.Placing.{storeOf, allRuns, idWords, keptOf, forecastOf}
 use Rattle.store.specs.Lent.{stored}
 use Rattle.said.specs.Refusals.{firstFailed, shapesFull, idsShort, mapShort, logShort, outShort}

@@ -20,14 +20,15 @@ use Rattle.laws.proofs.SortMap.{sorted-map, sorted-same, length-sorted}
 use Rattle.groups.specs.declared.table.Shapes.{Shapes}
 use Rattle.groups.specs.Table.{shapeIn}
 use Rattle.merging.specs.declared.tables.Tables.{Tables}
-use Rattle.merging.specs.Model.{Living, merged}
+use Rattle.rule.specs.Model.{Living, merged}
 use Rattle.merging.specs.Lent.{groupIn, starting}
 use Rattle.merging.specs.Lent as lent
 use Rattle.merging.specs.Waits.{placeOf, groupOf}
-use Rattle.merging.specs.Held.{Lives, Among}
+use Rattle.rule.specs.Told.{Among}
+use Rattle.merging.specs.Held.{Lives}
 use Rattle.merging.specs.Optimized.{Optimized}
-use Rattle.merging.proofs.Theorems.{Proper, shapes-distinct, run-next, run-count}
-use Rattle.merging.proofs.Bridge.{Rising, Numbered, run-numbered, has}
+use Rattle.rule.proofs.Theorems.{Proper, shapes-distinct, run-next, run-count}
+use Rattle.rule.proofs.Bridge.{Rising, Numbered, run-numbered, has}
 use Rattle.merging.proofs.Unique.{starting-length}
 use Rattle.finals.specs.Living.{noLater, livingFrom, livingIn, Unlike, Slot, LivingFit}
 use Rattle.encoder.specs.Packed.{isAhead}

@@ -29,7 +29,7 @@ use Rattle.groups.specs.Groups.{shapeOf}
 use Rattle.groups.specs.Cover.{coverFrom, coverOf, CoverFit, CoverAt}
 use Rattle.groups.proofs.GroupLaws.{shape-length}
 use Rattle.groups.proofs.GroupSteps.{shape-narrow}
-use Rattle.merging.specs.Held.{words}
+use Rattle.rule.specs.Told.{words}
 use Rattle.store.specs.Placing.{Final}
 use Rattle.store.specs.Lent.{finalAt, finalsAt}
 use Rattle.encoder.specs.declared.places.Places.{Places}

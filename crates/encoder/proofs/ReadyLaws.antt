@@ -26,7 +26,7 @@ use Rattle.groups.proofs.AddSteps.{none, groups-length, shape-at}
 use Rattle.merging.specs.declared.tables.Tables.{Tables}
 use Rattle.merging.specs.Lent as merge
 use Rattle.merging.specs.Optimized.{Ready, Optimized}
-use Rattle.merging.proofs.Theorems.{Proper}
+use Rattle.rule.proofs.Theorems.{Proper}
 use Rattle.encoder.specs.declared.places.Places.{Places}
 use Rattle.encoder.specs.Places.{Laid}
 use Rattle.encoder.specs.Arranged.{shapesAt, tablesOf, JoinFit}

@@ -35,11 +35,12 @@ use Rattle.groups.specs.Table as tab
 use Rattle.groups.proofs.GroupLaws.{groups-unlike}
 use Rattle.groups.proofs.AddSteps.{none, groups-length, shape-at}
 use Rattle.merging.specs.declared.tables.Tables.{Tables}
-use Rattle.merging.specs.Model.{Living, start, merged, total}
+use Rattle.rule.specs.Model.{Living, start, merged, total}
 use Rattle.merging.specs.Lent as merge
-use Rattle.merging.specs.Held.{words, written}
+use Rattle.rule.specs.Told.{words}
+use Rattle.merging.specs.Held.{written}
 use Rattle.merging.specs.Optimized.{Optimized}
-use Rattle.merging.proofs.Bridge.{has}
+use Rattle.rule.proofs.Bridge.{has}
 use Rattle.merging.proofs.Unique.{final}
 use Rattle.merging.proofs.Demand.{demand}
 use Rattle.store.specs.Placing.{Final}

@@ -8,7 +8,7 @@ use Rattle.laws.specs.Every.{All}
 use Rattle.laws.specs.Range.{Only, seg}
 use Rattle.shapes.specs.Lent.{Narrow}
 use Rattle.sets.specs.Lent.{setOf, setsIn, Held}
-use Rattle.merging.specs.Held.{words}
+use Rattle.rule.specs.Told.{words}
 use Rattle.store.specs.Placing.{Final}
 use Rattle.store.specs.Lent.{finalAt, finalsAt}
 use Rattle.encoder.specs.Packed.{Packed, own}

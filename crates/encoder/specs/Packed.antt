@@ -16,7 +16,7 @@ use Rattle.sets.specs.Order as sets
 use Rattle.sets.specs.Ids.{sharedIds, distinct, ownIds}
 use Rattle.groups.specs.Groups.{shapeOf, groupsOf}
 use Rattle.groups.specs.Cover.{coverOf}
-use Rattle.merging.specs.Model.{Living, Entry, start, merged, total}
+use Rattle.rule.specs.Model.{Living, Entry, start, merged, total}
 use Rattle.store.specs.Placing.{Final}
 
 pub record Packed : Type 0 where

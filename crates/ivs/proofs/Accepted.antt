@@ -17,7 +17,7 @@ use Rattle.laws.proofs.EveryLaws.{all-imp, all-map, all-getD, two-getD}
 use Rattle.laws.proofs.ListLaws.{getD-map-in}
 use Rattle.laws.proofs.BytesLaws.{bytes-length}
 use Rattle.groups.specs.Groups.{maxShapes}
-use Rattle.merging.specs.Held.{words}
+use Rattle.rule.specs.Told.{words}
 use Rattle.store.specs.Placing.{allRuns, idWords}
 use Rattle.store.specs.Lent.{stored}
 use Rattle.said.specs.Records.{recordBytes}

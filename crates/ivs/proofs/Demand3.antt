@@ -16,11 +16,11 @@ use Rattle.sets.specs.Set.{Set}
 use Rattle.sets.specs.Ids.{distinct}
 use Rattle.groups.specs.Groups.{groupsOf}
 use Rattle.groups.proofs.GroupLaws.{groups-unlike, groups-some, groups-long}
-use Rattle.merging.specs.Model.{Pair, Entry, gainOf, choice, run, start, merged, total}
-use Rattle.merging.specs.Held.{words}
-use Rattle.merging.proofs.Theorems as merging
-use Rattle.merging.proofs.Theorems.{Merges, saved, merged-merges, run-total, all-gains-zero, fewer, none-of-none, weighed-is, weighed-few}
-use Rattle.merging.proofs.Origins.{homes, one-home, Made, made}
+use Rattle.rule.specs.Model.{Pair, Entry, gainOf, choice, run, start, merged, total}
+use Rattle.rule.specs.Told.{words}
+use Rattle.rule.proofs.Theorems as merging
+use Rattle.rule.proofs.Theorems.{Merges, saved, merged-merges, run-total, all-gains-zero, fewer, none-of-none, weighed-is, weighed-few}
+use Rattle.rule.proofs.Origins.{homes, one-home, Made, made}
 use Rattle.store.specs.Placing.{allRuns, storeOf}
 use Rattle.said.specs.Job.{Said, fine, outcome}
 use Rattle.encoder.specs.Packed.{Packed, shared, own, isAhead, finalOf, finalsOf, oneCost}

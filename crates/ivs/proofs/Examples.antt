@@ -21,8 +21,8 @@ use Rattle.sets.specs.Order as sets
 use Rattle.sets.specs.Ids.{place, withSet, idsFrom, distinctFrom}
 use Rattle.groups.specs.Groups as groups
 use Rattle.groups.specs.Cover.{coverFrom}
-use Rattle.merging.specs.Model as merging
-use Rattle.merging.specs.Held.{words}
+use Rattle.rule.specs.Model as rule
+use Rattle.rule.specs.Told.{words}
 use Rattle.rows.specs.Columns.{addIf, ofWidth, columnsOf, wordCount, bytesFor}
 use Rattle.rows.specs.Row.{wordIn, cellsOf, rowOf}
 use Rattle.rows.specs.Subtable as rows
@@ -280,5 +280,5 @@ pub examples : answers ≡
     ∷ x ∷ x ∷ [])
     (0 ∷ 1 ∷ x ∷ []) (0 ∷ 1 ∷ x ∷ []) (0 ∷ 1 ∷ 9 ∷ x ∷ []) 181
     ∷ []
-unfolding answers setRecords setsRecords jobOf weigh allBelow tabulate be bytesOf compared thenBy isMost fits isZero signed twos word value insert sorted keep widthOf costOf rowCost columns overhead join shapes.widthsOrder shapes.order groupCost joined gain wordOf sameSet sets.byWords sets.orderNone sets.orderHead sets.order place withSet idsFrom distinctFrom groups.shapeOf groups.placed groups.withShape groups.groupsFrom groups.groupsOf coverFrom merging.keepOut merging.outs merging.pairWith merging.keepPair merging.pairs merging.either merging.better merging.lead merging.best merging.worth merging.ifWorth merging.choice merging.entry merging.merge merging.follow merging.step merging.run merging.number merging.start merging.merged merging.total decLt words addIf ofWidth columnsOf wordCount bytesFor wordIn cellsOf rowOf rows.joinAll rows.runCount store.runsOf store.allRuns store.inRun store.idWords store.names rows.indexBytes rows.rowsOf rows.subtableOf store.offsetsOf store.listOf store.placed store.storeOf store.modelOf store.modelled store.forecastOf stored zeros axisZeros valueZeros endZeros valueWord firstFailed publishedWork earlyNo axisNo valueNo endNo said.coordinates said.regionList said.sameRegion said.like said.firstLike said.has said.withUse said.indexIn said.placed said.withValue job.unless job.afterValue job.afterEnd job.valueStep job.endStep job.setStep job.regionsOnly job.step job.endedSets job.ended job.follow job.walk job.outcomeFrom job.outcome workLeft packed.noLater packed.dense packed.sameShape packed.numberOf packed.isAmong packed.belongs packed.finalOf packed.isAhead packed.finalsOf packed.shared packed.oneCost packed.own storeFor regionsKept lateNo reportOf lateAnswer ifDone outLeft idsLeft mapLeft logLeft regionBytes coordsOf packedOf answerFrom answerOf leftFrom outAfter idsAfter mapAfter logAfter
+unfolding answers setRecords setsRecords jobOf weigh allBelow tabulate be bytesOf compared thenBy isMost fits isZero signed twos word value insert sorted keep widthOf costOf rowCost columns overhead join shapes.widthsOrder shapes.order groupCost joined gain wordOf sameSet sets.byWords sets.orderNone sets.orderHead sets.order place withSet idsFrom distinctFrom groups.shapeOf groups.placed groups.withShape groups.groupsFrom groups.groupsOf coverFrom rule.keepOut rule.outs rule.pairWith rule.keepPair rule.pairs rule.either rule.better rule.lead rule.best rule.worth rule.ifWorth rule.choice rule.entry rule.merge rule.follow rule.step rule.run rule.number rule.start rule.merged rule.total decLt words addIf ofWidth columnsOf wordCount bytesFor wordIn cellsOf rowOf rows.joinAll rows.runCount store.runsOf store.allRuns store.inRun store.idWords store.names rows.indexBytes rows.rowsOf rows.subtableOf store.offsetsOf store.listOf store.placed store.storeOf store.modelOf store.modelled store.forecastOf stored zeros axisZeros valueZeros endZeros valueWord firstFailed publishedWork earlyNo axisNo valueNo endNo said.coordinates said.regionList said.sameRegion said.like said.firstLike said.has said.withUse said.indexIn said.placed said.withValue job.unless job.afterValue job.afterEnd job.valueStep job.endStep job.setStep job.regionsOnly job.step job.endedSets job.ended job.follow job.walk job.outcomeFrom job.outcome workLeft packed.noLater packed.dense packed.sameShape packed.numberOf packed.isAmong packed.belongs packed.finalOf packed.isAhead packed.finalsOf packed.shared packed.oneCost packed.own storeFor regionsKept lateNo reportOf lateAnswer ifDone outLeft idsLeft mapLeft logLeft regionBytes coordsOf packedOf answerFrom answerOf leftFrom outAfter idsAfter mapAfter logAfter
 examples = refl

@@ -9,10 +9,10 @@ use lib.Seq.{getD-append-seam}
 use Rattle.laws.specs.Every.{All}
 use Rattle.laws.proofs.EveryLaws.{all-imp}
 use Rattle.shapes.specs.Group.{Group}
-use Rattle.merging.specs.Model.{Living, Pair, Entry, State, choice, entry, merge, follow, step, run, start, merged}
-use Rattle.merging.proofs.PairLaws.{pairs-all, each-pairs, chosen-has}
-use Rattle.merging.proofs.Theorems.{Merge, each-merge, run-merges, run-count, stops}
-use Rattle.merging.proofs.Bridge.{run-numbered, run-step, run-end}
+use Rattle.rule.specs.Model.{Living, Pair, Entry, State, choice, entry, merge, follow, step, run, start, merged}
+use Rattle.rule.proofs.PairLaws.{pairs-all, each-pairs, chosen-has}
+use Rattle.rule.proofs.Theorems.{Merge, each-merge, run-merges, run-count, stops}
+use Rattle.rule.proofs.Bridge.{run-numbered, run-step, run-end}
 
 abbrev pub blank : Entry
 blank = record { first = 0; second = 0; gain = 0 }

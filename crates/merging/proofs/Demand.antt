@@ -1,5 +1,5 @@
 -- Demand 3 of document 01, of what `optimize` answers and leaves: each sentence a field. (That a living group never has the joined shape is
--- `no-fold` of Theorems.antt, for shapes that differ at the start.) Assumes nothing.
+-- `no-fold` of rule's Theorems.antt, for shapes that differ at the start.) Assumes nothing.
 use mathlib.Core.Path.{_≡_, _∙_}
 use mathlib.Core.List.{List}
 use Prim.Native.Nat.{ℕ, _+_, _-_, _*_, _/_, _≤_, _<_}
@@ -7,12 +7,12 @@ use native.Mathlib.Omega.{arith}
 use lib.ListN.{length}
 use Rattle.laws.specs.Every.{All, EachTwo}
 use Rattle.shapes.specs.Group.{Group}
+use Rattle.rule.specs.Model.{gainOf, start, merged}
+use Rattle.rule.proofs.Theorems.{Merges, saved, merged-merges, run-total, all-gains-zero, fewer, none-of-none, weighed-is, weighed-few}
+use Rattle.rule.proofs.Origins.{homes, one-home, Made, made}
 use Rattle.merging.specs.declared.tables.Tables.{Tables}
-use Rattle.merging.specs.Model.{gainOf, start, merged}
 use Rattle.merging.specs.Lent.{starting}
 use Rattle.merging.specs.Optimized.{Optimized}
-use Rattle.merging.proofs.Theorems.{Merges, saved, merged-merges, run-total, all-gains-zero, fewer, none-of-none, weighed-is, weighed-few}
-use Rattle.merging.proofs.Origins.{homes, one-home, Made, made}
 use Rattle.merging.proofs.Unique.{starting-length}
 
 pub record Demand (t : Tables) (merges weighed before after : ℕ) (w : List ℕ) : Type 0 where

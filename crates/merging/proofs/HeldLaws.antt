@@ -11,17 +11,17 @@ use Rattle.laws.proofs.BagLaws.{sum-same}
 use Rattle.laws.proofs.EveryLaws.{all-imp}
 use Rattle.laws.proofs.RangeLaws.{only-seg}
 use Rattle.shapes.specs.Group.{Group, gain}
+use Rattle.rule.specs.Model.{Living, State, start, run}
+use Rattle.rule.proofs.Theorems.{run-count, fewer}
+use Rattle.queue.specs.declared.Waiting.{Waiting}
+use Rattle.queue.specs.Queue.{Has, Popped}
+use Rattle.queue.proofs.QueueContent.{take-best, take-keeps, take-only}
+use Rattle.queue.proofs.QueueOrder.{carry}
 use Rattle.merging.specs.declared.tables.Tables.{Tables}
-use Rattle.merging.specs.declared.queue.Waiting.{Waiting}
-use Rattle.merging.specs.Model.{Living, State, start, run}
-use Rattle.merging.specs.Queue.{Has, Popped}
 use Rattle.merging.specs.Lent.{room, Laid}
 use Rattle.merging.specs.Waits.{placeOf, groupOf, alive, pairOf, heapOf, Reached, Fair}
 use Rattle.merging.specs.Held.{Lives, Reaches, Held, Standing, Chosen}
 use Rattle.merging.specs.Held.Reaches.{here, onto}
-use Rattle.merging.proofs.QueueContent.{take-best, take-keeps, take-only}
-use Rattle.merging.proofs.QueueOrder.{carry}
-use Rattle.merging.proofs.Theorems.{run-count, fewer}
 use Rattle.merging.proofs.WaitLaws.{heap-kept, heap-groups, heap-place, heap-sound, heap-placed, group-of-kept, pair-kept, fair-kept, alive-same}
 
 -- ---- only the queue changed

@@ -10,8 +10,8 @@ use Rattle.laws.proofs.Products.{row-fits}
 use Rattle.laws.proofs.RangeLaws.{only-trans, only-weaken, only-seg, apart-part, outside-at}
 use Rattle.shapes.specs.Group.{joined}
 use Rattle.shapes.specs.Lent.{Narrow}
+use Rattle.queue.specs.declared.Waiting.{Waiting}
 use Rattle.merging.specs.declared.tables.Tables.{Tables}
-use Rattle.merging.specs.declared.queue.Waiting.{Waiting}
 use Rattle.merging.specs.Lent.{room, Laid, groupIn, Sound, JoinedIn}
 use Rattle.merging.specs.Waits.{placeOf, groupOf, heapOf}
 use Rattle.merging.specs.Held.{written, Retired, Noted, Joinable, PairJoined}

@@ -1,16 +1,3 @@
--- The rule on lists, and its theorems.
-pub mod PairLaws
-pub mod Theorems
-pub mod Origins
-pub mod Bridge
-pub mod Worked
--- The queue of waiting pairs.
-pub mod QueueOrder
-pub mod QueueBag
-pub mod QueueHeap
-pub mod QueueWords
-pub mod QueueContent
--- The tables in work.
 pub mod TableLaws
 pub mod SlotLaws
 pub mod WaitLaws
@@ -23,3 +10,4 @@ pub mod FinishLaws
 pub mod OptimizeLaws
 pub mod Unique
 pub mod Demand
+pub mod ReadyWorked

@@ -15,17 +15,18 @@ use Rattle.laws.proofs.BagLaws.{sum-two}
 use Rattle.laws.proofs.EveryLaws.{all-imp, all-and, all-append}
 use Rattle.laws.proofs.RangeLaws.{seg-add}
 use Rattle.shapes.specs.Group.{Group, gain, joined}
+use Rattle.rule.specs.Model.{Living, Pair, Entry, State, Ahead, gainOf, joinedAs, entry, merge, start, run, total, pairs}
+use Rattle.rule.specs.Told.{Among, words}
+use Rattle.rule.proofs.PairLaws.{pairs-sum, pairs-length}
+use Rattle.rule.proofs.Theorems.{run-sets, run-count, weighed-most, merge-total}
+use Rattle.rule.proofs.Bridge.{Rising, run-numbered, has, pair-of, pairs-has, choice-is, without, without-all, without-mem, two-intro, step-is, run-step}
+use Rattle.queue.specs.declared.Waiting.{Waiting}
+use Rattle.queue.specs.Queue.{HeapOrdered, Has}
 use Rattle.merging.specs.declared.tables.Tables.{Tables}
-use Rattle.merging.specs.declared.queue.Waiting.{Waiting}
-use Rattle.merging.specs.Model.{Living, Pair, Entry, State, Ahead, gainOf, joinedAs, entry, merge, start, run, total, pairs}
-use Rattle.merging.specs.Queue.{HeapOrdered, Has}
 use Rattle.merging.specs.Lent.{room, groupIn}
 use Rattle.merging.specs.Waits.{placeOf, groupOf, alive, pairOf, heapOf, Placed, Reached, Waits, Asked, OfferedAll}
-use Rattle.merging.specs.Held.{Lives, Among, words, Reaches, Held, Standing, Chosen, Joinable, PairJoined}
+use Rattle.merging.specs.Held.{Lives, Reaches, Held, Standing, Chosen, Joinable, PairJoined}
 use Rattle.merging.specs.Held.Reaches.{here, onto}
-use Rattle.merging.proofs.PairLaws.{pairs-sum, pairs-length}
-use Rattle.merging.proofs.Theorems.{run-sets, run-count, weighed-most, merge-total}
-use Rattle.merging.proofs.Bridge.{Rising, run-numbered, has, pair-of, pairs-has, choice-is, without, without-all, without-mem, two-intro, step-is, run-step}
 use Rattle.merging.proofs.TableLaws.{room-is}
 use Rattle.merging.proofs.WaitLaws.{alive-none, alive-one, alive-same, sum-next, waits-next}
 use Rattle.merging.proofs.HeldLaws.{held-kept, merges-few}

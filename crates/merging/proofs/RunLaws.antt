@@ -9,18 +9,18 @@ use Rattle.laws.specs.Range.{Only}
 use Rattle.laws.proofs.Cases.{same-or-not}
 use Rattle.laws.proofs.RangeLaws.{only-refl, only-trans, only-weaken}
 use Rattle.shapes.specs.Group.{Group, gain}
+use Rattle.rule.specs.Model.{Living, gainOf, start, run, merged}
+use Rattle.rule.proofs.Theorems.{weighed-few}
+use Rattle.rule.proofs.Bridge.{has, run-numbered, two-intro, merged-is}
+use Rattle.queue.specs.declared.Waiting.{Waiting}
+use Rattle.queue.specs.declared.Taken.{Taken}
+use Rattle.queue.specs.declared.Taken.the-variants.{Best, Nothing}
+use Rattle.queue.specs.Queue.{HeapOrdered, Popped}
+use Rattle.queue.proofs.QueueContent.{taken-best, taken-nothing}
 use Rattle.merging.specs.declared.tables.Tables.{Tables}
-use Rattle.merging.specs.declared.queue.Waiting.{Waiting}
-use Rattle.merging.specs.declared.queue.Taken.{Taken}
-use Rattle.merging.specs.declared.queue.Taken.the-variants.{Best, Nothing}
-use Rattle.merging.specs.Model.{Living, gainOf, start, run, merged}
 use Rattle.merging.specs.Lent.{room, Laid}
 use Rattle.merging.specs.Waits.{placeOf, groupOf, heapOf, Reached, OfferedAll, Took}
-use Rattle.merging.specs.Queue.{HeapOrdered, Popped}
 use Rattle.merging.specs.Held.{written, Lives, Standing, SomeStanding, SomeChosen, PairJoined, Decided, Turned, Ran}
-use Rattle.merging.proofs.QueueContent.{taken-best, taken-nothing}
-use Rattle.merging.proofs.Theorems.{weighed-few}
-use Rattle.merging.proofs.Bridge.{has, run-numbered, two-intro, merged-is}
 use Rattle.merging.proofs.TableLaws.{room-is}
 use Rattle.merging.proofs.HeldLaws.{merges-few, chosen-taken, chosen-dead}
 use Rattle.merging.proofs.MergeLaws.{joined-stands, joined-less}

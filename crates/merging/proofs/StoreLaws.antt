@@ -8,8 +8,8 @@ use lib.ListN.{length, getD, set, length-set}
 use lib.Seq.{getD-set-same, getD-set-other}
 use Rattle.laws.specs.Range.{Only}
 use Rattle.laws.proofs.RangeLaws.{only-trans, only-set, seg-cons, seg-none}
+use Rattle.queue.specs.declared.Waiting.{Waiting}
 use Rattle.merging.specs.declared.tables.Tables.{Tables}
-use Rattle.merging.specs.declared.queue.Waiting.{Waiting}
 use Rattle.merging.specs.Lent.{Laid}
 use Rattle.merging.specs.Waits.{placeOf}
 use Rattle.merging.specs.Held.{Retired, Noted}

@@ -8,14 +8,14 @@ use Rattle.laws.specs.Every.{All}
 use Rattle.laws.specs.Range.{seg}
 use Rattle.laws.proofs.BoundedLaws.{length-tabulate}
 use Rattle.laws.proofs.EveryLaws.{all-imp, all-and}
+use Rattle.rule.specs.Model.{Living, merged}
+use Rattle.rule.proofs.Origins.{Home, home}
+use Rattle.rule.proofs.Bridge.{has}
 use Rattle.merging.specs.declared.tables.Tables.{Tables}
-use Rattle.merging.specs.Model.{Living, merged}
 use Rattle.merging.specs.Lent.{groupIn, starting}
 use Rattle.merging.specs.Waits.{groupOf}
 use Rattle.merging.specs.Held.{Lives}
 use Rattle.merging.specs.Optimized.{Optimized}
-use Rattle.merging.proofs.Origins.{Home, home}
-use Rattle.merging.proofs.Bridge.{has}
 
 pub starting-length : (t : Tables) (w : List ℕ) → length (starting t w) ≡ t .groups
 unfolding starting

@@ -16,13 +16,13 @@ use Rattle.laws.proofs.PartLaws.{only-mid, seg-mid}
 use Rattle.laws.proofs.RangeLaws.{only-refl, only-trans, length-seg}
 use Rattle.shapes.specs.Group.{gain}
 use Rattle.shapes.specs.Lent.{Narrow}
+use Rattle.queue.specs.declared.Waiting.{Waiting}
+use Rattle.queue.specs.declared.Taken.{Taken}
+use Rattle.queue.specs.Queue.{HeapOrdered, Has, Pushed, TakenFrom}
+use Rattle.queue.proofs.QueueContent.{push-has, push-keeps, push-only}
 use Rattle.merging.specs.declared.tables.Tables.{Tables}
-use Rattle.merging.specs.declared.queue.Waiting.{Waiting}
-use Rattle.merging.specs.declared.queue.Taken.{Taken}
 use Rattle.merging.specs.Lent.{room, Laid, shapeIn, groupIn, Sound}
-use Rattle.merging.specs.Queue.{HeapOrdered, Has, Pushed, TakenFrom}
 use Rattle.merging.specs.Waits.{placeOf, groupOf, alive, pairOf, heapOf, Placed, Reached, Fair, Waits, Considered, PushedIn, Asked, Offered, OfferedAll, Opening, Opened, Took}
-use Rattle.merging.proofs.QueueContent.{push-has, push-keeps, push-only}
 use Rattle.merging.proofs.TableLaws.{slot-end}
 use Rattle.merging.proofs.SlotLaws.{shape-kept, laid-kept, group-is}
 

@@ -1,18 +1,19 @@
--- A state of the rule (specs/Model.antt) in lent words. Assumes nothing.
+-- A state of the rule (rule's specs/Model.antt) in lent words. Assumes nothing.
 use mathlib.Core.Path.{_≡_}
 use mathlib.Core.Bool.{Bool, true, false}
 use mathlib.Core.Logic.{_≢_, _⊎_}
-use mathlib.Core.List.{List, [], _∷_, List·Memᴰ}
+use mathlib.Core.List.{List, [], _∷_}
 use Prim.Native.Nat.{ℕ, _+_, _-_, _*_, _≤_, _<_}
 use lib.ListN.{length, getD}
 use Rattle.laws.specs.Bag.{sum, weigh}
 use Rattle.laws.specs.Every.{All}
 use Rattle.laws.specs.Range.{Only, seg}
 use Rattle.shapes.specs.Group.{Group, gain, joined}
+use Rattle.rule.specs.Model.{Living, State, start, run, total}
+use Rattle.rule.specs.Told.{Among, words}
+use Rattle.queue.specs.declared.Waiting.{Waiting}
+use Rattle.queue.specs.Queue.{AtLeast, HeapOrdered, Has}
 use Rattle.merging.specs.declared.tables.Tables.{Tables}
-use Rattle.merging.specs.declared.queue.Waiting.{Waiting}
-use Rattle.merging.specs.Model.{Living, Entry, State, start, run, total}
-use Rattle.merging.specs.Queue.{AtLeast, HeapOrdered, Has}
 use Rattle.merging.specs.Lent.{room, Sound, groupIn}
 use Rattle.merging.specs.Waits.{placeOf, groupOf, alive, pairOf, heapOf, Placed, Reached, Fair, Waits}
 
@@ -22,17 +23,6 @@ pub record Lives (t : Tables) (w : List ℕ) (g : Living) : Type 0 where
   pub alive : 0 < placeOf t w (g .num)
   pub slot : placeOf t w (g .num) ≤ t .groups
   pub is : groupOf t w (g .num) ≡ g .group
-
--- c is the number of a living group
-pub record Among (l : List Living) (c : ℕ) : Type 0 where
-  pub one : Living
-  pub here : List·Memᴰ one l
-  pub num-is : one .num ≡ c
-
--- the words of a log
-unfoldable pub words : List Entry → List ℕ
-words [] = []
-words (e ∷ l) = e .first ∷ e .second ∷ e .gain ∷ words l
 
 -- number c was joined into one that was joined into .. d, which lives; all below k
 pub data Reaches (t : Tables) (k : ℕ) (w : List ℕ) : ℕ → ℕ → Type 0 where

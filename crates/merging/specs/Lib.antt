@@ -1,5 +1,3 @@
-pub mod Model
-pub mod Queue
 pub mod Lent
 pub mod Waits
 pub mod Held

@@ -1,4 +1,4 @@
--- What `optimize` asks of the words that it is lent, and what it leaves in them: what the rule (specs/Model.antt) makes of the starting groups.
+-- What `optimize` asks of the words that it is lent, and what it leaves in them: what the rule (rule's specs/Model.antt) makes of the starting groups.
 -- Assumes nothing.
 use mathlib.Core.Path.{_≡_}
 use mathlib.Core.List.{List, [], _∷_}
@@ -7,11 +7,12 @@ use lib.ListN.{length, getD}
 use Rattle.laws.specs.Bag.{weigh}
 use Rattle.laws.specs.Every.{All}
 use Rattle.laws.specs.Range.{Only, seg}
+use Rattle.rule.specs.Model.{start, merged, total}
+use Rattle.rule.specs.Told.{Among, words}
 use Rattle.merging.specs.declared.tables.Tables.{Tables}
-use Rattle.merging.specs.Model.{start, merged, total}
 use Rattle.merging.specs.Lent.{Laid, Shaped, Sound, Dealt, starting}
 use Rattle.merging.specs.Waits.{placeOf}
-use Rattle.merging.specs.Held.{Lives, Among, Reaches, words, written}
+use Rattle.merging.specs.Held.{Lives, Reaches, written}
 
 -- The starting groups lie in slots of their own, in narrow shapes, and their sets together fit a word.
 pub record Ready (t : Tables) (w : List ℕ) : Type 0 where

@@ -8,11 +8,11 @@ use Rattle.laws.specs.Pick.{pick}
 use Rattle.laws.specs.Bag.{sum}
 use Rattle.laws.specs.Range.{Only, seg}
 use Rattle.shapes.specs.Group.{Group, gain}
+use Rattle.queue.specs.declared.Waiting.{Waiting}
+use Rattle.queue.specs.declared.Taken.{Taken}
+use Rattle.queue.specs.Queue.{HeapOrdered, Has, Pushed, TakenFrom}
 use Rattle.merging.specs.declared.tables.Tables.{Tables}
-use Rattle.merging.specs.declared.queue.Waiting.{Waiting}
-use Rattle.merging.specs.declared.queue.Taken.{Taken}
 use Rattle.merging.specs.Lent.{room, groupIn, Sound}
-use Rattle.merging.specs.Queue.{HeapOrdered, Has, Pushed, TakenFrom}
 
 -- number c lives in a slot, one less than its place; 0 where it is dead
 abbrev pub placeOf : Tables → List ℕ → ℕ → ℕ

@@ -2,7 +2,6 @@
 mod encoder;
 mod groups;
 mod pairs;
-mod queue;
 mod run;
 mod tables;
 mod waits;

@@ -1,7 +1,7 @@
 // What happens to the best pair: its two groups die, and what they become takes the next number.
 use crate::groups;
-use crate::queue::Waiting;
 use crate::tables::Tables;
+use queue::Waiting;
 ghost use Prim.Native.Nat.{_+_, _*_, _<_};
 ghost use lib.ListN.{length};
 ghost use Rattle.merging.specs.Lent.{Laid};

@@ -1,10 +1,10 @@
 // The run: the best pair is taken, and joined where both of its groups live, until none waits.
 use crate::pairs;
-use crate::queue::Taken;
-use crate::queue::Waiting;
 use crate::tables::Tables;
 use crate::waits;
 use crate::waits::Tally;
+use queue::Taken;
+use queue::Waiting;
 ghost use Prim.Native.Nat.{_*_, _<_};
 ghost use lib.ListN.{length};
 ghost use Rattle.merging.specs.Lent.{Laid};

@@ -1,13 +1,12 @@
 // The pairs that wait: each pair of living groups that was weighed and gains.
 use crate::groups;
-use crate::queue;
-use crate::queue::Taken;
 use crate::tables::Tables;
+use queue::Taken;
 ghost use Prim.Native.Nat.{_+_, _*_, _≤_, _<_};
 ghost use lib.ListN.{length};
 ghost use Rattle.laws.specs.Bag.{sum};
+ghost use Rattle.queue.specs.Queue.{HeapOrdered};
 ghost use Rattle.merging.specs.Lent.{Laid, room};
-ghost use Rattle.merging.specs.Queue.{HeapOrdered};
 ghost use Rattle.merging.specs.Waits.{heapOf, alive, Weighable, Considered, PushedIn, Asked, Offered, OfferedAll, Opening, Opened, Took};
 
 // How many pairs wait, and how many were weighed.

@@ -1,7 +1,7 @@
 use mathlib.Core.Path.{sym, subst}
 use mathlib.Core.List.{List}
 use Prim.Native.Nat.{ℕ}
-use Rattle.merging.specs.Queue.{HeapOrdered}
+use Rattle.queue.specs.Queue.{HeapOrdered}
 use Rattle.merging.proofs.TableLaws.{room-most}
 use Rattle.merging.proofs.WaitLaws.{heap-lent, heap-long, lend-taken}
 use native.Mathlib.Omega.{arith}

@@ -1,0 +1,93 @@
+-- `queue::sift_up` meets its contract. The invariant of its loop: pair i may be better than its parent, no other pair is, and the pairs are those
+-- at entry in another order. The measure is i. Assumes nothing.
+use Prim.Native.Nat.{_<_}
+use mathlib.Core.Path.{_≡_, sym}
+use native.Mathlib.Omega.{arith}
+use borrow.Author.Needs.{needs}
+use Rattle.queue.specs.Queue.{RaisedAt}
+use Rattle.queue.proofs.QueueOrder.{carry}
+use Rattle.queue.proofs.QueueHeap.{Moved, moved-none, moved-swap, raise, raised-top, raised-stop, settled}
+use Rattle.queue.proofs.sift_up.Statement.{statement}
+use Rattle.queue.proofs.sift_up.Tie as tie
+
+abbrev Inv-loop : tie.InvT-loop
+Inv-loop heap₀ count start i₀ heap i = (i < count) × RaisedAt heap count i × Moved heap₀ count heap
+
+abbrev μ-loop : tie.MeasureT-loop
+μ-loop heap₀ count start i₀ heap i = i
+
+loop-holds : tie.Need-loop-holds Inv-loop μ-loop
+loop-holds c = (c .before .pre .1, c .before .pre .2, moved-none _ _)
+
+sub-parent : tie.Need-sub-parent Inv-loop μ-loop
+sub-parent c = omega arith
+
+read-requires : tie.Need-read-requires Inv-loop μ-loop
+read-requires c κs = omega arith
+
+read-requires-2 : tie.Need-read-requires-2 Inv-loop μ-loop
+read-requires-2 c κs = omega arith
+
+better-requires : tie.Need-better-requires Inv-loop μ-loop
+better-requires c κs = search needs
+
+swap-requires : tie.Need-swap-requires Inv-loop μ-loop
+swap-requires c κs = omega arith
+
+loop-less : tie.Need-loop-less Inv-loop μ-loop
+loop-less c = omega arith
+
+loop-again : tie.Need-loop-again Inv-loop μ-loop
+loop-again c =
+    let at-swap = c .before .before in
+    let then1 = at-swap .before .before in
+    let at-better = then1 .before in
+    let at-read2 = at-better .before in
+    let at-read = at-read2 .before .before in
+    let in-loop = at-read .before .before in
+    let at-loop = in-loop .before in
+    let inv = at-loop .loop .inv in (
+      omega arith,
+      raise (at-loop .loop .i) (in-loop .loop-test .taken) (inv .0) (inv .1) (at-swap .swap .ensures) (carry (sym (at-read2 .read2 .ensures)) (sym (at-read .read .ensures)) (at-better .better .ensures .0 (then1 .if1 .taken))),
+      moved-swap _ _ (omega arith) (inv .0) (inv .2) (at-swap .swap .ensures) (at-swap .swap .kept .0),
+    )
+
+same-length : tie.Need-same-length Inv-loop μ-loop
+same-length c = search needs
+
+returns : tie.Need-returns Inv-loop μ-loop
+returns c =
+    let at-better = c .before in
+    let at-read2 = at-better .before in
+    let at-read = at-read2 .before .before in
+    let at-loop = at-read .before .before .before in
+    let inv = at-loop .loop .inv in
+    settled (inv .2) (raised-stop (at-loop .loop .i) (inv .1) (carry (sym (at-read .read .ensures)) (sym (at-read2 .read2 .ensures)) (at-better .better .ensures .1 (c .if1 .left))))
+
+same-length-2 : tie.Need-same-length-2 Inv-loop μ-loop
+same-length-2 c = search needs
+
+returns-2 : tie.Need-returns-2 Inv-loop μ-loop
+returns-2 c =
+    let inv = c .before .loop .inv in
+    let z : c .before .loop .i ≡ 0 = omega arith in
+    settled (inv .2) (raised-top (rw z at (inv .1)))
+
+pub sift-up-spec : {M : Type 1} → statement M
+sift-up-spec =
+    tie.close
+    (tie.spec
+    Inv-loop
+    μ-loop
+    loop-holds
+    sub-parent
+    read-requires
+    read-requires-2
+    better-requires
+    swap-requires
+    loop-less
+    loop-again
+    same-length
+    returns
+    same-length-2
+    returns-2)

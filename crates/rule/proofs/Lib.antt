@@ -1,0 +1,5 @@
+pub mod PairLaws
+pub mod Theorems
+pub mod Origins
+pub mod Bridge
+pub mod Worked
