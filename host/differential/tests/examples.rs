@@ -1,7 +1,8 @@
 //! Document 01's examples with the numbers that the document gives, and its edges
-//! that are not marked P. What the document says stands in quotes.
+//! that are not marked P, by the plain reading and by the proved build. What the document
+//! says stands in quotes.
 
-use differential::{cases, check, Tally};
+use differential::{proved, Case};
 use jobs::{edges, examples, hex, Job};
 use plain::{build, number, Done, Refused, Sizes};
 
@@ -12,8 +13,19 @@ fn example(name: &str) -> Done {
     answer(&example.job, example.mode).expect("a done build")
 }
 
+/// What both answer alike.
 fn answer(job: &Job, mode: u32) -> Result<Done, Refused> {
-    build(job.axes as u32, mode, &job.to_bytes(), &Sizes::PLENTY)
+    let (axes, job) = (job.axes as u32, &job.to_bytes());
+    let plain = build(axes, mode, job, &Sizes::PLENTY);
+    let proved = proved::packed(&Case {
+        name: &"an example",
+        axes,
+        mode,
+        job,
+    });
+    // Not by assert_eq, which would print megabytes.
+    assert!(proved == plain, "the proved build and the plain reading");
+    plain
 }
 
 /// One set {R0: a, R1: b}: the word count, the columns' regions and the row.
@@ -177,13 +189,4 @@ fn records() {
     job.sets.push(Vec::new());
     let refused = answer(&job, 1).expect_err("refused");
     assert_eq!((refused.number, refused.place), (number::BAD_JOB_LENGTH, 0));
-}
-
-/// The examples and the edges, compared with the source where it is there.
-#[test]
-fn all_compared() {
-    let mut tally = Tally::default();
-    cases::examples(&mut |case| tally.count(check::case(case)));
-    cases::edges(&mut |case| tally.count(check::case(case)));
-    tally.assert();
 }
