@@ -72,6 +72,27 @@ pub fn packed(case: &Case<'_>) -> Said {
     }
 }
 
+/// What the plain reading and the proved build answer alike.
+///
+/// # Panics
+/// When they do not.
+pub fn alike(axes: u32, mode: u32, job: &[u8]) -> Said {
+    let plain = plain::build(axes, mode, job, &Sizes::PLENTY);
+    let name = &"a job";
+    let case = &Case {
+        name,
+        axes,
+        mode,
+        job,
+    };
+    // Not by assert_eq, which would print megabytes.
+    assert!(
+        packed(case) == plain,
+        "the proved build and the plain reading"
+    );
+    plain
+}
+
 /// The answer comes after the test of work.
 fn tests_work(said: &Said) -> bool {
     !matches!(said, Err(refused) if refused.number < plain::number::WORK_SHORT)

@@ -2,9 +2,9 @@
 //! that are not marked P, by the plain reading and by the proved build. What the document
 //! says stands in quotes.
 
-use differential::{proved, Case};
+use differential::proved;
 use jobs::{edges, examples, hex, Job};
-use plain::{build, number, Done, Refused, Sizes};
+use plain::{number, Done, Refused};
 
 /// The answer to the example of that name.
 fn example(name: &str) -> Done {
@@ -13,19 +13,8 @@ fn example(name: &str) -> Done {
     answer(&example.job, example.mode).expect("a done build")
 }
 
-/// What both answer alike.
 fn answer(job: &Job, mode: u32) -> Result<Done, Refused> {
-    let (axes, job) = (job.axes as u32, &job.to_bytes());
-    let plain = build(axes, mode, job, &Sizes::PLENTY);
-    let proved = proved::packed(&Case {
-        name: &"an example",
-        axes,
-        mode,
-        job,
-    });
-    // Not by assert_eq, which would print megabytes.
-    assert!(proved == plain, "the proved build and the plain reading");
-    plain
+    proved::alike(job.axes as u32, mode, &job.to_bytes())
 }
 
 /// One set {R0: a, R1: b}: the word count, the columns' regions and the row.
