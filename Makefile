@@ -9,7 +9,7 @@
 .PHONY: run test bench check fmt
 
 run:
-	@$(MAKE) -C host --no-print-directory crates
+	@$(MAKE) -s -C host --no-print-directory crates
 	@cd host && cargo build --quiet --release -p cli
 	@./examples/run host/target/release/fenikezo
 

@@ -52,14 +52,14 @@ pub fn each_damage() -> Run {
 
 /// The random jobs of some seeds.
 pub fn random(seeds: &Range<u64>) -> Run {
-    Run::over(share(15, AROUND), |visit| {
+    Run::over(share(31, AROUND), |visit| {
         cases::random(seeds.clone(), visit)
     })
 }
 
 /// The same jobs, damaged.
 pub fn damaged(seeds: &Range<u64>) -> Run {
-    Run::over(share(15, AROUND), |visit| {
+    Run::over(share(31, AROUND), |visit| {
         cases::damaged(seeds.clone(), visit);
     })
 }
