@@ -106,6 +106,15 @@ pub fn random(seeds: std::ops::Range<u64>, visit: &mut dyn FnMut(&Case<'_>)) {
     }
 }
 
+/// The large random jobs of some seeds, in both modes.
+pub fn large(seeds: std::ops::Range<u64>, visit: &mut dyn FnMut(&Case<'_>)) {
+    for seed in seeds {
+        let job = random::large(seed);
+        let name = format_args!("seed {seed} ({})", random::large_recipe(seed));
+        both(job.axes, &job.to_bytes(), &name, visit);
+    }
+}
+
 /// The random jobs of some seeds, damaged, in both modes. A job may still be
 /// sound.
 pub fn damaged(seeds: std::ops::Range<u64>, visit: &mut dyn FnMut(&Case<'_>)) {

@@ -64,6 +64,12 @@ pub fn damaged(seeds: &Range<u64>) -> Run {
     })
 }
 
+/// Large random jobs, one for four hundred of the others.
+pub fn large(seeds: &Range<u64>) -> Run {
+    let some = seeds.start..seeds.start + (seeds.end - seeds.start) / 400;
+    Run::over(share(11, 0), |visit| cases::large(some, visit))
+}
+
 /// The plain reading in memory around each size, on one random job in twenty.
 pub fn sizes(seeds: &Range<u64>) -> Run {
     let mut run = Run::default();

@@ -31,7 +31,7 @@ fn main() -> ExitCode {
         "", "passed", "failed", "passed", "failed", "with source", "seconds"
     );
     let mut all = Tally::default();
-    let runs: [(&str, &dyn Fn() -> Run); 11] = [
+    let runs: [(&str, &dyn Fn() -> Run); 12] = [
         ("recorded answers", &kinds::recorded),
         ("examples", &kinds::examples),
         ("edges", &kinds::edges),
@@ -40,6 +40,7 @@ fn main() -> ExitCode {
         ("all short record sequences", &kinds::records),
         ("every damage to one job", &kinds::each_damage),
         ("random jobs", &|| kinds::random(seeds)),
+        ("large random jobs", &|| kinds::large(seeds)),
         ("damaged jobs", &|| kinds::damaged(seeds)),
         ("plain reading around its sizes", &|| kinds::sizes(seeds)),
         ("stores, most of them damaged", &|| kinds::stores(seeds)),

@@ -55,6 +55,11 @@ fn random_jobs() {
 }
 
 #[test]
+fn large_random_jobs() {
+    held("large random jobs", &kinds::large(&SEEDS));
+}
+
+#[test]
 fn damaged_jobs() {
     held("damaged jobs", &kinds::damaged(&SEEDS));
 }
