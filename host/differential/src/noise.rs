@@ -39,8 +39,44 @@ impl Noisy for u8 {
     }
 }
 
+/// So many words of noise to lend, with more of it on both sides.
+#[derive(Default)]
+pub struct Guarded<T> {
+    words: Vec<T>,
+    count: usize,
+}
+
+/// The words on each side. Odd, so that bytes are lent from an odd place on.
+const SIDE: usize = 19;
+
+impl<T: Noisy> Guarded<T> {
+    /// Noise everywhere, of which so many words are lent.
+    pub fn fill(&mut self, count: usize) {
+        fill(&mut self.words, SIDE + count + SIDE);
+        self.count = count;
+    }
+
+    /// What is lent, to write into.
+    pub fn lend(&mut self) -> &mut [T] {
+        &mut self.words[SIDE..SIDE + self.count]
+    }
+
+    /// What is lent.
+    pub fn lent(&self) -> &[T] {
+        &self.words[SIDE..SIDE + self.count]
+    }
+
+    /// The first word past the first `count` that are lent, or on a side, that does not
+    /// hold its noise any more, by its place in what is lent.
+    pub fn spoilt_past(&self, count: usize) -> Option<isize> {
+        let front = spoilt(&self.words[..SIDE], 0);
+        let at = front.or_else(|| spoilt(&self.words, SIDE + count))?;
+        Some(at as isize - SIDE as isize)
+    }
+}
+
 /// So many words of noise.
-pub fn fill<T: Noisy>(words: &mut Vec<T>, count: usize) {
+fn fill<T: Noisy>(words: &mut Vec<T>, count: usize) {
     words.clear();
     words.reserve(count);
     while words.len() < count {
@@ -50,7 +86,7 @@ pub fn fill<T: Noisy>(words: &mut Vec<T>, count: usize) {
 }
 
 /// The first place from `from` on that does not hold its noise any more.
-pub fn spoilt<T: Noisy>(words: &[T], from: usize) -> Option<usize> {
+fn spoilt<T: Noisy>(words: &[T], from: usize) -> Option<usize> {
     let mut at = from;
     while at < words.len() {
         let noise = &T::noise()[at % PERIOD..];
@@ -87,6 +123,15 @@ mod tests {
             assert_eq!(spoilt(&words, at), Some(at));
             assert_eq!(spoilt(&words, at + 1), None);
             words[at] ^= 1;
+        }
+        let mut lent = Guarded::<u8>::default();
+        lent.fill(5);
+        assert_eq!((lent.lent().len(), lent.spoilt_past(0)), (5, None));
+        lent.lend()[2] ^= 1;
+        assert_eq!((lent.spoilt_past(0), lent.spoilt_past(3)), (Some(2), None));
+        for (at, place) in [(SIDE + 5, 5), (SIDE - 1, -1)] {
+            lent.words[at] ^= 1;
+            assert_eq!(lent.spoilt_past(5), Some(place));
         }
         let mut zeros = vec![0u8; 3_000];
         assert_eq!(not_zero(&zeros), None);

@@ -4,7 +4,7 @@
 
 use crate::check::same;
 use crate::known::{Known, Source};
-use crate::noise::{fill, not_zero, spoilt, Noisy};
+use crate::noise::{not_zero, Guarded, Noisy};
 use crate::{laws, sizes, Case};
 use ivs::Lent;
 use jobs::{hex, RECORD};
@@ -16,11 +16,11 @@ type Said = Result<Done, Refused>;
 /// Lent memory, used again from call to call.
 #[derive(Default)]
 pub struct Buffers {
-    work: Vec<u32>,
-    out: Vec<u8>,
-    ids: Vec<u32>,
-    map: Vec<u32>,
-    log: Vec<u32>,
+    work: Guarded<u32>,
+    out: Guarded<u8>,
+    ids: Guarded<u32>,
+    map: Guarded<u32>,
+    log: Guarded<u32>,
 }
 
 /// Compares on one job with a little more memory than it asks for.
@@ -131,18 +131,18 @@ fn compare(
     due: &Said,
     buffers: &mut Buffers,
 ) -> Result<(), String> {
-    fill(&mut buffers.work, sizes.work);
-    fill(&mut buffers.out, sizes.out);
-    fill(&mut buffers.ids, sizes.ids);
-    fill(&mut buffers.map, sizes.map);
-    fill(&mut buffers.log, sizes.log);
+    buffers.work.fill(sizes.work);
+    buffers.out.fill(sizes.out);
+    buffers.ids.fill(sizes.ids);
+    buffers.map.fill(sizes.map);
+    buffers.log.fill(sizes.log);
     let mut report: [u64; 16] = std::array::from_fn(|i| u64::from(u32::noise()[i]) << 17);
     let mut lent = Lent {
-        work: &mut buffers.work,
-        out: &mut buffers.out,
-        ids: &mut buffers.ids,
-        map: &mut buffers.map,
-        log: &mut buffers.log,
+        work: buffers.work.lend(),
+        out: buffers.out.lend(),
+        ids: buffers.ids.lend(),
+        map: buffers.map.lend(),
+        log: buffers.log.lend(),
     };
     let answer = ivs::build_report(case.axes, case.mode, case.job, &mut lent, &mut report);
     same("report", &report, &report_of(due))
@@ -165,19 +165,28 @@ fn left(buffers: &Buffers, due: &Said) -> Result<(), String> {
         Err(refused) if refused.number <= plain::number::WORK_SHORT => {
             begins("work", &buffers.work, &[])
         }
-        _ => match not_zero(&buffers.work) {
-            None => Ok(()),
-            Some(at) => Err(format!("work: {} at {at}", buffers.work[at])),
-        },
+        _ => {
+            let work = buffers.work.lent();
+            past("work", &buffers.work, work.len())?;
+            match not_zero(work) {
+                None => Ok(()),
+                Some(at) => Err(format!("work: {} at {at}", work[at])),
+            }
+        }
     }
 }
 
 /// The words are those that are due, then noise as before.
-fn begins<T: Noisy>(what: &str, words: &[T], due: &[T]) -> Result<(), String> {
-    same(what, &words[..due.len()], due)?;
-    match spoilt(words, due.len()) {
+fn begins<T: Noisy>(what: &str, words: &Guarded<T>, due: &[T]) -> Result<(), String> {
+    same(what, &words.lent()[..due.len()], due)?;
+    past(what, words, due.len())
+}
+
+/// Past these words, and before the first, there is noise as before.
+fn past<T: Noisy>(what: &str, words: &Guarded<T>, count: usize) -> Result<(), String> {
+    match words.spoilt_past(count) {
         None => Ok(()),
-        Some(at) => Err(format!("{what}: {:?} at {at}, past its end", words[at])),
+        Some(at) => Err(format!("{what}: written at {at}, {count} being due")),
     }
 }
 
@@ -196,12 +205,24 @@ fn source(known: &Known, buffers: &Buffers) -> Result<(), String> {
     let log = &trace.log;
     same(
         "the source's store",
-        &buffers.out[..store.len()],
+        &buffers.out.lent()[..store.len()],
         &store[..],
     )?;
-    same("the source's ids", &buffers.ids[..ids.len()], &ids[..])?;
-    same("the source's map", &buffers.map[..map.len()], &map[..])?;
-    same("the source's log", &buffers.log[..log.len()], &log[..])
+    same(
+        "the source's ids",
+        &buffers.ids.lent()[..ids.len()],
+        &ids[..],
+    )?;
+    same(
+        "the source's map",
+        &buffers.map.lent()[..map.len()],
+        &map[..],
+    )?;
+    same(
+        "the source's log",
+        &buffers.log.lent()[..log.len()],
+        &log[..],
+    )
 }
 
 /// The report of an answer: number, place, the ten counts, zeros.

@@ -1,4 +1,5 @@
-//! README's examples of linking are those that are compiled and run.
+//! README's examples of linking are those that are compiled and run; its refusals and the
+//! header's are those that are given.
 
 use std::fs;
 use std::path::Path;
@@ -45,4 +46,17 @@ fn from_c() {
     let function: Vec<&str> = function.filter(|line| !line.is_empty()).collect();
     assert_eq!(function.last(), Some(&"}"));
     shown(function.into_iter());
+}
+
+#[test]
+fn refusals() {
+    let (readme, header) = (file("README.md"), file("include/ivs.h"));
+    for number in (1..=14).chain(20..=22) {
+        let name = ivs::Refused { number, place: 0 }.name();
+        assert!(
+            readme.contains(&format!("\n| {number} | {name} | ")),
+            "{name}"
+        );
+        assert!(header.contains(&format!("{number} {name}")), "{name}");
+    }
 }
