@@ -2,6 +2,7 @@
 
 use differential::kinds::{self, SEEDS};
 use differential::run::Run;
+use differential::stores::GOOD;
 
 /// All held; how many there were is told (`cargo test -- --nocapture` shows it).
 fn held(name: &str, run: &Run) {
@@ -73,5 +74,6 @@ fn plain_reading_around_its_sizes() {
 fn stores_most_of_them_damaged() {
     let run = kinds::stores(&SEEDS);
     held("stores", &run);
-    assert!(run.plain.passed >= 200_000, "few: {}", run.plain.passed);
+    let damaged = run.plain.passed - run.plain.passed / GOOD as u64;
+    assert!(damaged >= 200_000, "few damaged stores: {damaged}");
 }
