@@ -1,6 +1,6 @@
 # What there is to do here; README.md says more. `rt` is Rattle's command, cargo the host's.
 #
-#   make run    the proved build on the example that ships
+#   make run    the proved build on the example that ships: its table, and the store's rows
 #   make test   everything that is tested: what .ci/run runs
 #   make check  the proofs alone, what changed since they last passed
 #   make bench  the times of the library beside the source's; docs/BENCH.md
@@ -9,8 +9,9 @@
 .PHONY: run test bench check fmt
 
 run:
-	$(MAKE) -C host --no-print-directory crates
-	cd host && cargo run --quiet --release -p ivs --bin pack -- ../examples/two-sets.job 1 0
+	@$(MAKE) -s -C host --no-print-directory crates
+	@cd host && cargo build --quiet --release -p cli
+	@./examples/run host/target/release/fenikezo
 
 test:
 	./tests/run

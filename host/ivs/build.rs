@@ -23,6 +23,7 @@ fn main() {
     let archive = out.join("libivs.a");
     fs::copy(root.join("target/staticlib/libivs.a"), &archive)
         .expect("Rattle has written the archive");
+    println!("cargo:rustc-env=IVS_ARCHIVE={}", archive.display());
     if env::var("CARGO_CFG_TARGET_ARCH").as_deref() == Ok("x86_64") {
         println!("cargo:rustc-link-search=native={}", out.display());
         println!("cargo:rustc-link-lib=static=ivs");

@@ -39,6 +39,23 @@ pub fn examples(visit: &mut dyn FnMut(&Case<'_>)) {
     }
 }
 
+/// Axis counts and modes, good and bad, with jobs that are refused only after both.
+pub fn axes_and_modes(visit: &mut dyn FnMut(&Case<'_>)) {
+    let end = [3, 0, 0, 0, 0, 0, 0, 0, 0, 0, 0, 0];
+    for axes in [0, 1, 2, 63, 64, 65, 256, u32::MAX] {
+        for mode in [0, 1, 2, 256, u32::MAX] {
+            for job in [&[][..], &[0; 11], &[0; 12], &end] {
+                visit(&Case {
+                    name: &"axes and modes",
+                    axes,
+                    mode,
+                    job,
+                });
+            }
+        }
+    }
+}
+
 /// All small jobs, in both modes.
 pub fn small(visit: &mut dyn FnMut(&Case<'_>)) {
     for (k, kind) in small::KINDS.iter().enumerate() {
@@ -51,11 +68,11 @@ pub fn small(visit: &mut dyn FnMut(&Case<'_>)) {
     }
 }
 
-/// All sequences of up to five records, sound and bad, for one and two axes and
+/// All sequences of up to six records, sound and bad, for one and two axes and
 /// in both modes.
 pub fn records(visit: &mut dyn FnMut(&Case<'_>)) {
     let mut number = 0;
-    small::each_record_sequence(5, |job| {
+    small::each_record_sequence(6, |job| {
         for axes in [1, 2] {
             let name = format_args!("record sequence {number}, axes {axes}");
             both(axes, job, &name, visit);
@@ -85,6 +102,15 @@ pub fn random(seeds: std::ops::Range<u64>, visit: &mut dyn FnMut(&Case<'_>)) {
     for seed in seeds {
         let job = random::job(seed);
         let name = format_args!("seed {seed} ({})", random::recipe(seed));
+        both(job.axes, &job.to_bytes(), &name, visit);
+    }
+}
+
+/// The large random jobs of some seeds, in both modes.
+pub fn large(seeds: std::ops::Range<u64>, visit: &mut dyn FnMut(&Case<'_>)) {
+    for seed in seeds {
+        let job = random::large(seed);
+        let name = format_args!("seed {seed} ({})", random::large_recipe(seed));
         both(job.axes, &job.to_bytes(), &name, visit);
     }
 }

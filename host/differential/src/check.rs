@@ -1,42 +1,41 @@
 //! What is compared on one job: the plain reading with the source, and both with
 //! what else can be said of the job.
 
+use crate::known::{Known, Source};
 use crate::{laws, Case};
 use jobs::{Job, RECORD};
 use plain::{number, Done, Refused, Sizes};
 use std::collections::BTreeSet;
 
-/// Compares on one job. The source is asked where it is there.
-pub fn case(case: &Case<'_>) -> Result<(), String> {
-    answer(case).map_err(|what| format!("{}, mode {}: {what}", case.name, case.mode))
+/// Compares on one job.
+pub fn case(case: &Case<'_>, known: &Known) -> Result<(), String> {
+    answer(case, known).map_err(|what| format!("{}, mode {}: {what}", case.name, case.mode))
 }
 
-fn answer(case: &Case<'_>) -> Result<(), String> {
-    let said = plain::build(case.axes, case.mode, case.job, &Sizes::PLENTY);
-    let over = case.job.len() > RECORD * plain::RECORD_LIMIT;
-    let sound = Job::parse(case.axes as usize, case.job).filter(|_| !over);
-    match (said, sound) {
+fn answer(case: &Case<'_>, known: &Known) -> Result<(), String> {
+    match (&known.said, &known.job) {
+        (Err(refused), _) if refused.number < number::BAD_JOB_LENGTH => early(case, *refused),
         (Ok(done), Some(job)) => {
-            laws::done(&job, case.mode, &done)?;
-            laws::rows_read_back(&job, &done)?;
-            source(&job, case.mode, &done)
+            laws::done(job, case.mode, done)?;
+            laws::rows_read_back(job, done, plain::read)?;
+            source(case.mode, done, known.source.as_ref())
         }
-        (Err(refused), Some(job)) => full(&job, case.mode, refused),
-        (Err(refused), None) => unsound(case, refused),
+        (Err(refused), Some(job)) => full(job, case.mode, *refused),
+        (Err(refused), None) => unsound(case, *refused),
         (Ok(_), None) => Err("an unsound job is built".into()),
     }
 }
 
 /// The source's store, ids and map are the same, and so is what it tells of its
 /// merging.
-pub fn source(job: &Job, mode: u32, done: &Done) -> Result<(), String> {
-    let asked = oracle::build_traced(job.axes as u16, mode, &job.regions, &job.sets);
-    let Some((built, trace)) = asked else {
+fn source(mode: u32, done: &Done, source: Option<&Source>) -> Result<(), String> {
+    let Some(source) = source else {
         return Ok(());
     };
-    same("ids", &done.ids, &built.ids)?;
-    same("map", &done.map, &built.map)?;
-    same("store", &done.store, &built.store.bytes())?;
+    let trace = &source.trace;
+    same("ids", &done.ids, &source.ids)?;
+    same("map", &done.map, &source.map)?;
+    same("store", &done.store, &source.store)?;
     same("log", &done.log, &trace.log)?;
     if mode == 0 {
         let ours = [
@@ -63,6 +62,18 @@ pub(crate) fn same<T: PartialEq + std::fmt::Debug + ?Sized>(
     }
     let short = |t: &T| format!("{t:?}").chars().take(300).collect::<String>();
     Err(format!("{what}: {} and {}", short(ours), short(theirs)))
+}
+
+/// An axis count or a mode is refused, and nothing is looked at before it.
+fn early(case: &Case<'_>, refused: Refused) -> Result<(), String> {
+    let axes = (1..=64).contains(&case.axes);
+    let due = match (axes, case.mode) {
+        (false, _) => Some(number::BAD_AXES),
+        (true, 0 | 1) => None,
+        (true, _) => Some(number::BAD_MODE),
+    };
+    let place = due.map(|number| (number, 0));
+    same("refusal", &Some((refused.number, refused.place)), &place)
 }
 
 /// A sound job is refused only when there are too many sets or shapes.

@@ -2,7 +2,7 @@
 
 use crate::check::same;
 use jobs::{Job, Region};
-use plain::{read, Done, Reading};
+use plain::{Done, Reading};
 use std::collections::BTreeMap;
 
 /// All laws that are cheap.
@@ -91,8 +91,12 @@ fn word_count(store: &[u8], subtable: usize) -> u16 {
 
 /// Demand 2: every set's row, read back, has the set's value for every region of
 /// the store's list, by coordinates, and the list has every region that a set
-/// names with a value other than 0.
-pub fn rows_read_back(job: &Job, done: &Done) -> Result<(), String> {
+/// names with a value other than 0. The reader is told store, outer, inner, region.
+pub fn rows_read_back(
+    job: &Job,
+    done: &Done,
+    read: impl Fn(&[u8], u32, u32, u32) -> Result<Reading, u32>,
+) -> Result<(), String> {
     let list = region_list(&done.store, job.axes);
     same(
         "regions kept",

@@ -1,22 +1,28 @@
 //! The plain reading of document 01 compared with the source, with recorded
 //! answers, and with what the document says of every answer; the proved build and
-//! reader compared with the plain reading.
+//! reader compared with the plain reading, with the source and with recorded answers.
 //!
 //! * [`cases`]: the jobs to compare on, one after another: examples, all small
 //!   ones, random ones, damaged ones, the edges.
-//! * [`check`]: what is compared on one job.
+//! * [`known`]: what the plain reading and the source say of one job.
+//! * [`check`]: what is compared of that.
 //! * [`laws`]: what must hold of an answer, whoever gave it.
-//! * [`proved`]: the proved build and reader, in lent memory that holds noise.
+//! * [`proved`]: the proved build and reader, in lent memory that holds [`noise`].
 //! * [`replay`]: the recorded answers, without the source.
+//! * [`run`]: all of it over some jobs, counted; [`kinds`]: the runs that are made.
 //! * [`sizes`]: lent memory around each size that is asked for.
 //! * [`stores`]: the reader on damaged stores.
 //! * [`Tally`]: how many comparisons held.
 
 pub mod cases;
 pub mod check;
+pub mod kinds;
+pub mod known;
 pub mod laws;
+pub mod noise;
 pub mod proved;
 pub mod replay;
+pub mod run;
 pub mod sizes;
 pub mod stores;
 mod tally;

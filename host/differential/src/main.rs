@@ -1,64 +1,57 @@
-//! `differential [SEEDS [FROM]]`: all comparisons, with a line for each kind and a
+//! `differential [SEEDS [FROM]]`: all comparisons, with a line for each kind of jobs and a
 //! last line of counts. Exit status 0 when all held.
 
-use differential::{cases, check, replay, sizes, stores, Case, Tally};
+use differential::kinds;
+use differential::run::Run;
+use differential::Tally;
 use std::process::ExitCode;
 use std::time::Instant;
 
-/// Random jobs of a run.
-const SEEDS: u64 = 20_000;
-
 fn main() -> ExitCode {
     let numbers: Option<Vec<u64>> = std::env::args().skip(1).map(|a| a.parse().ok()).collect();
-    let (seeds, from) = match numbers.as_deref() {
-        Some([]) => (SEEDS, 0),
-        Some([seeds]) => (*seeds, 0),
-        Some([seeds, from]) => (*seeds, *from),
+    let seeds = match numbers.as_deref() {
+        Some([]) => kinds::SEEDS,
+        Some([seeds]) => 0..*seeds,
+        Some([seeds, from]) => *from..from + seeds,
         _ => {
             eprintln!("usage: differential [SEEDS [FROM]]");
             return ExitCode::FAILURE;
         }
     };
+    let seeds = &seeds;
     if !oracle::PRESENT {
         println!("built without the source: recorded answers and laws only");
     }
-    let range = from..from + seeds;
+    if ivs::EMULATED {
+        println!("the proved library is emulated: it is asked some of the jobs only");
+    }
+    println!("{:30} {:^17} {:^28}", "", "plain reading", "proved library");
+    println!(
+        "{:30} {:>9} {:>7} {:>9} {:>7} {:>11} {:>8}",
+        "", "passed", "failed", "passed", "failed", "with source", "seconds"
+    );
     let mut all = Tally::default();
-    let mut show = |name: &str, run: &dyn Fn() -> Tally| {
+    let runs: [(&str, &dyn Fn() -> Run); 12] = [
+        ("recorded answers", &kinds::recorded),
+        ("examples", &kinds::examples),
+        ("edges", &kinds::edges),
+        ("axis counts and modes", &kinds::axes_and_modes),
+        ("all small jobs", &kinds::small),
+        ("all short record sequences", &kinds::records),
+        ("every damage to one job", &kinds::each_damage),
+        ("random jobs", &|| kinds::random(seeds)),
+        ("large random jobs", &|| kinds::large(seeds)),
+        ("damaged jobs", &|| kinds::damaged(seeds)),
+        ("plain reading around its sizes", &|| kinds::sizes(seeds)),
+        ("stores, most of them damaged", &|| kinds::stores(seeds)),
+    ];
+    for (name, run) in runs {
         let start = Instant::now();
-        let tally = run();
-        let seconds = start.elapsed().as_secs_f64();
-        println!(
-            "{name:32} {:8} passed {:4} failed {seconds:7.1} s",
-            tally.passed, tally.failed
-        );
-        for what in &tally.said {
-            println!("    {what}");
-        }
-        all.add(tally);
-    };
-    show("recorded answers", &|| {
-        replay::all(&replay::folder()).unwrap_or_else(failed)
-    });
-    show("examples", &|| over(cases::examples));
-    show("edges", &|| over(cases::edges));
-    show("all small jobs", &|| over(cases::small));
-    show("all short record sequences", &|| over(cases::records));
-    show("every damage to one job", &|| over(cases::each_damage));
-    show("random jobs", &|| over(|v| cases::random(range.clone(), v)));
-    show("damaged jobs", &|| {
-        over(|v| cases::damaged(range.clone(), v))
-    });
-    show("memory around its sizes", &|| {
-        let mut tally = Tally::default();
-        let every =
-            |visit: &mut dyn FnMut(&Case<'_>)| cases::random(from..from + seeds / 20, visit);
-        every(&mut |case| tally.count(sizes::check(case)));
-        tally
-    });
-    show("damaged stores", &|| {
-        stores::damaged(from..from + seeds / 10, 100)
-    });
+        let run = run();
+        tell(name, &run, start.elapsed().as_secs_f64());
+        all.add(run.plain);
+        all.add(run.proved);
+    }
     println!("{} passed, {} failed", all.passed, all.failed);
     if all.failed == 0 {
         ExitCode::SUCCESS
@@ -67,15 +60,14 @@ fn main() -> ExitCode {
     }
 }
 
-/// Checks all cases that are shown.
-fn over(cases: impl Fn(&mut dyn FnMut(&Case<'_>))) -> Tally {
-    let mut tally = Tally::default();
-    cases(&mut |case| tally.count(check::case(case)));
-    tally
-}
-
-fn failed(what: String) -> Tally {
-    let mut tally = Tally::default();
-    tally.count(Err(what));
-    tally
+/// The line of a run, and what did not hold.
+fn tell(name: &str, run: &Run, seconds: f64) {
+    let Run { plain, proved, .. } = run;
+    println!(
+        "{name:30} {:9} {:7} {:9} {:7} {:11} {seconds:8.1}",
+        plain.passed, plain.failed, proved.passed, proved.failed, run.with_source
+    );
+    for what in plain.said.iter().chain(&proved.said) {
+        println!("    {what}");
+    }
 }

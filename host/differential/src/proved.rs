@@ -1,9 +1,11 @@
-//! The proved build and reader compared with the plain reading, in lent memory that
-//! holds noise: the answer, every word of the report, all that is written, and all that
-//! is not.
+//! The proved build and reader compared with the plain reading and with the source, in
+//! lent memory that holds noise: the answer, every word of the report, all that is
+//! written, and all that is not.
 
 use crate::check::same;
-use crate::{sizes, Case};
+use crate::known::{Known, Source};
+use crate::noise::{not_zero, Guarded, Noisy};
+use crate::{laws, sizes, Case};
 use ivs::Lent;
 use jobs::{hex, RECORD};
 use plain::{Done, Refused, Sizes};
@@ -14,40 +16,81 @@ type Said = Result<Done, Refused>;
 /// Lent memory, used again from call to call.
 #[derive(Default)]
 pub struct Buffers {
-    work: Vec<u32>,
-    out: Vec<u8>,
-    ids: Vec<u32>,
-    map: Vec<u32>,
-    log: Vec<u32>,
+    work: Guarded<u32>,
+    out: Guarded<u8>,
+    ids: Guarded<u32>,
+    map: Guarded<u32>,
+    log: Guarded<u32>,
 }
 
 /// Compares on one job with a little more memory than it asks for.
-pub fn case(case: &Case<'_>, buffers: &mut Buffers) -> Result<(), String> {
-    let said = plain::build(case.axes, case.mode, case.job, &Sizes::PLENTY);
-    let lent = over(&least(case, &said));
-    compare(case, &lent, &said, buffers)
+pub fn case(case: &Case<'_>, known: &Known, buffers: &mut Buffers) -> Result<(), String> {
+    let lent = over(&least(case, &known.said));
+    let held = compare(case, &lent, &known.said, buffers);
+    told(case, held.and_then(|()| source(known, buffers)))
 }
 
 /// Compares on one job with memory at, one under and over each size that it asks for,
-/// and with what [`ivs::pack`] makes of it.
-pub fn around(case: &Case<'_>, buffers: &mut Buffers) -> Result<(), String> {
-    let said = plain::build(case.axes, case.mode, case.job, &Sizes::PLENTY);
-    for (lent, refusal) in sizes::around(&least(case, &said)) {
+/// and with what [`ivs::pack`] makes of it; has the proved reader read all rows back.
+pub fn around(case: &Case<'_>, known: &Known, buffers: &mut Buffers) -> Result<(), String> {
+    let said = &known.said;
+    for (lent, refusal) in sizes::around(&least(case, said)) {
         // Of an unsound job the refusal shows whatever is lent, work excepted.
         let short = refusal.filter(|&number| said.is_ok() || number == plain::number::WORK_SHORT);
-        let due = match short {
-            Some(number) if tests_work(&said) => Err(Refused { number, place: 0 }),
-            _ => said.clone(),
+        let held = match short {
+            Some(number) if tests_work(said) => {
+                compare(case, &lent, &Err(Refused { number, place: 0 }), buffers)
+            }
+            _ => compare(case, &lent, said, buffers).and_then(|()| source(known, buffers)),
         };
-        compare(case, &lent, &due, buffers)?;
+        told(case, held)?;
     }
-    let packed = ivs::pack(case.axes, case.mode, case.job)
-        .map(|p| (counts(&p.done), p.store, p.ids, p.map, p.log))
-        .map_err(|refused| (refused.number, refused.place, refused.name()));
-    let said = said
-        .map(|d| (d.counts, d.store, d.ids, d.map, d.log))
-        .map_err(|refused| (refused.number, refused.place, plain::name(refused.number)));
-    told(case, same("packed", &packed, &said))
+    told(case, same("packed", &packed(case), said))?;
+    match (said, &known.job) {
+        (Ok(done), Some(job)) => told(case, laws::rows_read_back(job, done, read)),
+        _ => Ok(()),
+    }
+}
+
+/// What [`ivs::pack`] makes of a job, in the plain reading's words.
+pub fn packed(case: &Case<'_>) -> Said {
+    match ivs::pack(case.axes, case.mode, case.job) {
+        Ok(packed) => Ok(Done {
+            counts: counts(&packed.done),
+            store: packed.store,
+            ids: packed.ids,
+            map: packed.map,
+            log: packed.log,
+        }),
+        Err(refused) => {
+            assert_eq!(refused.name(), plain::name(refused.number));
+            Err(Refused {
+                number: refused.number,
+                place: refused.place,
+            })
+        }
+    }
+}
+
+/// What the plain reading and the proved build answer alike.
+///
+/// # Panics
+/// When they do not.
+pub fn alike(axes: u32, mode: u32, job: &[u8]) -> Said {
+    let plain = plain::build(axes, mode, job, &Sizes::PLENTY);
+    let name = &"a job";
+    let case = &Case {
+        name,
+        axes,
+        mode,
+        job,
+    };
+    // Not by assert_eq, which would print megabytes.
+    assert!(
+        packed(case) == plain,
+        "the proved build and the plain reading"
+    );
+    plain
 }
 
 /// The answer comes after the test of work.
@@ -82,30 +125,30 @@ fn over(least: &Sizes) -> Sizes {
 
 /// One call in lent memory of these sizes gives this answer, and leaves that memory as
 /// document 01 says.
-pub fn compare(
+fn compare(
     case: &Case<'_>,
     sizes: &Sizes,
     due: &Said,
     buffers: &mut Buffers,
 ) -> Result<(), String> {
-    fill(&mut buffers.work, sizes.work, noise);
-    fill(&mut buffers.out, sizes.out, |i| noise(i) as u8);
-    fill(&mut buffers.ids, sizes.ids, noise);
-    fill(&mut buffers.map, sizes.map, noise);
-    fill(&mut buffers.log, sizes.log, noise);
-    let mut report: [u64; 16] = std::array::from_fn(|i| u64::from(noise(i)) << 17);
+    buffers.work.fill(sizes.work);
+    buffers.out.fill(sizes.out);
+    buffers.ids.fill(sizes.ids);
+    buffers.map.fill(sizes.map);
+    buffers.log.fill(sizes.log);
+    let mut report: [u64; 16] = std::array::from_fn(|i| u64::from(u32::noise()[i]) << 17);
     let mut lent = Lent {
-        work: &mut buffers.work,
-        out: &mut buffers.out,
-        ids: &mut buffers.ids,
-        map: &mut buffers.map,
-        log: &mut buffers.log,
+        work: buffers.work.lend(),
+        out: buffers.out.lend(),
+        ids: buffers.ids.lend(),
+        map: buffers.map.lend(),
+        log: buffers.log.lend(),
     };
     let answer = ivs::build_report(case.axes, case.mode, case.job, &mut lent, &mut report);
-    let held = same("report", &report, &report_of(due))
+    same("report", &report, &report_of(due))
         .and_then(|()| same("answer", &u64::from(answer), &report[0]))
-        .and_then(|()| left(buffers, due));
-    told(case, held.map_err(|what| format!("{sizes:?}: {what}")))
+        .and_then(|()| left(buffers, due))
+        .map_err(|what| format!("{sizes:?}: {what}"))
 }
 
 /// What stands in the lent memory: what was due, then noise.
@@ -114,38 +157,72 @@ fn left(buffers: &Buffers, due: &Said) -> Result<(), String> {
         Ok(done) => (&done.store, &done.ids, &done.map, &done.log),
         Err(_) => (&[], &[], &[], &[]),
     };
-    begins("out", &buffers.out, store, |i| noise(i) as u8)?;
-    begins("ids", &buffers.ids, ids, noise)?;
-    begins("map", &buffers.map, map, noise)?;
-    begins("log", &buffers.log, log, noise)?;
+    begins("out", &buffers.out, store)?;
+    begins("ids", &buffers.ids, ids)?;
+    begins("map", &buffers.map, map)?;
+    begins("log", &buffers.log, log)?;
     match due {
         Err(refused) if refused.number <= plain::number::WORK_SHORT => {
-            begins("work", &buffers.work, &[], noise)
+            begins("work", &buffers.work, &[])
         }
-        _ => begins("work", &buffers.work, &[], |_| 0),
+        _ => {
+            let work = buffers.work.lent();
+            past("work", &buffers.work, work.len())?;
+            match not_zero(work) {
+                None => Ok(()),
+                Some(at) => Err(format!("work: {} at {at}", work[at])),
+            }
+        }
     }
 }
 
-/// The words are those that were written, then as `rest` says.
-fn begins<T: Copy + PartialEq + std::fmt::Debug>(
-    what: &str,
-    words: &[T],
-    written: &[T],
-    rest: impl Fn(usize) -> T,
-) -> Result<(), String> {
-    let (start, past) = words.split_at(written.len());
-    same(what, start, written)?;
-    match past
-        .iter()
-        .enumerate()
-        .find(|(i, word)| **word != rest(written.len() + i))
-    {
+/// The words are those that are due, then noise as before.
+fn begins<T: Noisy>(what: &str, words: &Guarded<T>, due: &[T]) -> Result<(), String> {
+    same(what, &words.lent()[..due.len()], due)?;
+    past(what, words, due.len())
+}
+
+/// Past these words, and before the first, there is noise as before.
+fn past<T: Noisy>(what: &str, words: &Guarded<T>, count: usize) -> Result<(), String> {
+    match words.spoilt_past(count) {
         None => Ok(()),
-        Some((i, word)) => Err(format!(
-            "{what}: {word:?} at {} past what is written",
-            written.len() + i
-        )),
+        Some(at) => Err(format!("{what}: written at {at}, {count} being due")),
     }
+}
+
+/// What the last call left in the lent memory is the source's store, ids and map, and its
+/// log; of a job that the source was not asked, nothing is said.
+fn source(known: &Known, buffers: &Buffers) -> Result<(), String> {
+    let Some(source) = &known.source else {
+        return Ok(());
+    };
+    let Source {
+        store,
+        ids,
+        map,
+        trace,
+    } = source;
+    let log = &trace.log;
+    same(
+        "the source's store",
+        &buffers.out.lent()[..store.len()],
+        &store[..],
+    )?;
+    same(
+        "the source's ids",
+        &buffers.ids.lent()[..ids.len()],
+        &ids[..],
+    )?;
+    same(
+        "the source's map",
+        &buffers.map.lent()[..map.len()],
+        &map[..],
+    )?;
+    same(
+        "the source's log",
+        &buffers.log.lent()[..log.len()],
+        &log[..],
+    )
 }
 
 /// The report of an answer: number, place, the ten counts, zeros.
@@ -191,36 +268,20 @@ fn counts(done: &ivs::Done) -> plain::Counts {
     }
 }
 
-/// The proved reader and the plain one answer alike.
-pub fn read(store: &[u8], [outer, inner, region]: [u32; 3]) -> Result<(), String> {
-    let proved = ivs::read(store, outer, inner, region).map_err(|refused| refused.number);
-    let proved = proved.map(|reading| match reading {
-        ivs::Reading::Written(value) => plain::Reading::Written(value),
-        ivs::Reading::NoColumn => plain::Reading::NoColumn,
-    });
-    same(
-        "reading",
-        &proved,
-        &plain::read(store, outer, inner, region),
-    )
-    .map_err(|what| format!("{what}: ({outer}, {inner}, {region}) of {}", hex::of(store)))
-}
-
-/// What the lent memory holds before a call.
-fn noise(at: usize) -> u32 {
-    (at as u32).wrapping_mul(0x9E37_79B9) ^ 0xA5C3_96E1
-}
-
-fn fill<T>(words: &mut Vec<T>, count: usize, noise: impl Fn(usize) -> T) {
-    words.clear();
-    words.extend((0..count).map(noise));
+/// The proved reader, answering in the plain reading's words.
+pub fn read(store: &[u8], outer: u32, inner: u32, region: u32) -> Result<plain::Reading, u32> {
+    match ivs::read(store, outer, inner, region) {
+        Ok(ivs::Reading::Written(value)) => Ok(plain::Reading::Written(value)),
+        Ok(ivs::Reading::NoColumn) => Ok(plain::Reading::NoColumn),
+        Err(refused) => Err(refused.number),
+    }
 }
 
 /// With the job, where something did not hold.
 fn told(case: &Case<'_>, held: Result<(), String>) -> Result<(), String> {
     held.map_err(|what| {
         format!(
-            "{}, axes {}, mode {}: proved and plain: {what}; job {}",
+            "{}, axes {}, mode {}: proved: {what}; job {}",
             case.name,
             case.axes,
             case.mode,

@@ -1,9 +1,11 @@
-//! The recorded answers, given again. Needs no source.
+//! The recorded answers, given again by the plain reading and by the proved build. Needs
+//! no source.
 
 use crate::check::same;
-use crate::Tally;
+use crate::run::Run;
+use crate::{proved, Case};
 use oracle::vectors::{self, word_bytes, Bytes};
-use plain::Sizes;
+use plain::{Done, Refused, Sizes};
 use std::fs;
 use std::path::{Path, PathBuf};
 
@@ -13,7 +15,7 @@ pub fn folder() -> PathBuf {
 }
 
 /// Replays every `.txt` of a folder.
-pub fn all(folder: &Path) -> Result<Tally, String> {
+pub fn all(folder: &Path) -> Result<Run, String> {
     let said = |e: std::io::Error| format!("{}: {e}", folder.display());
     let mut paths = Vec::new();
     for entry in fs::read_dir(folder).map_err(said)? {
@@ -21,22 +23,32 @@ pub fn all(folder: &Path) -> Result<Tally, String> {
     }
     paths.retain(|path| path.extension().is_some_and(|e| e == "txt"));
     paths.sort();
-    let mut tally = Tally::default();
+    let mut run = Run::default();
     for path in paths {
         let told = |e: String| format!("{}: {e}", path.display());
         let text = fs::read_to_string(&path).map_err(|e| told(e.to_string()))?;
-        for case in vectors::parse(&text).map_err(told)? {
-            let outcome = case_again(&case);
-            tally.count(outcome.map_err(|e| told(format!("{}: {e}", case.name))));
+        for recorded in vectors::parse(&text).map_err(told)? {
+            let told = |e: String| told(format!("{}: {e}", recorded.name));
+            let case = Case {
+                name: &recorded.name,
+                axes: recorded.axes,
+                mode: recorded.mode,
+                job: &recorded.job,
+            };
+            let plain = plain::build(case.axes, case.mode, case.job, &Sizes::PLENTY);
+            run.plain.count(again(&recorded, plain).map_err(told));
+            let proved = again(&recorded, proved::packed(&case));
+            run.with_source += u64::from(proved.is_ok());
+            run.proved
+                .count(proved.map_err(|e| told(format!("proved: {e}"))));
         }
     }
-    Ok(tally)
+    Ok(run)
 }
 
-/// The plain reading gives the recorded answer.
-fn case_again(case: &vectors::Case) -> Result<(), String> {
-    let done = plain::build(case.axes, case.mode, &case.job, &Sizes::PLENTY)
-        .map_err(|refused| format!("refused: {refused}"))?;
+/// The answer is the recorded one.
+fn again(case: &vectors::Case, answer: Result<Done, Refused>) -> Result<(), String> {
+    let done = answer.map_err(|refused| format!("refused: {refused}"))?;
     let is = |what: &str, recorded: &Bytes, bytes: &[u8]| same(what, &recorded.is(bytes), &true);
     is("ids", &case.ids, &word_bytes(&done.ids))?;
     is("map", &case.map, &word_bytes(&done.map))?;

@@ -1,14 +1,19 @@
-//! The reader on damaged stores. (Good ones: [`crate::laws::rows_read_back`].)
+//! The reader on damaged stores. (Good ones in full: [`crate::laws::rows_read_back`].)
 
-use crate::{proved, Tally};
-use jobs::{damage, random, Rng};
+use crate::check::same;
+use crate::proved;
+use crate::run::Run;
+use jobs::{damage, hex, random, Rng};
 use plain::{number, read, Sizes};
 
-/// Some places of a damaged store of each seed, read: an answer always comes, and
-/// it is the answer to a longer store that begins with this one, unless it is
-/// BAD_STORE; and the proved reader gives the same.
-pub fn damaged(seeds: impl Iterator<Item = u64>, readings: usize) -> Tally {
-    let mut tally = Tally::default();
+/// One reading in so many is of the store as it was built.
+pub const GOOD: usize = 8;
+
+/// Some places of the store of each seed, read, each time with other damage: an answer
+/// always comes, and it is the answer to a longer store that begins with this one, unless
+/// it is BAD_STORE; and the proved reader gives the same.
+pub fn damaged(seeds: impl Iterator<Item = u64>, readings: usize) -> Run {
+    let mut run = Run::default();
     for seed in seeds {
         let job = random::job(seed);
         let rng = &mut Rng::new(!seed);
@@ -17,31 +22,32 @@ pub fn damaged(seeds: impl Iterator<Item = u64>, readings: usize) -> Tally {
             continue;
         };
         for reading in 0..readings {
-            let store = damage::store(rng, &done.store);
+            let mut store = done.store.clone();
+            while reading % GOOD != 0 && store == done.store {
+                store = damage::store(rng, &done.store);
+            }
             let longer = [&store[..], &[0; 7]].concat();
             let ask = places(rng, done.counts.subtables, done.counts.regions_kept);
-            let (short, long) = (
-                read(&store, ask[0], ask[1], ask[2]),
-                read(&longer, ask[0], ask[1], ask[2]),
-            );
-            let outcome = if short == long || short == Err(number::BAD_STORE) {
+            let [outer, inner, region] = ask;
+            let short = read(&store, outer, inner, region);
+            let long = read(&longer, outer, inner, region);
+            let held = short == long || short == Err(number::BAD_STORE);
+            let told =
+                |what: String| format!("seed {seed}, {ask:?} of {}: {what}", hex::of(&store));
+            run.plain.count(if held {
                 Ok(())
             } else {
-                Err(format!("seed {seed}, {ask:?}: {short:?}, longer {long:?}"))
-            };
+                Err(told(format!("{short:?}, longer {long:?}")))
+            });
             // Some of them where the library is emulated, which is slow.
-            let asked = !ivs::EMULATED || reading % 16 == 0;
-            let proved = |()| {
-                if asked {
-                    proved::read(&store, ask)
-                } else {
-                    Ok(())
-                }
-            };
-            tally.count(outcome.and_then(proved));
+            if !ivs::EMULATED || reading % 16 == 0 {
+                let proved = proved::read(&store, outer, inner, region);
+                run.proved
+                    .count(same("proved and plain", &proved, &short).map_err(told));
+            }
         }
     }
-    tally
+    run
 }
 
 /// Outer, inner, region: mostly there, sometimes one past, seldom anything.

@@ -1,57 +1,79 @@
 //! The comparisons that `cargo run -p differential` makes, as tests.
 
-use differential::{cases, check, replay, sizes, stores, Case, Tally};
+use differential::kinds::{self, SEEDS};
+use differential::run::Run;
+use differential::stores::GOOD;
 
-fn over(cases: impl Fn(&mut dyn FnMut(&Case<'_>))) {
-    let mut tally = Tally::default();
-    cases(&mut |case| tally.count(check::case(case)));
-    tally.assert();
+/// All held; how many there were is told (`cargo test -- --nocapture` shows it).
+fn held(name: &str, run: &Run) {
+    run.assert();
+    let (plain, proved) = (run.plain.passed, run.proved.passed);
+    let source = run.with_source;
+    println!("{name}: plain {plain}, proved {proved}, with the source {source}");
 }
 
 #[test]
 fn recorded_answers() {
-    let tally = replay::all(&replay::folder()).expect("recorded answers");
-    tally.assert();
-    assert!(
-        tally.passed >= 250,
-        "few recorded answers: {}",
-        tally.passed
-    );
+    let run = kinds::recorded();
+    held("recorded answers", &run);
+    let few = "few recorded answers";
+    assert!(run.proved.passed >= 250, "{few}: {}", run.proved.passed);
+}
+
+#[test]
+fn examples_of_the_document() {
+    held("examples", &kinds::examples());
+}
+
+#[test]
+fn edges_of_the_document() {
+    held("edges", &kinds::edges());
+}
+
+#[test]
+fn axes_and_modes() {
+    held("axes and modes", &kinds::axes_and_modes());
 }
 
 #[test]
 fn all_small_jobs() {
-    over(cases::small);
+    held("small jobs", &kinds::small());
 }
 
 #[test]
 fn all_short_record_sequences() {
-    over(cases::records);
+    held("record sequences", &kinds::records());
 }
 
 #[test]
 fn every_damage_to_one_job() {
-    over(cases::each_damage);
+    held("damages", &kinds::each_damage());
 }
 
 #[test]
 fn random_jobs() {
-    over(|visit| cases::random(0..20_000, visit));
+    held("random jobs", &kinds::random(&SEEDS));
+}
+
+#[test]
+fn large_random_jobs() {
+    held("large random jobs", &kinds::large(&SEEDS));
 }
 
 #[test]
 fn damaged_jobs() {
-    over(|visit| cases::damaged(0..20_000, visit));
+    held("damaged jobs", &kinds::damaged(&SEEDS));
 }
 
 #[test]
-fn memory_around_its_sizes() {
-    let mut tally = Tally::default();
-    cases::random(0..1_000, &mut |case| tally.count(sizes::check(case)));
-    tally.assert();
+fn plain_reading_around_its_sizes() {
+    kinds::sizes(&SEEDS).plain.assert();
 }
 
 #[test]
-fn damaged_stores() {
-    stores::damaged(0..2_000, 100).assert();
+fn stores_most_of_them_damaged() {
+    let run = kinds::stores(&SEEDS);
+    held("stores", &run);
+    let damaged = run.plain.passed - run.plain.passed / GOOD as u64;
+    assert!(damaged >= 200_000, "few damaged stores: {damaged}");
 }

@@ -1,10 +1,11 @@
 //! Where document 01 and the source part: one input for each, with both answers.
-//! host/NOTES.md tells them in words. Without the source only document 01's side
-//! is shown.
+//! docs/DIFFERENCES.md tells them in words. Document 01's answer is the plain reading's and
+//! the proved build's; without the source only that is shown.
 
+use differential::proved::alike;
 use jobs::{edges, Job};
 use oracle::Built;
-use plain::{build, number, Refused, Sizes};
+use plain::{number, Refused};
 use std::panic::catch_unwind;
 
 /// The source's answer, if it is there.
@@ -13,7 +14,7 @@ fn source(job: &Job, mode: u32) -> Option<Built> {
 }
 
 fn refused(job: &Job, mode: u32) -> Refused {
-    let answer = build(job.axes as u32, mode, &job.to_bytes(), &Sizes::PLENTY);
+    let answer = alike(job.axes as u32, mode, &job.to_bytes());
     answer.expect_err("refused")
 }
 
@@ -81,7 +82,7 @@ fn more_than_1024_shapes() {
 fn no_axes_and_many() {
     // Refused; the source takes any axis count and never looks at it.
     for axes in [0, 65] {
-        let answer = build(axes, 0, &[], &Sizes::PLENTY);
+        let answer = alike(axes, 0, &[]);
         assert_eq!(answer.map_err(|r| r.number), Err(number::BAD_AXES));
         let regions = [vec![[0, 1, 1]; axes as usize]];
         if let Some(built) = oracle::build(axes as u16, 0, &regions, &[vec![(0, 1)]]) {
@@ -109,7 +110,7 @@ fn list_and_subtable_of_equal_bytes() {
         regions: vec![vec![[1, 0, 300]]],
         sets: vec![vec![(0, 300)]],
     };
-    let done = build(1, 0, &job.to_bytes(), &Sizes::PLENTY).expect("done");
+    let done = alike(1, 0, &job.to_bytes()).expect("done");
     assert_eq!(done.store.len(), 32);
     assert_eq!(done.store[12..22], done.store[22..]);
 }

@@ -7,6 +7,16 @@
 //!
 //! No input makes a call go wrong: it is done exactly, or refused by number and place
 //! with nothing written. What was lent may hold anything before.
+//!
+//! ```
+//! let mut job = ivs::JobWriter::new(1);
+//! let bold = job.region(&[(0, 0x4000, 0x4000)])?;    // start, peak, end as F2Dot14; one triple an axis
+//! job.set(&[(bold, 10)])?;
+//! let packed = ivs::pack(1, 0, &job.finish())?;      // store, ids, map, log, numbers
+//! let value = ivs::read(&packed.store, 0, 0, 0)?;    // Reading::Written(10)
+//! # assert_eq!(value, ivs::Reading::Written(10));
+//! # Ok::<(), Box<dyn std::error::Error>>(())
+//! ```
 
 #[cfg_attr(not(target_arch = "x86_64"), path = "emulated.rs")]
 mod raw;
@@ -88,11 +98,38 @@ pub enum Reading {
 }
 
 /// The words of work that a job of so many records needs; 0 above the record limit.
+///
+/// ```
+/// assert_eq!(ivs::work_words(1), 20);
+/// assert_eq!(ivs::work_words(1_048_576), 16 * 1_048_576 + 4_194_304);
+/// assert_eq!(ivs::work_words(1_048_577), 0);
+/// ```
 pub fn work_words(records: usize) -> usize {
     raw::work_words(records)
 }
 
 /// One build in lent memory.
+///
+/// ```
+/// let mut writer = ivs::JobWriter::new(1);
+/// let bold = writer.region(&[(0, 0x4000, 0x4000)])?;
+/// writer.set(&[(bold, 10)])?;
+/// let job = writer.finish();
+///
+/// let mut work = vec![0; ivs::work_words(job.len() / 12)];
+/// let (mut out, mut ids, mut map) = ([0xFF; 40], [0; 1], [0; 1]);
+/// let mut lent = ivs::Lent {
+///     work: &mut work,
+///     out: &mut out,
+///     ids: &mut ids,
+///     map: &mut map,
+///     log: &mut [],
+/// };
+/// let done = ivs::build_into(1, 0, &job, &mut lent)?;
+/// assert_eq!((done.store_bytes, done.forecast), (31, 31));
+/// assert_eq!(out[29..33], [0, 10, 0xFF, 0xFF]);      // past the store nothing is written
+/// # Ok::<(), Box<dyn std::error::Error>>(())
+/// ```
 pub fn build_into(axes: u32, mode: u32, job: &[u8], lent: &mut Lent<'_>) -> Result<Done, Refused> {
     let mut report = [0; 16];
     match build_report(axes, mode, job, lent, &mut report) {
@@ -128,6 +165,24 @@ pub fn build_report(
 }
 
 /// One build in memory of its own.
+///
+/// ```
+/// let mut job = ivs::JobWriter::new(1);
+/// let bold = job.region(&[(0, 0x4000, 0x4000)])?;
+/// for value in [10, -300, 10] {
+///     job.set(&[(bold, value)])?;
+/// }
+/// let job = job.finish();
+/// let packed = ivs::pack(1, 0, &job)?;
+/// assert_eq!(packed.ids, [0, 1, 0]);                 // the third set is the first again
+/// let word = packed.map[1];                          // outer x 65,536 + inner of id 1
+/// let value = ivs::read(&packed.store, word >> 16, word & 0xFFFF, 0)?;
+/// assert_eq!(value, ivs::Reading::Written(-300));
+///
+/// let refused = ivs::pack(1, 0, &job[..12 * 2]).unwrap_err();
+/// assert_eq!((refused.number, refused.name(), refused.place), (8, "UNFINISHED", 2));
+/// # Ok::<(), Box<dyn std::error::Error>>(())
+/// ```
 pub fn pack(axes: u32, mode: u32, job: &[u8]) -> Result<Packed, Refused> {
     let records = job.len() / RECORD;
     let sets = job.chunks_exact(RECORD).filter(|r| r[0] == 3).count();
@@ -166,6 +221,20 @@ pub fn pack(axes: u32, mode: u32, job: &[u8]) -> Result<Packed, Refused> {
 
 /// The value of a region (by its number in the store's list) in row `inner` of subtable
 /// `outer`.
+///
+/// ```
+/// use ivs::{read, Reading};
+///
+/// let mut job = ivs::JobWriter::new(1);
+/// let bold = job.region(&[(0, 0x4000, 0x4000)])?;
+/// job.set(&[(bold, -3)])?;
+/// let store = ivs::pack(1, 0, &job.finish())?.store;
+/// assert_eq!(read(&store, 0, 0, 0), Ok(Reading::Written(-3)));
+/// let number = |outer, inner, region| read(&store, outer, inner, region).unwrap_err().number;
+/// assert_eq!([number(1, 0, 0), number(0, 1, 0), number(0, 0, 1)], [21, 21, 22]);
+/// assert_eq!(read(&store[..30], 0, 0, 0).unwrap_err().name(), "BAD_STORE");
+/// # Ok::<(), Box<dyn std::error::Error>>(())
+/// ```
 pub fn read(store: &[u8], outer: u32, inner: u32, region: u32) -> Result<Reading, Refused> {
     let word = raw::read(store, outer, inner, region);
     match (word >> 32) as u32 {

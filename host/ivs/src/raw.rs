@@ -1,9 +1,16 @@
 //! The calls of `libivs.a` (include/ivs.h), each with a safe face: the only file with
 //! `unsafe`.
+//!
+//! The proved contracts ask for nothing, so no number and no content of a slice is tested
+//! here. What the C boundary leaves open is what a pointer with a length may be, and of
+//! that Rust's slices hold all: never null, aligned, as long as said, the lent ones apart.
+//! Left is that both sides mean the same by `usize`, which is tested when this is compiled.
 
 #![allow(unsafe_code)]
 
 use crate::Lent;
+
+const _: () = assert!(usize::BITS == 64, "the library is for pointers of 64 bits");
 
 extern "C" {
     // crates/ivs/src/lib.rt; a slice is a pointer and a length.

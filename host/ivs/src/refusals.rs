@@ -7,6 +7,17 @@ use std::fmt;
 pub(crate) const RECORD: usize = 12;
 
 /// A call that was refused: nothing was written to what was lent, but for work.
+///
+/// ```
+/// // A value record that names region 7, of which there is none.
+/// let job = [2, 7, 0, 0, 0, 0, 0, 1, 0, 0, 0, 0];
+/// let refused = ivs::pack(1, 0, &job).unwrap_err();
+/// assert_eq!(
+///     refused.to_string(),
+///     "6 UNKNOWN_REGION at record 0 (byte 0): the value names a region that has no axis records; \
+///      add the region's axis records, or name another"
+/// );
+/// ```
 #[derive(Clone, Copy, Debug, PartialEq, Eq)]
 pub struct Refused {
     /// The refusal number: 1 to 14 of a build, 20 to 22 of a reading.

@@ -83,14 +83,40 @@ const RECIPES: [Recipe; 14] = [
     Recipe { name: "many axes", axes: (32, 64), regions: (1, 4), twins: 3, sets: (1, 10), patterns: 0, spread: 2, values: &[Tiny, Edge], again: 4 },
 ];
 
+/// Of hundreds of shapes, up to document 01's 1,024.
+#[rustfmt::skip]
+const LARGE: [Recipe; 4] = [
+    Recipe { name: "large, half", axes: (1, 1), regions: (10, 24), twins: 0, sets: (200, 700), patterns: 0, spread: 2, values: &[One, Two, Four], again: 0 },
+    Recipe { name: "large, sets of a pattern", axes: (1, 2), regions: (16, 64), twins: 20, sets: (1_000, 4_000), patterns: 300, spread: 4, values: &[Zero, One, Two], again: 5 },
+    Recipe { name: "large, ties", axes: (1, 1), regions: (10, 40), twins: 0, sets: (300, 600), patterns: 0, spread: 6, values: &[One], again: 0 },
+    Recipe { name: "large, dense", axes: (1, 1), regions: (30, 60), twins: 0, sets: (200, 1_024), patterns: 0, spread: 1, values: &[One, Two], again: 0 },
+];
+
 /// The name of the recipe that makes the job of `seed`.
 pub fn recipe(seed: u64) -> &'static str {
-    RECIPES[(seed % RECIPES.len() as u64) as usize].name
+    one_of(&RECIPES, seed).name
 }
 
 /// The job of `seed`.
 pub fn job(seed: u64) -> Job {
-    let recipe = &RECIPES[(seed % RECIPES.len() as u64) as usize];
+    follow(one_of(&RECIPES, seed), seed)
+}
+
+/// The name of the recipe that makes the large job of `seed`.
+pub fn large_recipe(seed: u64) -> &'static str {
+    one_of(&LARGE, seed).name
+}
+
+/// The large job of `seed`.
+pub fn large(seed: u64) -> Job {
+    follow(one_of(&LARGE, seed), seed)
+}
+
+fn one_of(recipes: &[Recipe], seed: u64) -> &Recipe {
+    &recipes[(seed % recipes.len() as u64) as usize]
+}
+
+fn follow(recipe: &Recipe, seed: u64) -> Job {
     let rng = &mut Rng::new(seed);
     let axes = rng.between(recipe.axes.0, recipe.axes.1);
     let regions = regions(rng, recipe, axes);

@@ -16,12 +16,12 @@ pub struct Small {
     pub backwards: bool,
 }
 
-/// The kinds that are gone through. Together about 1.1 million jobs.
+/// The kinds that are gone through. Together 1,317,439 jobs.
 pub const KINDS: [Small; 5] = [
     Small {
         peaks: &[1],
         values: &[0, 1, -128, 128, -32_769],
-        sets: 6,
+        sets: 7,
         backwards: false,
     },
     Small {
@@ -33,13 +33,13 @@ pub const KINDS: [Small; 5] = [
     Small {
         peaks: &[1, 1],
         values: &[0, 1, 2, 300],
-        sets: 4,
+        sets: 5,
         backwards: false,
     },
     Small {
         peaks: &[1, 2, 1],
         values: &[1, 300],
-        sets: 3,
+        sets: 4,
         backwards: true,
     },
     Small {

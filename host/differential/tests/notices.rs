@@ -1,0 +1,96 @@
+//! What is compared is noticed: one word of what is due changed, and the comparison with
+//! the proved build does not hold.
+
+use differential::known::{Known, Source};
+use differential::proved::{self, Buffers};
+use differential::Case;
+use jobs::Job;
+
+/// Two merges' worth of shapes, a set said twice, a region never named.
+fn job() -> Vec<u8> {
+    let sets: [&[(u8, i32)]; 5] = [&[(0, 1)], &[(1, 1)], &[(2, 300)], &[(0, 1)], &[]];
+    Job::one_axis(4).with(&sets).to_bytes()
+}
+
+/// The comparison, with what is known changed.
+fn compared(job: &[u8], mode: u32, change: impl Fn(&mut Known)) -> [Result<(), String>; 2] {
+    let case = Case {
+        name: &"a job",
+        axes: 1,
+        mode,
+        job,
+    };
+    let mut known = Known::of(&case);
+    change(&mut known);
+    let mut buffers = Buffers::default();
+    [proved::case, proved::around].map(|compare| compare(&case, &known, &mut buffers))
+}
+
+#[test]
+fn nothing_changed() {
+    for mode in [0, 1] {
+        assert_eq!(compared(&job(), mode, |_| {}), [Ok(()), Ok(())]);
+    }
+}
+
+#[test]
+fn a_word_of_the_plain_readings_answer() {
+    type Change = fn(&mut plain::Done);
+    let changes: [Change; 15] = [
+        |d| d.store[30] ^= 1,
+        |d| d.store.push(0),
+        |d| d.ids[3] += 1,
+        |d| d.map[0] ^= 0x1_0000,
+        |d| d.log[2] += 1,
+        |d| d.counts.store_bytes += 1,
+        |d| d.counts.subtables += 1,
+        |d| d.counts.regions_kept += 1,
+        |d| d.counts.distinct_ids += 1,
+        |d| d.counts.shapes += 1,
+        |d| d.counts.merges += 1,
+        |d| d.counts.pairs += 1,
+        |d| d.counts.size_before += 1,
+        |d| d.counts.size_after += 1,
+        |d| d.counts.forecast += 1,
+    ];
+    for (number, change) in changes.iter().enumerate() {
+        let held = compared(&job(), 0, |known| {
+            change(known.said.as_mut().expect("a done build"));
+        });
+        assert!(held.iter().all(Result::is_err), "{number}");
+    }
+}
+
+#[test]
+fn a_word_of_the_sources_answer() {
+    type Change = fn(&mut Source);
+    let changes: [(&str, Change); 4] = [
+        ("the source's store", |s| s.store[30] ^= 1),
+        ("the source's ids", |s| s.ids[3] += 1),
+        ("the source's map", |s| s.map[0] ^= 0x1_0000),
+        ("the source's log", |s| s.trace.log[2] += 1),
+    ];
+    for (what, change) in changes {
+        let held = compared(&job(), 0, |known| {
+            if let Some(source) = &mut known.source {
+                change(source);
+            }
+        });
+        for held in held {
+            assert_eq!(held.is_err_and(|said| said.contains(what)), oracle::PRESENT);
+        }
+    }
+}
+
+#[test]
+fn a_refusals_number_and_place() {
+    let unfinished = &job()[..12 * 5];
+    for change in [(1, 0), (0, 1)] {
+        let held = compared(unfinished, 0, |known| {
+            let refused = known.said.as_mut().expect_err("a refusal");
+            refused.number += change.0;
+            refused.place += change.1;
+        });
+        assert!(held.iter().all(Result::is_err), "{change:?}");
+    }
+}

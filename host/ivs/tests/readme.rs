@@ -1,0 +1,62 @@
+//! README's examples of linking are those that are compiled and run; its refusals and the
+//! header's are those that are given.
+
+use std::fs;
+use std::path::Path;
+
+fn file(name: &str) -> String {
+    let root = Path::new(env!("CARGO_MANIFEST_DIR")).join("../..");
+    fs::read_to_string(root.join(name)).unwrap()
+}
+
+/// README shows these lines, one after another, as an indented block.
+fn shown<'a>(lines: impl Iterator<Item = &'a str>) {
+    let indent = |line| match line {
+        "" => "\n".to_string(),
+        line => format!("    {line}\n"),
+    };
+    let block: String = lines.map(indent).collect();
+    assert!(!block.is_empty());
+    assert!(
+        file("README.md").contains(&block),
+        "not in README:\n{block}"
+    );
+}
+
+/// The first example of the crate's documentation, but for what is hidden there.
+#[test]
+fn from_rust() {
+    let source = file("host/ivs/src/lib.rs");
+    let lines = source.lines().map(|line| line.trim_start_matches("//! "));
+    let example = lines
+        .skip_while(|line| *line != "```")
+        .skip(1)
+        .take_while(|line| *line != "```");
+    shown(example.filter(|line| !line.starts_with("# ")));
+}
+
+/// The function `build` of the program that the tests of C compile.
+#[test]
+fn from_c() {
+    let source = file("examples/pack.c");
+    let function = source
+        .lines()
+        .skip_while(|line| !line.starts_with("uint32_t build("))
+        .take_while(|line| *line != "/* The whole file, as far as there is room. */");
+    let function: Vec<&str> = function.filter(|line| !line.is_empty()).collect();
+    assert_eq!(function.last(), Some(&"}"));
+    shown(function.into_iter());
+}
+
+#[test]
+fn refusals() {
+    let (readme, header) = (file("README.md"), file("include/ivs.h"));
+    for number in (1..=14).chain(20..=22) {
+        let name = ivs::Refused { number, place: 0 }.name();
+        assert!(
+            readme.contains(&format!("\n| {number} | {name} | ")),
+            "{name}"
+        );
+        assert!(header.contains(&format!("{number} {name}")), "{name}");
+    }
+}
