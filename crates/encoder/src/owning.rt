@@ -2,7 +2,7 @@
 use crate::encoded::Encoded;
 use crate::places::Places;
 use groups::cover;
-use sets::own_ids;
+use ids::own_ids;
 use shapes::Encoding;
 use shapes::RowShape;
 ghost use mathlib.Core.Path.{_≡_};
