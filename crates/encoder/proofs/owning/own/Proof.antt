@@ -7,7 +7,7 @@ use Rattle.encoder.proofs.owning.own.Reads as reads
 use Rattle.encoder.proofs.owning.own.Lts as lts
 use Rattle.encoder.proofs.owning.cost_at.Reads as cost-at-reads
 use Rattle.encoder.proofs.owning.put_group.Reads as put-group-reads
-use Rattle.groups.proofs.cover.Reads as cover-reads
+use Rattle.shaping.proofs.cover.Reads as cover-reads
 use Rattle.ids.proofs.own_ids.Reads as own-ids-reads
 
 own-ids-requires : tie.Need-own-ids-requires
