@@ -35,7 +35,7 @@ use Rattle.sets.proofs.IdLaws.{distinct-all}
 use Rattle.groups.specs.Groups.{shapeOf, groupsOf}
 use Rattle.groups.specs.Cover.{coverFrom, coverOf}
 use Rattle.groups.proofs.GroupLaws.{shape-length, from-all, groups-long, groups-unlike, groups-some, groups-has, Has}
-use Rattle.groups.proofs.CoverSteps.{cover-length, covers-each}
+use Rattle.groups.proofs.CoverLaws.{cover-length, covers-each}
 use Rattle.rule.specs.Model.{Living, start, run, merged}
 use Rattle.rule.proofs.Theorems as theorems
 use Rattle.rule.proofs.Origins.{times, homes, one-home, no-home, joinOf, Made, made, Home, home}

@@ -15,10 +15,10 @@ use Rattle.sets.specs.Ids.{place, sharedIds, distinct}
 use Rattle.sets.specs.Lent.{setOf, setsIn, atMost, Held, IdsFit, Identified}
 use Rattle.sets.proofs.IdLaws.{distinct-most}
 use Rattle.sets.proofs.HeldLaws.{Kept, kept-only, kept-trans, set-same, sets-same, most-same, held-kept, sets-length}
-use Rattle.groups.specs.declared.grouping.Added.{Added}
-use Rattle.groups.specs.declared.grouping.Added.the-variants.{Groups, Full}
+use Rattle.grouping.specs.declared.Added.{Added}
+use Rattle.grouping.specs.declared.Added.the-variants.{Groups, Full}
 use Rattle.groups.specs.Groups.{shapeOf, groupsOf}
-use Rattle.groups.specs.Table as tab
+use Rattle.grouping.specs.Grouped as tab
 use Rattle.groups.proofs.GroupLaws.{groups-few}
 use Rattle.encoder.specs.declared.places.Places.{Places}
 use Rattle.encoder.specs.declared.encoded.Gathering.{Gathering}

@@ -17,8 +17,8 @@ use Rattle.laws.proofs.EveryLaws.{all-imp, all-and, all-map, all-getD, two-getD
 use Rattle.laws.proofs.Products.{row-fits}
 use Rattle.laws.proofs.SortLaws.{insert-all, sorted-all}
 use Rattle.laws.proofs.SortMap.{sorted-map, sorted-same, length-sorted}
-use Rattle.groups.specs.declared.table.Shapes.{Shapes}
-use Rattle.groups.specs.Table.{shapeIn}
+use Rattle.table.specs.declared.Shapes.{Shapes}
+use Rattle.table.specs.Table.{shapeIn}
 use Rattle.merging.specs.declared.tables.Tables.{Tables}
 use Rattle.rule.specs.Model.{Living, merged}
 use Rattle.merging.specs.Lent.{groupIn, starting}

@@ -26,9 +26,10 @@ use Rattle.sets.specs.Set.{Set}
 use Rattle.sets.specs.Lent.{setsIn, CountedUp}
 use Rattle.sets.proofs.HeldLaws.{Kept, kept-only, kept-trans, held-kept, set-same, sets-same, sets-length, sets-at}
 use Rattle.groups.specs.Groups.{shapeOf}
-use Rattle.groups.specs.Cover.{coverFrom, coverOf, CoverFit, CoverAt}
+use Rattle.groups.specs.Cover.{coverFrom, coverOf}
+use Rattle.shaping.specs.Lent.{CoverFit, CoverAt}
 use Rattle.groups.proofs.GroupLaws.{shape-length}
-use Rattle.groups.proofs.GroupSteps.{shape-narrow}
+use Rattle.grouping.proofs.GroupSteps.{shape-narrow}
 use Rattle.rule.specs.Told.{words}
 use Rattle.store.specs.Placing.{Final}
 use Rattle.store.specs.Lent.{finalAt, finalsAt}

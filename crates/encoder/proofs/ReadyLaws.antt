@@ -18,11 +18,11 @@ use Rattle.sets.specs.Set.{Set}
 use Rattle.sets.specs.Lent.{setsIn}
 use Rattle.sets.proofs.IdLaws.{distinct-most}
 use Rattle.sets.proofs.HeldLaws.{sets-length}
-use Rattle.groups.specs.declared.table.Shapes.{Shapes}
+use Rattle.table.specs.declared.Shapes.{Shapes}
 use Rattle.groups.specs.Groups.{Before, groupsOf}
-use Rattle.groups.specs.Table as tab
+use Rattle.table.specs.Table as tab
 use Rattle.groups.proofs.GroupLaws.{before-unlike, groups-some, groups-long, groups-unlike, groups-count}
-use Rattle.groups.proofs.AddSteps.{none, groups-length, shape-at}
+use Rattle.grouping.proofs.AddSteps.{none, groups-length, shape-at}
 use Rattle.merging.specs.declared.tables.Tables.{Tables}
 use Rattle.merging.specs.Lent as merge
 use Rattle.merging.specs.Optimized.{Ready, Optimized}

@@ -31,9 +31,9 @@ use Rattle.sets.specs.Lent.{setOf, setsIn, atMost, Held}
 use Rattle.sets.proofs.IdLaws.{distinct-most}
 use Rattle.sets.proofs.HeldLaws.{Kept, kept-only, set-same, held-kept, sets-length, sets-at}
 use Rattle.groups.specs.Groups.{shapeOf, groupsOf}
-use Rattle.groups.specs.Table as tab
+use Rattle.table.specs.Table as tab
 use Rattle.groups.proofs.GroupLaws.{groups-unlike}
-use Rattle.groups.proofs.AddSteps.{none, groups-length, shape-at}
+use Rattle.grouping.proofs.AddSteps.{none, groups-length, shape-at}
 use Rattle.merging.specs.declared.tables.Tables.{Tables}
 use Rattle.rule.specs.Model.{Living, start, merged, total}
 use Rattle.merging.specs.Lent as merge

@@ -12,8 +12,8 @@ use Rattle.laws.specs.Sorting.{sorted, keep}
 use Rattle.sets.specs.Ids.{place, sharedIds, distinct}
 use Rattle.sets.specs.Lent.{setOf, setsIn, atMost, Held}
 use Rattle.groups.specs.Groups.{groupsOf, maxShapes}
-use Rattle.groups.specs.Table.{GroupedInto}
-use Rattle.groups.specs.declared.table.Shapes.{Shapes}
+use Rattle.grouping.specs.Grouped.{GroupedInto}
+use Rattle.table.specs.declared.Shapes.{Shapes}
 use Rattle.merging.specs.declared.tables.Tables.{Tables}
 use Rattle.merging.specs.declared.encoder.Merged.{Merged}
 use Rattle.merging.specs.Optimized.{Optimized}

@@ -7,7 +7,7 @@ use finals::find_homes;
 use finals::heads;
 use finals::order_living;
 use finals::spots;
-use groups::Shapes;
+use table::Shapes;
 ghost use Rattle.encoder.specs.Arranged.{LineFit, LinedUp, ArrangeFit, Arranged};
 
 // The slots of the living of k numbers, in order, from p.costs on; and the place of each there.

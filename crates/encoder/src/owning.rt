@@ -1,10 +1,10 @@
 // Mode 1: each set has an id of its own, and all are rows of one group, in the order of adding.
 use crate::encoded::Encoded;
 use crate::places::Places;
-use groups::cover;
-use sets::own_ids;
+use ids::own_ids;
 use shapes::Encoding;
 use shapes::RowShape;
+use shaping::cover;
 ghost use mathlib.Core.Path.{_≡_};
 ghost use Prim.Native.Nat.{_<_};
 ghost use Rattle.encoder.specs.Lent.{Fit, OwnAt};

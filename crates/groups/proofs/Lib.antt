@@ -1,6 +1,2 @@
 pub mod GroupLaws
-pub mod ShapeSteps
-pub mod TableSteps
-pub mod AddSteps
-pub mod GroupSteps
-pub mod CoverSteps
+pub mod CoverLaws

@@ -1,4 +1,2 @@
 pub mod Groups
 pub mod Cover
-pub mod Lent
-pub mod Table

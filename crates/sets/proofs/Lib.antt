@@ -1,9 +1,3 @@
 pub mod SetLaws
-pub mod ItemLaws
-pub mod MergeLaws
-pub mod HalfLaws
 pub mod IdLaws
 pub mod HeldLaws
-pub mod FirstLaws
-pub mod FirstSteps
-pub mod IdentifySteps

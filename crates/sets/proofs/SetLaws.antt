@@ -4,10 +4,9 @@ use mathlib.Core.Bool.{Bool, true, false}
 use mathlib.Core.List.{List, [], _∷_}
 use mathlib.Core.Logic.{_⊎_, inl, inr, ⊎-elim}
 use Prim.Native.Nat.{ℕ, zero, suc, _+_, _-_, _*_, _≤_, _<_}
-use native.Mathlib.Numerals.{add-one, sub-one}
-use native.Mathlib.Nat.{add-zero, sub-zero}
+use native.Mathlib.Numerals.{sub-one}
 use native.Mathlib.Omega.{arith}
-use lib.ListN.{length, getD}
+use lib.ListN.{getD}
 use lib.Dec.{eqb, ltb}
 use borrow.Author.Tests.{lt-ltb, le-ltb, eq-eqb, ne-eqb}
 use Rattle.laws.specs.declared.Order.{Order}
@@ -16,13 +15,11 @@ use Rattle.laws.specs.Order.{thenBy, flipped, isMost}
 use Rattle.laws.proofs.OrderLaws.{compared-less, compared-more, compared-same}
 use Rattle.laws.proofs.Cases.{lt-or-ge, Tri, tri}
 use Rattle.laws.proofs.Cases.Tri.{below, same, above}
-use Rattle.laws.specs.Range.{Only, Outside}
 use Rattle.laws.specs.Pick.{pick}
 use Rattle.laws.specs.Signed.{zeroWord}
 use Rattle.sets.specs.Set.{Set, wordOf, Ascending, Proper}
 use Rattle.sets.specs.Order.{Compared, byWords, orderNone, orderHead, order}
-use Rattle.sets.specs.Lent.{entries, startOf, countOf, setOf, Stored, Clear, atMost}
-use Rattle.sets.specs.Inner.{Next}
+use Rattle.sets.specs.Lent.{entries}
 use Rattle.sets.specs.Order.Compared.{less, equal, greater}
 
 pub by-less : (v w : ℕ) (o : Order) → v < w → byWords v w o ≡ Less
@@ -170,8 +167,7 @@ pub order-total : (a b : Set) → Ascending 0 a → Ascending 0 b → isMost (or
 order-total a b p q l =
     is-most-of (order b a) (order-right b a 0 q p) (at-most-back (order a b) (order-right a b 0 p q) l)
 
--- The walk's steps, on entries that stand in a list of words.
-
+-- entries that stand in a list of words
 pub entries-cons : (a m : ℕ) (w : List ℕ) → 0 < m → entries a m w ≡ (getD w a 0, getD w (a + 1) 0) ∷ entries (a + 2) (m - 1) w
 unfolding entries
 entries-cons a zero w h = absurd (omega arith)
@@ -180,68 +176,6 @@ entries-cons a (suc m) w h = rw (sub-one (suc m))
 pub entries-none : (a : ℕ) (w : List ℕ) → entries a 0 w ≡ []
 unfolding entries
 entries-none a w = refl
-
--- the case of two heads
-module _ (w : List ℕ) (a m b n : ℕ) (p : 0 < m) (q : 0 < n) where
-  pub next-left : getD w a 0 < getD w b 0 → Next w a m b n (getD w (a + 1) 0) zeroWord 1 0
-  unfolding order orderHead
-  next-left h = record {
-    some = omega arith;
-    left = p;
-    right = omega arith;
-    rest = rw (add-zero b, sub-zero n, entries-cons a m w p, entries-cons b n w q, lt-ltb (getD w a 0) (getD w b 0) h);
-  }
-
-  pub next-right : getD w b 0 < getD w a 0 → Next w a m b n zeroWord (getD w (b + 1) 0) 0 1
-  unfolding order orderHead
-  next-right h = record {
-    some = omega arith;
-    left = omega arith;
-    right = q;
-    rest = rw (add-zero a, sub-zero m, entries-cons a m w p, entries-cons b n w q, le-ltb (getD w a 0) (getD w b 0) (omega arith), lt-ltb (getD w b 0) (getD w a 0) h);
-  }
-
-  pub next-both : getD w a 0 ≡ getD w b 0 → Next w a m b n (getD w (a + 1) 0) (getD w (b + 1) 0) 1 1
-  unfolding order orderHead
-  next-both h = record {
-    some = omega arith;
-    left = p;
-    right = q;
-    rest = rw (entries-cons a m w p, entries-cons b n w q, le-ltb (getD w a 0) (getD w b 0) (omega arith), le-ltb (getD w b 0) (getD w a 0) (omega arith));
-  }
-
-pub next-only-right : (w : List ℕ) (a m b n : ℕ) → m ≡ 0 → 0 < n → Next w a m b n zeroWord (getD w (b + 1) 0) 0 1
-unfolding order orderNone entries
-next-only-right w a m b n e q = record {
-  some = omega arith;
-  left = omega arith;
-  right = q;
-  rest = rw (e, entries-cons b n w q);
-}
-
-pub next-only-left : (w : List ℕ) (a m b n : ℕ) → 0 < m → n ≡ 0 → Next w a m b n (getD w (a + 1) 0) zeroWord 1 0
-unfolding order orderHead entries
-next-only-left w a m b n p e = record {
-  some = omega arith;
-  left = p;
-  right = omega arith;
-  rest = rw (e, entries-cons a m w p);
-}
-
-pub walk-done : (w : List ℕ) (a m b n : ℕ) → m + n ≤ 0 → order (entries a m w) (entries b n w) ≡ Equal
-unfolding order orderNone entries
-walk-done w a m b n h = let p : m ≡ 0 = omega arith in let q : n ≡ 0 = omega arith in rw (p, q)
-
--- a step that decides, and one that does not
-pub next-less : {w : List ℕ} {a m b n v u da db : ℕ} → Next w a m b n v u da db → v < u → order (entries a m w) (entries b n w) ≡ Less
-next-less s h = s .rest ∙ by-less _ _ _ h
-
-pub next-more : {w : List ℕ} {a m b n v u da db : ℕ} → Next w a m b n v u da db → u < v → order (entries a m w) (entries b n w) ≡ Greater
-next-more s h = s .rest ∙ by-more _ _ _ h
-
-pub next-same : {w : List ℕ} {a m b n v u da db : ℕ} → Next w a m b n v u da db → v ≡ u
-    → order (entries a m w) (entries b n w) ≡ order (entries (a + 2 * da) (m - da) w) (entries (b + 2 * db) (n - db) w)
-next-same s h = s .rest ∙ by-rest _ _ _ h
 
 -- What is right of two functions is one answer: so `Compared` says "if and only if".
 pub compared-unique : {f g : ℕ → ℕ} (o q : Order) → Compared 0 f g o → Compared 0 f g q → o ≡ q

@@ -2,4 +2,3 @@ pub mod Set
 pub mod Order
 pub mod Ids
 pub mod Lent
-pub mod Inner

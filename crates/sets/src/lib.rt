@@ -1,9 +1,2 @@
-// Sets of adjustments in lent words: their order, a stable sort of their numbers, their ids.
-mod comparing;
-mod ids;
-mod sorting;
-
-pub use comparing::compare;
-pub use ids::identify;
-pub use ids::own_ids;
-pub use sorting::sort;
+// Sets of adjustments. The crate is there for its definitions and their laws and has no code: specs/ has what document 01 says of a set, of the order
+// of sets and of their ids, and what lent words hold of them; proofs/ what is true of it.

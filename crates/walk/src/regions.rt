@@ -1,6 +1,6 @@
 // For each region the first with its coordinates: regions are written as sets, and sets are known to be found equal.
+use ids::identify;
 use records::two_bytes;
-use sets::identify;
 ghost use mathlib.Core.Path.{_≡_};
 ghost use Prim.Native.Nat.{ℕ, _+_, _*_, _<_, _≤_};
 ghost use lib.ListN.{length, drop};

@@ -7,8 +7,8 @@ use Rattle.encoder.proofs.owning.own.Reads as reads
 use Rattle.encoder.proofs.owning.own.Lts as lts
 use Rattle.encoder.proofs.owning.cost_at.Reads as cost-at-reads
 use Rattle.encoder.proofs.owning.put_group.Reads as put-group-reads
-use Rattle.groups.proofs.cover.Reads as cover-reads
-use Rattle.sets.proofs.own_ids.Reads as own-ids-reads
+use Rattle.shaping.proofs.cover.Reads as cover-reads
+use Rattle.ids.proofs.own_ids.Reads as own-ids-reads
 
 own-ids-requires : tie.Need-own-ids-requires
 own-ids-requires c κs = let q = c .before .before .pre in ids-fit (q .0) (q .1)

@@ -5,8 +5,8 @@ use Rattle.encoder.proofs.sharing.gather.Statement.{statement}
 use Rattle.encoder.proofs.sharing.gather.Tie as tie
 use Rattle.encoder.proofs.sharing.gather.Reads as reads
 use Rattle.encoder.proofs.sharing.gather.Lts as lts
-use Rattle.groups.proofs.group.Reads as group-reads
-use Rattle.sets.proofs.identify.Reads as identify-reads
+use Rattle.grouping.proofs.group.Reads as group-reads
+use Rattle.ids.proofs.identify.Reads as identify-reads
 
 identify-requires : tie.Need-identify-requires
 identify-requires c κs = gather-ids (c .before .before .pre)

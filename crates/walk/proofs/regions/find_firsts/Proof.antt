@@ -9,7 +9,7 @@ use Rattle.walk.proofs.regions.find_firsts.Tie as tie
 use Rattle.walk.proofs.regions.find_firsts.Reads as reads
 use Rattle.walk.proofs.regions.find_firsts.Lts as lts
 use Rattle.walk.proofs.regions.write_regions.Reads as write-regions-reads
-use Rattle.sets.proofs.identify.Reads as identify-reads
+use Rattle.ids.proofs.identify.Reads as identify-reads
 
 mul-body : tie.Need-mul-body
 mul-body c = omega arith

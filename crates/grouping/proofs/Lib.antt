@@ -1,0 +1,2 @@
+pub mod AddSteps
+pub mod GroupSteps

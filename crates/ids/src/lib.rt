@@ -1,0 +1,107 @@
+// Ids: sets sorted once; of equal ones, which stand side by side, the first in the job gives its id to all.
+use comparing::compare;
+use laws::Order;
+use laws::wide;
+use sorting::sort;
+ghost use mathlib.Core.Path.{_≡_};
+ghost use mathlib.Core.List.{List};
+ghost use Prim.Native.Nat.{ℕ, _+_, _-_, _<_, _≤_};
+ghost use lib.ListN.{length, getD};
+ghost use Rattle.laws.specs.Range.{Apart};
+ghost use Rattle.sets.specs.Set.{Set};
+ghost use Rattle.sets.specs.Lent.{Stored, CountedUp, IdsFit, Identified};
+ghost use Rattle.ids.specs.Inner.{beginsAt, FirstsFit, FirstsAt, GivesIds};
+
+// The numbers 0 up to n: in mode 1 a set's own number is its id.
+pub fn own_ids(work: &mut [u32], at: usize, n: usize)
+    requires { ⌜ at + n ≤ length (now work) ⌝ }
+    requires { ⌜ n ≤ 4294967296 ⌝ }
+    ensures { λ _. ⌜ CountedUp at n (now (work .entry)) (now (work .exit)) ⌝ }
+{
+    let mut i = 0;
+    while i < n {
+        work[at + i] = i as u32;
+        i += 1;
+    }
+}
+
+// Of sorted set numbers: whether the i-th begins a run of equal sets.
+fn begins(work: &[u32], index: usize, at: usize, i: usize) -> bool
+    requires { ⌜ at + i < length (now work) ⌝ }
+    requires { ⌜ Stored (now work) index (getD (now work) (at + (i - 1)) 0) ⌝ }
+    requires { ⌜ Stored (now work) index (getD (now work) (at + i) 0) ⌝ }
+    ensures { λ r. ⌜ r ≡ beginsAt (now (work .entry)) index at i ⌝ }
+{
+    if i == 0 {
+        return true;
+    }
+    let x = wide(work[at + (i - 1)]);
+    let y = wide(work[at + i]);
+    match compare(work, index, x, y) {
+        Order::Less => true,
+        Order::Equal => false,
+        Order::Greater => true,
+    }
+}
+
+// For each set the first set that equals it, from the sorted numbers.
+fn firsts(work: &mut [u32], index: usize, at: usize, n: usize, first: usize)
+    requires { ⌜ FirstsFit (now work) index at n first ⌝ }
+    ensures { λ _. ⌜ FirstsAt index n first (now (work .entry)) (now (work .exit)) ⌝ }
+{
+    let mut i = 0;
+    while i < n {
+        let x = wide(work[at + i]);
+        if begins(work, index, at, i) {
+            work[first + x] = work[at + i];
+            i += 1;
+        } else {
+            let y = wide(work[at + (i - 1)]);
+            work[first + x] = work[first + y];
+            i += 1;
+        }
+    }
+}
+
+// A set that is the first of its like takes the next id, and any other the id of its first. Returns how many ids there are.
+fn give_ids(work: &mut [u32], first: usize, ids: usize, n: usize) -> usize
+    requires { ⌜ (first + n ≤ length (now work)) × (ids + n ≤ length (now work)) ⌝ }
+    requires { ⌜ Apart ids n first n ⌝ }
+    requires { ⌜ n ≤ 4294967296 ⌝ }
+    requires { ⌜ ((k : ℕ) → k < n → getD (now work) (first + k) 0 ≤ k) ⌝ }
+    ensures { λ r. ⌜ ((sets : List Set) → GivesIds first ids n sets (now (work .entry)) (now (work .exit)) r) ⌝ }
+{
+    let mut next = 0;
+    let mut k = 0;
+    while k < n {
+        let f = wide(work[first + k]);
+        if f == k {
+            work[ids + k] = next as u32;
+            next += 1;
+            k += 1;
+        } else {
+            work[ids + k] = work[ids + f];
+            k += 1;
+        }
+    }
+    next
+}
+
+// Sorts the numbers of n sets into the words from `at` on, and writes for each set its first like and its id.
+// Returns how many distinct sets there are.
+pub fn identify(
+    work: &mut [u32],
+    index: usize,
+    n: usize,
+    at: usize,
+    first: usize,
+    ids: usize,
+) -> usize
+    requires { ⌜ IdsFit (now work) index n at first ids ⌝ }
+    ensures { λ r. ⌜ Identified index n at first ids (now (work .entry)) (now (work .exit)) r ⌝ }
+{
+    own_ids(work, at, n);
+    sort(work, index, at, n, first);
+    firsts(work, index, at, n, first);
+    give_ids(work, first, ids, n)
+}

@@ -1,0 +1,2 @@
+pub mod ShapeSteps
+pub mod CoverSteps
