@@ -1,0 +1,9 @@
+pub mod Order
+pub mod Bag
+pub mod Heap
+pub mod Sets
+pub mod Zeros
+pub mod Content
+pub mod Again
+pub mod Lent
+pub mod Calls
