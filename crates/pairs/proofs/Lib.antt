@@ -5,5 +5,6 @@ pub mod Sets
 pub mod Zeros
 pub mod Content
 pub mod Again
-pub mod Lent
+pub mod Loan
+pub mod Slices
 pub mod Calls
