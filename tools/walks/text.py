@@ -124,9 +124,8 @@ module _ {ALL} (mem : Memory → SProp 𝓤) (run : Routine → Fun 𝓤) where
         goes = lambda p: (f"goes-slice 𝓤 H A W {K} {p.at} tt (plain (λ _. {p.row}))" if p.mut else f"goes-none-slice 𝓤 H A W {K} ({p.at} ∷ []) tt (plain (λ _. {p.row})) yes") if isinstance(p, Slice) else f"goes-none 𝓤 H A W {K} (λ _. {p[1].row}) yes (λ κs x f. refl)"
         vals_of = lambda p: "slice-vals" if isinstance(p, Slice) else "uint-vals w64" if p[1] is WORD else "LL.vals T.the-type T′.the-laws"
         tells = lambda p: f"{'mut' if p.mut else 'shr'}-slice-tells (named {p.at}) (κs{path(p.at)}) {p.row}" if isinstance(p, Slice) else "uint-tells w64" if p[1] is WORD else "LL.tells T.the-type T′.the-laws"
-        sl = lambda p: f"s{p.n[1:]}"
         lfts, shares = nest([x.kappa for x in S]), nest([x.share for x in S])
-        machine = "".join((sl(p) if isinstance(p, Slice) else p[1].val(p[0])) + " ∷ " for p in f.params) + "[]"
+        machine = "".join((p.machine if isinstance(p, Slice) else p[1].val(p[0])) + " ∷ " for p in f.params) + "[]"
         params = "".join(f" {x.names} ({x.name} : List {x.denot})" for x in S) + "".join(f" ({p[0]} : {p[1].denot})" for p in f.args) + "".join(f" (g-{p[0]} : {p[1].has(p[0])})" for p in f.args)
         R = f.result
         # how it ends
@@ -184,21 +183,21 @@ module _ {GIVEN}{params} where
 """ + "".join(f"""  abbrev {x.n} : ℕ
   {x.n} = length {x.name}
 
-  abbrev {sl(x)} : Val
-  {sl(x)} = sliceVal {x.ptr} {x.n}
+  abbrev {x.machine} : Val
+  {x.machine} = sliceVal {x.ptr} {x.n}
 
-  abbrev Slice{x.n[1:]} : List {x.denot} → Item 𝓤
-  Slice{x.n[1:]} xs = {'Has' if x.mut else 'Sees'} {x.of} 𝓤 {x.n} xs
+  abbrev {x.held} : List {x.denot} → Item 𝓤
+  {x.held} xs = {'Has' if x.mut else 'Sees'} {x.of} 𝓤 {x.n} xs
 
 """ for x in S) + f"""  abbrev bound : walkOf 𝓤 H A {d}.ended stayed ({d}.clauses 𝓤 H A mem run) .Ghost
-  bound = (({lfts}, {shares}, tt, {nest([f'ref {p.of} {p.gamma} {p.name}' if isinstance(p, Slice) else p[0] for p in f.params])}, {nest([(sl(p) if isinstance(p, Slice) else p[1].val(p[0])) + ' ∷ []' for p in f.params])}), tt)
+  bound = (({lfts}, {shares}, tt, {nest([f'ref {p.of} {p.gamma} {p.name}' if isinstance(p, Slice) else p[0] for p in f.params])}, {nest([(p.machine if isinstance(p, Slice) else p[1].val(p[0])) + ' ∷ []' for p in f.params])}), tt)
 
   abbrev Post : Val → SProp 𝓤
   Post = walkOf 𝓤 H A {d}.ended stayed ({d}.clauses 𝓤 H A mem run) .post bound
 
-  exits : {''.join(f"({x.name}′ : List {x.denot}) → length {x.name}′ ≡ {x.n} → " for x in muts)}(r : {R.denot}) → {R.has('r')} → {f.ensures} → ent 𝓤 (⋆ 𝓤 H A ({''.join(f'Slice{x.n[1:]} {out_list(x)} ∷ ' for x in S)}[])) (Post ({R.val('r')}))
+  exits : {''.join(f"({x.name}′ : List {x.denot}) → length {x.name}′ ≡ {x.n} → " for x in muts)}(r : {R.denot}) → {R.has('r')} → {f.ensures} → ent 𝓤 (⋆ 𝓤 H A ({''.join(f'{x.held} {out_list(x)} ∷ ' for x in S)}[])) (Post ({R.val('r')}))
   exits {''.join(f"{x.name}′ {x.long} " for x in muts)}r g e =
-      qed W ({''.join(f'Slice{x.n[1:]} {out_list(x)} ∷ ' for x in S)}[]) ∵ suffices ! _ (ends-at 𝓤 H A {d}.ended stayed ({d}.clauses 𝓤 H A mem run) W bound ({R.val('r')}) r {lasts} {longs}) $ says ! e $
+      qed W ({''.join(f'{x.held} {out_list(x)} ∷ ' for x in S)}[]) ∵ suffices ! _ (ends-at 𝓤 H A {d}.ended stayed ({d}.clauses 𝓤 H A mem run) W bound ({R.val('r')}) r {lasts} {longs}) $ says ! e $
       {' '.join(e.out)}
 
   module _ (𝓣 : Tables 𝓤 H){''.join(f' (known-{g.d} : Triple 𝓤 (𝓣 .C {g.key()}) ({g.contract} 𝓤 H A mem run))' for g in callees)}{''.join(f' ({x.room} : Room {x.row} {x.n})' for x in S)}{''.join(f' ({n} : {t})' for n, t in f.requires)} where
@@ -211,7 +210,7 @@ module _ {GIVEN}{params} where
     abbrev fm : FmC 𝓤 H (W .laws) (𝓣 .C)
     fm = fmOf 𝓤 H (W .laws) 𝓣
 
-    small : (k : ℕ) → k ≤ n → k < 2 ^ 64
+    small : (k : ℕ) → k ≤ ν → k < 2 ^ 64
     small k l = let r = room .0 in omega arith
 {f.walk.get('helpers', '')}
     module _ ({ls} : ℕ) where

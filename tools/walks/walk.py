@@ -68,12 +68,12 @@ class Slice:
         s.name, s.mut, s.at = name, mut, at  # `at`: which of the slices
         s.denot, s.row, s.ty = ELEMS[elem]
         n = "" if at == 0 else sub(at + 1)
-        s.n = f"n{n}"
-        s.vars = f"κ{n} q{n} γ{n} b{n} o{n}"
-        s.kappa, s.share, s.gamma = f"κ{n}", f"q{n}", f"γ{n}"
-        s.ptr = f"(b{n}, o{n})"
+        s.n, s.machine, s.held = f"ν{n}", f"σ{n}", f"Slice{n}"  # its count, its machine value, and what is had of it
+        s.vars = f"κ{n} θ{n} γ{n} β{n} ι{n}"  # its lifetime, share, name, block and offset
+        s.kappa, s.share, s.gamma = f"κ{n}", f"θ{n}", f"γ{n}"
+        s.ptr = f"(β{n}, ι{n})"
         s.room, s.long = f"room{n}", f"long{n}"
-        s.names = f"(κ{n} : Lft) (q{n} : Share) (γ{n} : GName) (b{n} o{n} : ℕ)"
+        s.names = f"(κ{n} : Lft) (θ{n} : Share) (γ{n} : GName) (β{n} ι{n} : ℕ)"
         s.of = f"{s.row} {s.vars}"
 
 
@@ -435,7 +435,7 @@ class Walk(Context):
         at = f"𝓤 H A W mem run C fm known-{callee.d}{slices}" + "".join(" " + atom(a[0]) for a in args)
         lens = "".join(" " + s.cur[m.name][1] for m, o in zip(own, modes) if o != "see") + "".join(" " + m.room for m, o in zip(own, modes) if o == "mut")
         vals = iter(args)
-        machine = "".join((f"s{m.n[1:]}" if isinstance(p, Slice) else p[1].val(next(vals)[0])) + " ∷ " for p, m in zip(callee.params, mine)) + "[]"
+        machine = "".join((m.machine if isinstance(p, Slice) else p[1].val(next(vals)[0])) + " ∷ " for p, m in zip(callee.params, mine)) + "[]"
         proof = f"({cname} {at}{lens}{''.join(' ' + a[1] for a in args)}{' ' + atom(premise) if callee.requires else ''})"
         item = f"raw (C {callee.key()} ({machine}) (λ w. mean 𝓤 H A (After-{cname} {at} w)))"
         if own:
@@ -543,12 +543,12 @@ class Walk(Context):
 def items(w, t):
     out = []
     for x in w.fn.slices:
-        out.append(f"Slice{x.n[1:]} {atom(w.fn.walk.get('loop', {}).get('lists', {}).get(x.name, (x.name,))[0] if t else x.name)}" if x.mut else f"Slice{x.n[1:]} {x.name}")
+        out.append(f"{x.held} {atom(w.fn.walk.get('loop', {}).get('lists', {}).get(x.name, (x.name,))[0] if t else x.name)}" if x.mut else f"{x.held} {x.name}")
     for i in range(w.N - 1, -1, -1):
         ty = local_ty(w.types[i], None)
         if i in w.val:
             v = w.val[i][0]
-            val = f"s{v.n[1:]}" if isinstance(v, Slice) else kind_of(w.types[i]).val(v)
+            val = v.machine if isinstance(v, Slice) else kind_of(w.types[i]).val(v)
             out.append(f"‵ (fat fullShare ({ty}) l{sub(i)} 0 ({val}))")
         else:
             out.append(f"‵ (froom ({ty}) l{sub(i)} 0)")
