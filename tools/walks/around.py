@@ -1,6 +1,6 @@
 """The texts around a walk: imports, the opening with what is had and what is owed, and the theorem at the end."""
 import re
-from walk import Context, PAIR, Slice, UNIT, Walk, WORD, call, call_name, dash, items, local_ty, nest, number, owns, part, path, prime, sub, values
+from walk import *
 
 IMPORTS = """mathlib.Core.Path: _≡_ refl sym _∙_ ap subst
 mathlib.Core.Bool: Bool true false not
@@ -32,7 +32,7 @@ denote.RattleType: owns
 denote.Memory: pointee
 denote.Laws: Is shows
 denote.Plain: Nothing Boolean uint-vals uint-tells uint-makes uint-lawful nothing-lawful bool-lawful
-denote.Builtin: u8 u32 usize
+denote.Builtin: u8 u32 u64 usize
 denote.Slice: sliceTy sliceVal MutSlice ShrSlice Room slice-vals mut-slice-tells shr-slice-tells
 denote.Signature: plain
 denote.Steps: only owned facts heard nothing
@@ -70,14 +70,15 @@ def uses(body, lines):
 
 
 class Crate:
-    def __init__(s, name, home, fns, specs, record="pairs"):
-        """home: crate of the loans and of Pair; specs: lines of imports for clauses and laws, as in IMPORTS."""
+    def __init__(s, name, fns, specs):
+        """specs: lines of imports for clauses and laws, as in IMPORTS."""
         s.name, s.fns, s.specs, s.used = name, {}, specs, []
         here = lambda c, what: f"Rattle.{c}.{what}" if c == name else f"Rattle.{c}.{what}"
         s.proofs = lambda c: here(c, "proofs")
-        s.lines = IMPORTS.strip().split("\n") + [f"{here(home, 'specs')}.declared.Pair: Pair"] + specs + [
-            f"{here(home, 'proofs')}.Pair as T", f"{here(home, 'proofs')}.Pair.Laws as T′",
-            f"{here(home, 'proofs')}.Loan: Loan both Gives gives loan-call", f"{here(home, 'proofs')}.Slices: ref Has Sees lent-mut lent-shr lent-see"]
+        s.lines = IMPORTS.strip().split("\n") + specs
+        for k in Record.known.values():
+            s.lines += [f"{here(k.crate, 'specs')}.declared.{k.path}: {k.denot}", f"{here(k.crate, 'proofs')}.{k.path} as {k.a}", f"{here(k.crate, 'proofs')}.{k.path}.Laws as {k.a}′"]
+        s.lines += [f"{here('pairs', 'proofs')}.Loan: Loan both Gives gives loan-call", f"{here('pairs', 'proofs')}.Slices: ref Has Sees lent-mut lent-shr lent-see"]
         for f in fns:
             f.crate = f.crate or name
             s.fns[f"{f.crate}::{f.name}"] = f
@@ -93,10 +94,7 @@ class Crate:
         for f, _ in todo:
             if f not in callees:
                 callees.append(f)
-        body = f"""
-abbrev pub mach : Pair → Val
-mach p = vstruct (vcons (vint w32 (p .gain)) (vcons (vint w32 (p .first)) (vcons (vint w32 (p .second)) vnil)))
-
+        body = "".join("\n" + k.machine() for k in Record.known.values()) + f"""
 module _ {ALL} (mem : Memory → SProp 𝓤) (run : Routine → Fun 𝓤) where
 """ + "\n".join(f"  abbrev pub {f.contract} : Contract 𝓤\n  {f.contract} = tripleOf 𝓤 H A {f.d}.signature ({f.d}.spec 𝓤 H A mem run)\n" for f in callees) + f"\nmodule _ {GIVEN} where" + "".join(call(f, m) for f, m in todo)
         lines = s.lines + [f"{s.proofs(f.crate)}.{f.name} as {f.d}" for f in callees] + [f"{s.proofs(f.crate)}.{f.name}.Symbol: name|{f.key()}" for f in callees]
@@ -118,12 +116,12 @@ module _ {ALL} (mem : Memory → SProp 𝓤) (run : Routine → Fun 𝓤) where
                 callees.append(g)
         names = sorted({call_name(g, m) for g, m in used})
         ls = " ".join("l" + sub(i) for i in range(N))
-        tys = [local_ty(t, None) for t in types]
+        tys = [local_ty(t) for t in types]
         row = lambda p: p.row if isinstance(p, Slice) else p[1].row
         stay = lambda p: (f"stay-slice ({p.at} ∷ []) tt (plain (λ _. {p.row}))" if p.mut else f"stay-none-slice ({p.at} ∷ []) tt (plain (λ _. {p.row})) yes") if isinstance(p, Slice) else f"stay-none (λ _. {p[1].row}) yes"
         goes = lambda p: (f"goes-slice 𝓤 H A W {K} {p.at} tt (plain (λ _. {p.row}))" if p.mut else f"goes-none-slice 𝓤 H A W {K} ({p.at} ∷ []) tt (plain (λ _. {p.row})) yes") if isinstance(p, Slice) else f"goes-none 𝓤 H A W {K} (λ _. {p[1].row}) yes (λ κs x f. refl)"
-        vals_of = lambda p: "slice-vals" if isinstance(p, Slice) else "uint-vals w64" if p[1] is WORD else "LL.vals T.the-type T′.the-laws"
-        tells = lambda p: f"{'mut' if p.mut else 'shr'}-slice-tells (named {p.at}) (κs{path(p.at)}) {p.row}" if isinstance(p, Slice) else "uint-tells w64" if p[1] is WORD else "LL.tells T.the-type T′.the-laws"
+        vals_of = lambda p: "slice-vals" if isinstance(p, Slice) else p[1].vals
+        tells = lambda p: f"{'mut' if p.mut else 'shr'}-slice-tells (named {p.at}) (κs{path(p.at)}) {p.row}" if isinstance(p, Slice) else p[1].tells
         lfts, shares = nest([x.kappa for x in S]), nest([x.share for x in S])
         machine = "".join((p.machine if isinstance(p, Slice) else p[1].val(p[0])) + " ∷ " for p in f.params) + "[]"
         params = "".join(f" {x.names} ({x.name} : List {x.denot})" for x in S) + "".join(f" ({p[0]} : {p[1].denot})" for p in f.args) + "".join(f" (g-{p[0]} : {p[1].has(p[0])})" for p in f.args)
@@ -158,16 +156,10 @@ module _ {ALL} (mem : Memory → SProp 𝓤) (run : Routine → Fun 𝓤) where
         b.move(*["has-" + x.name for x in S])
         b.p(f"body {ls}" + ")" * N)
         body = ""
-        if PAIR in [g.result for g in callees] or "at-mach" in str(f.walk):
-            body += """
--- a record's relation, at its machine value
-spelt : (p : Pair) (r : Val) → Is T.the-row p (r ∷ []) → r ≡ mach p
-spelt p r g = ap only (LL.tells T.the-type T′.the-laws p (r ∷ []) g)
-
-at-mach : (p : Pair) (r : Val) → Is T.the-row p (r ∷ []) → Is T.the-row p (mach p ∷ [])
-at-mach p r g = subst (λ (u : Val). Is T.the-row p (u ∷ [])) (spelt p r g) g
-"""
         flow = str(w.out) + (str(w.more.out) + str(w.ends.out) if "loop" in f.walk else "")
+        for k in Record.known.values():
+            if f"-{k.a} " in flow:
+                body += k.helpers()
         if "(holds " in flow:
             body += "\nholds : (t : Bool) → T t → t ≡ true\nholds true _ = refl\nholds false a = absurd a\n"
         if "(fails " in flow:
@@ -260,7 +252,7 @@ module _ {GIVEN}{params} where
         known = "".join(f"Triple 𝓤 (𝓣 .C {g.key()}) ({g.contract} 𝓤 H A mem run) → " for g in callees)
         ks = "".join(f" k-{g.d}" for g in callees)
         at = lambda p: path(f.params.index(p))
-        given = "".join(f" (κs{path(x.at)}) (qs{path(x.at)}) (a{at(x)} .name) (a{at(x)} .ptr .0) (a{at(x)} .ptr .1) (a{at(x)} .now)" for x in S) + "".join(f" (a{at(p)})" for p in f.args) + "".join(f" (are{at(p)}{' .1' if p[1] is WORD else ''})" for p in f.args)
+        given = "".join(f" (κs{path(x.at)}) (qs{path(x.at)}) (a{at(x)} .name) (a{at(x)} .ptr .0) (a{at(x)} .ptr .1) (a{at(x)} .now)" for x in S) + "".join(f" (a{at(p)})" for p in f.args) + "".join(f" ({p[1].given('are' + at(p))})" for p in f.args)
         rooms = "".join(f" (are{at(x)} .0 .1)" for x in S)
         facts = "".join(f" (l .{i})" for i in range(len(f.requires))) if len(f.requires) > 1 else " l"
         spec = f"({d}.clauses 𝓤 H A mem run)"
@@ -290,7 +282,7 @@ unfolding code.routine tablesOf
     ({d}-meets 𝓤 H (𝓖 .A) (givenOf 𝓤 H 𝓜 𝓖) (𝓜 .mem) (𝓡 .run) (tablesOf 𝓤 H 𝓜 (tables 𝓤 H 𝓜 𝓡 code.env))
 """ + "\n".join(f"    (cited 𝓤 H ({g.contract} 𝓤 H (𝓖 .A) (𝓜 .mem) (𝓡 .run)) 𝓜 𝓡 code.env {g.key()} {g.d}-def.routine code.calls-{g.crate}·{g.d} ({g.d}-thm.met 𝓤 H 𝓜 𝓖 𝓡))" for g in callees) + ")\n"
         P = s.proofs
-        lines = s.lines + [f"{P(s.name)}.Calls: mach " + " ".join([g.contract for g in callees] + names + ["After-" + n for n in names])]
+        lines = s.lines + [f"{P(s.name)}.Calls: " + " ".join([k.mach for k in Record.known.values()] + [g.contract for g in callees] + names + ["After-" + n for n in names])]
         for g in callees:
             lines += [f"{P(g.crate)}.{g.name}.Symbol as {g.d}-def", f"{P(g.crate)}.{g.name}.Symbol: name|{g.key()}", f"{P(g.crate)}.{g.name}.Met as {g.d}-thm"]
         lines += [f"{P(f.crate)}.{f.name}.Key: name|{f.key()}", f"{P(f.crate)}.{f.name} as {d}", f"{P(f.crate)}.{f.name}.Statement as stated", f"{P(f.crate)}.{f.name}.Code as code", f"{P(f.crate)}.{f.name}.Code.Mir as code-mir"]
