@@ -22,7 +22,7 @@ prog.Memory: Memory
 prog.Routine: Routine
 prog.Wp: Heap Out Env Calls Loops Wp WpFn Tables afterSeq afterBlock afterTurn atReturn
 ghost.Atoms: Atoms sem
-contract.Monad: Fun fact
+contract.Monad: Fun fact factI
 contract.Running: givenOf tables tablesOf
 types.Kit: Given Item ‵ raw given some later _⊛_ ⋆ mean Sq runs anyQ atRet _$_ _∵_ ! qed by move keep drop use0 use1 split join pick learn check rewrite fsplit fjoin feqI feqL suffices frame await updating now|at-once show done
 types.Part: agg whole sub look-in
@@ -37,6 +37,7 @@ denote.Slice: sliceTy sliceVal MutSlice ShrSlice Room slice-vals mut-slice-tells
 denote.Signature: plain
 denote.Steps: only owned facts heard nothing
 denote.Struct.Laws as LL
+denote.Enum.Laws as EL
 denote.Triple.Entry: onEntry
 denote.Triple.Spec: Meets tripleOf
 denote.Triple.Statement: Contract Triple
@@ -78,7 +79,9 @@ class Crate:
         s.lines = IMPORTS.strip().split("\n") + specs
         for k in Record.known.values():
             s.lines += [f"{here(k.crate, 'specs')}.declared.{k.path}: {k.denot}", f"{here(k.crate, 'proofs')}.{k.path} as {k.a}", f"{here(k.crate, 'proofs')}.{k.path}.Laws as {k.a}′"]
-        s.lines += [f"{here('pairs', 'proofs')}.Loan: Loan both Gives gives loan-call", f"{here('pairs', 'proofs')}.Slices: ref Has Sees lent-mut lent-shr lent-see"]
+            if isinstance(k, Enum):
+                s.lines.append(f"{here(k.crate, 'specs')}.declared.{k.path}.the-variants: " + " ".join(v for v, _ in k.fields))
+        s.lines += [f"{here('pairs', 'proofs')}.Loan: Loan both Gives gives loan-call", f"{here('pairs', 'proofs')}.Slices: ref Has Sees lent-mut lent-shr lent-see", f"{here('pairs', 'proofs')}.Clauses: needs-more needs-none"]
         for f in fns:
             f.crate = f.crate or name
             s.fns[f"{f.crate}::{f.name}"] = f
@@ -94,7 +97,7 @@ class Crate:
         for f, _ in todo:
             if f not in callees:
                 callees.append(f)
-        body = "".join("\n" + k.machine() for k in Record.known.values()) + f"""
+        body = "".join("\n" + k.machine() for k in Record.known.values() if not isinstance(k, Enum)) + f"""
 module _ {ALL} (mem : Memory → SProp 𝓤) (run : Routine → Fun 𝓤) where
 """ + "\n".join(f"  abbrev pub {f.contract} : Contract 𝓤\n  {f.contract} = tripleOf 𝓤 H A {f.d}.signature ({f.d}.spec 𝓤 H A mem run)\n" for f in callees) + f"\nmodule _ {GIVEN} where" + "".join(call(f, m) for f, m in todo)
         lines = s.lines + [f"{s.proofs(f.crate)}.{f.name} as {f.d}" for f in callees] + [f"{s.proofs(f.crate)}.{f.name}.Symbol: name|{f.key()}" for f in callees]
@@ -132,10 +135,12 @@ module _ {ALL} (mem : Memory → SProp 𝓤) (run : Routine → Fun 𝓤) where
             e.split("has-" + x.name, "own-" + x.name, "tok-" + x.name)
         e.new("toks", "nothing !")
         e.chain(["tok-" + x.name for x in S], "toks", "toks")
-        e.gone("toks", "frame !")
+        e.new("res", R.made("r", "g"))
         owns(e, f)
-        e.gone("own", "frame !")
-        e.p(R.made("r", "g") + " $ done !")
+        e.join("own", "res", "own")
+        e.join("toks", "own", "all")
+        e.gone("all", "frame !")
+        e.p(said(f.clauses, "e"))
         lasts = nest([p.name + "′" if isinstance(p, Slice) and p.mut else "tt" for p in f.params])
         longs = nest([p.long if isinstance(p, Slice) and p.mut else "tt" for p in f.params])
         muts = [x for x in S if x.mut]
@@ -187,9 +192,9 @@ module _ {GIVEN}{params} where
   abbrev Post : Val → SProp 𝓤
   Post = walkOf 𝓤 H A {d}.ended stayed ({d}.clauses 𝓤 H A mem run) .post bound
 
-  exits : {''.join(f"({x.name}′ : List {x.denot}) → length {x.name}′ ≡ {x.n} → " for x in muts)}(r : {R.denot}) → {R.has('r')} → {f.ensures} → ent 𝓤 (⋆ 𝓤 H A ({''.join(f'{x.held} {out_list(x)} ∷ ' for x in S)}[])) (Post ({R.val('r')}))
+  exits : {''.join(f"({x.name}′ : List {x.denot}) → length {x.name}′ ≡ {x.n} → " for x in muts)}(r : {R.denot}) → {R.has('r')} → ({f.ensures}) → ent 𝓤 (⋆ 𝓤 H A ({''.join(f'{x.held} {out_list(x)} ∷ ' for x in S)}[])) (Post ({R.val('r')}))
   exits {''.join(f"{x.name}′ {x.long} " for x in muts)}r g e =
-      qed W ({''.join(f'{x.held} {out_list(x)} ∷ ' for x in S)}[]) ∵ suffices ! _ (ends-at 𝓤 H A {d}.ended stayed ({d}.clauses 𝓤 H A mem run) W bound ({R.val('r')}) r {lasts} {longs}) $ says ! e $
+      qed W ({''.join(f'{x.held} {out_list(x)} ∷ ' for x in S)}[]) ∵ suffices ! _ (ends-at 𝓤 H A {d}.ended stayed ({d}.clauses 𝓤 H A mem run) W bound ({R.val('r')}) r {lasts} {longs}) $
       {' '.join(e.out)}
 
   module _ (𝓣 : Tables 𝓤 H){''.join(f' (known-{g.d} : Triple 𝓤 (𝓣 .C {g.key()}) ({g.contract} 𝓤 H A mem run))' for g in callees)}{''.join(f' ({x.room} : Room {x.row} {x.n})' for x in S)}{''.join(f' ({n} : {t})' for n, t in f.requires)} where
@@ -254,7 +259,14 @@ module _ {GIVEN}{params} where
         at = lambda p: path(f.params.index(p))
         given = "".join(f" (κs{path(x.at)}) (qs{path(x.at)}) (a{at(x)} .name) (a{at(x)} .ptr .0) (a{at(x)} .ptr .1) (a{at(x)} .now)" for x in S) + "".join(f" (a{at(p)})" for p in f.args) + "".join(f" ({p[1].given('are' + at(p))})" for p in f.args)
         rooms = "".join(f" (are{at(x)} .0 .1)" for x in S)
-        facts = "".join(f" (l .{i})" for i in range(len(f.requires))) if len(f.requires) > 1 else " l"
+        n = len(f.requires)
+        asks = f.asks()
+        facts = "".join(f" l{sub(i)}" for i in range(n)) if f.apart else "".join(f" (l₀ .{i})" for i in range(n)) if n > 1 else " l₀" * n
+        sep = lambda ts: f"fact 𝓤 ({ts[0]})" if len(ts) == 1 else f"sep 𝓤 (fact 𝓤 ({ts[0]})) ({sep(ts[1:])})"
+        begins = f"walk 𝓣{ks}{''.join(' ' + x.room for x in S)}{facts}"
+        for i in range(len(asks) - 1, -1, -1):
+            begins = f"needs{'-more' if i < len(asks) - 1 else ''} 𝓤 ({asks[i]}) Entry{' (' + sep(asks[i + 1:]) + ')' if i < len(asks) - 1 else ''} (λ l{sub(i)}. {begins})"
+        begins = begins if asks else f"needs-none 𝓤 Entry (emp 𝓤) ({begins})"
         spec = f"({d}.clauses 𝓤 H A mem run)"
         wp = "(WpFn 𝓤 H (𝓣 .C) (𝓣 .Λ) code.function)"
         body += f"""      body : Sq W Start (runs C Λ En code-mir.t-1 (atRet En Post))
@@ -266,10 +278,17 @@ module _ {GIVEN}{params} where
         qed W (({''.join(f'‵ (flft {x.kappa} {x.share}) ⊛ ' for x in S)}‵ ftrue) ∷ ‵ (owns ({types_of}) (bound .0 .3) (bound .0 .4)) ∷ []) ∵ enter ! C Λ code.function ({machine}) _ $
         {b.text(8)}
 
+  -- and with what it asks
+  abbrev Entry : SProp 𝓤
+  Entry = onEntry 𝓤 H A {d}.signature {lfts} {shares} (bound .0 .3) (bound .0 .4)
+
+  starts : (𝓣 : Tables 𝓤 H) → {known}{''.join(f'Room {x.row} {x.n} → ' for x in S)}ent 𝓤 (sep 𝓤 Entry ({sep(asks) if asks else 'emp 𝓤'})) (WpFn 𝓤 H (𝓣 .C) (𝓣 .Λ) code.function ({machine}) Post)
+  starts 𝓣{ks}{''.join(' ' + x.room for x in S)} = {begins}
+
 module _ {GIVEN} (𝓣 : Tables 𝓤 H) where
   {d}-walks : {known}Walks 𝓤 H A {d}.ended stayed {wp} {spec}
   {d}-walks{ks} = walked 𝓤 H A {d}.ended stayed {spec} {wp} (λ κs. {nest([vals_of(p) for p in f.params])}) (λ κs. {nest([tells(p) for p in f.params])})
-      (λ κs qs bounds a g are. needs 𝓤 _ _ (λ l. walk 𝓤 H A W mem run{given} 𝓣{ks}{rooms}{facts}))
+      (λ κs qs bounds a g are. starts 𝓤 H A W mem run{given} 𝓣{ks}{rooms})
 
   {d}-meets : {known}Meets 𝓤 H A {d}.signature {wp} ({d}.spec 𝓤 H A mem run)
   {d}-meets{ks} = walk-meets 𝓤 H A {d}.ended stayed W {nest([goes(p) for p in f.params])} {spec} {wp} (WpFn-mono 𝓤 H (W .laws) 𝓣 code.function) ({d}-walks{ks})
@@ -282,7 +301,7 @@ unfolding code.routine tablesOf
     ({d}-meets 𝓤 H (𝓖 .A) (givenOf 𝓤 H 𝓜 𝓖) (𝓜 .mem) (𝓡 .run) (tablesOf 𝓤 H 𝓜 (tables 𝓤 H 𝓜 𝓡 code.env))
 """ + "\n".join(f"    (cited 𝓤 H ({g.contract} 𝓤 H (𝓖 .A) (𝓜 .mem) (𝓡 .run)) 𝓜 𝓡 code.env {g.key()} {g.d}-def.routine code.calls-{g.crate}·{g.d} ({g.d}-thm.met 𝓤 H 𝓜 𝓖 𝓡))" for g in callees) + ")\n"
         P = s.proofs
-        lines = s.lines + [f"{P(s.name)}.Calls: " + " ".join([k.mach for k in Record.known.values()] + [g.contract for g in callees] + names + ["After-" + n for n in names])]
+        lines = s.lines + [f"{P(s.name)}.Calls: " + " ".join([k.mach for k in Record.known.values() if not isinstance(k, Enum)] + [g.contract for g in callees] + names + ["After-" + n for n in names])]
         for g in callees:
             lines += [f"{P(g.crate)}.{g.name}.Symbol as {g.d}-def", f"{P(g.crate)}.{g.name}.Symbol: name|{g.key()}", f"{P(g.crate)}.{g.name}.Met as {g.d}-thm"]
         lines += [f"{P(f.crate)}.{f.name}.Key: name|{f.key()}", f"{P(f.crate)}.{f.name} as {d}", f"{P(f.crate)}.{f.name}.Statement as stated", f"{P(f.crate)}.{f.name}.Code as code", f"{P(f.crate)}.{f.name}.Code.Mir as code-mir"]

@@ -56,6 +56,11 @@ def owns(c, fn, g=lambda p: f"g-{p[0]}"):  # what a contract asks of the paramet
             c.join("arg", "own", "own", "fjoin")
 
 
+def said(clauses, e):  # what is left of a goal once all that is owned was framed: the clauses, proved by e
+    one = lambda i: f"({e} .{i})" if len(clauses) > 1 else e
+    return " $ ".join([f"use0 W (raw (fact 𝓤 ({t}))) (factI 𝓤 ({t}) (emp 𝓤) {one(i)})" for i, t in reversed(list(enumerate(clauses)))] + ["done !"])
+
+
 def call_name(fn, modes):
     return fn.d + ("-call" if "see" not in modes else "-seen" if len(modes) == 1 else "-" + "-".join(modes))
 
@@ -108,14 +113,20 @@ def call(fn, modes):
     tokens = "".join(f"‵ (flft ({lft(s)}) {share(s)}) ⊛ " for s in S) + "‵ ftrue"
     fits = pairs_of([f"l{sub(s.at)} ∙ {s.long}" if modes[s.at] == "mut" else "tt" for s in S]) if S else ""
     wsx = pairs_of(["ws" + path(fn.params.index(s)) if modes[s.at] == "mut" else "tt" for s in S]) if S else ""
-    phi_ws = prime(fn, fn.ensures, lambda s: f"(ws{path(fn.params.index(s))})")
     at = f"at-{name}" + (" g" if S else "")
     # how the callee's post is taken apart
     c = Context(["lasts", "fact", "toks-own"])
-    c.move("fact")
-    c.ctx.remove("fact")
-    c.p(f"heard ! ({phi_ws}) (λ e.")
-    c.par += 1
+    told = [prime(fn, t, lambda s: f"(ws{path(fn.params.index(s))})") for t in fn.clauses]
+    for i, t in enumerate(told):
+        if i < len(told) - 1:
+            c.split("fact", "this", "fact")
+            c.move("this")
+        else:
+            c.move("fact")
+        del c.ctx[0]
+        c.p(f"heard ! ({t}) (λ e{sub(i) if len(told) > 1 else ''}.")
+        c.par += 1
+    e = "(" + ", ".join(f"e{sub(i)}" for i in range(len(told))) + ")" if len(told) > 1 else "e"
     rest, todo = "lasts", [s for s in S if modes[s.at] == "mut"]
     for i, p in enumerate(fn.params):
         if not todo:
@@ -140,25 +151,21 @@ def call(fn, modes):
     if S:
         c.chain(["c-" + s.name for s in S[:-1]], "c-" + S[-1].name, "comes")
         c.ctx[c.at("comes" if K > 1 else "c-" + S[0].name)] = "comes"
-        c.p(f"keep ! ({c.at('comes')} ∷ {c.at('res')} ∷ []) $ by ! (gives 𝓤 H A W (Loan-{name}{lnames}) {v.row} (λ x r. {phi}) g w r {atom(wsx)} ({fits}, e)){')' * c.par}))")
+        c.p(f"keep ! ({c.at('comes')} ∷ {c.at('res')} ∷ []) $ by ! (gives 𝓤 H A W (Loan-{name}{lnames}) {v.row} (λ x r. {phi}) g w r {atom(wsx)} ({fits}, {e})){')' * c.par}))")
     else:
-        c.p(f"keep ! ({c.at('res')} ∷ []) $ show ! (λ (r : {v.denot}). guard 𝓤 ({phi}) (sem 𝓤 H A ({v.row} .own r (w ∷ [])))) r $ check ! e $ done !{')' * c.par}))")
+        c.p(f"keep ! ({c.at('res')} ∷ []) $ show ! (λ (r : {v.denot}). guard 𝓤 ({phi}) (sem 𝓤 H A ({v.row} .own r (w ∷ [])))) r $ check ! {e} $ done !{')' * c.par}))")
     # how its pre is put together
-    e = Context(["goes"] if S else [])
+    n = Context(["goes"] if S else [])
     for i, s in enumerate(S):
         more = f"more{i}" if i < K - 1 else None
-        e.split("goes", "this", "goes") if more else e.ctx.__setitem__(e.at("goes"), "this")
-        e.split("this", "tok-" + s.name, "own-" + s.name)
-    e.new("toks", "nothing !")
-    e.chain(["tok-" + s.name for s in S], "toks", "toks")
-    if fn.requires:
-        e.gone("toks", "frame !")
-        owns(e, fn)
-    else:
-        owns(e, fn)
-        e.join("toks", "own", "all")
-        e.gone("all", "frame !")
-    e.p("done !")
+        n.split("goes", "this", "goes") if more else n.ctx.__setitem__(n.at("goes"), "this")
+        n.split("this", "tok-" + s.name, "own-" + s.name)
+    n.new("toks", "nothing !")
+    n.chain(["tok-" + s.name for s in S], "toks", "toks")
+    owns(n, fn)
+    n.join("toks", "own", "all")
+    n.gone("all", "frame !")
+    n.p(said(fn.asks(), "l"))
     gb = f" (g : {times([chr(8469) + ' × GName' if modes[s.at] != 'see' else 'Unit {0}' for s in S]) if K < 2 else times(['(ℕ × GName)' if modes[s.at] != 'see' else 'Unit {0}' for s in S])})" if S else ""
     gv = " g" if S else ""
     gives = f"Gives 𝓤 H A W (Loan-{name}{lnames}) {v.row} (λ x r. {phi}) g w" if S else f"After-{name} w"
@@ -183,14 +190,14 @@ def call(fn, modes):
     leaves-{name} :{lengths and lengths + ' →'}{' ' + gb.strip() + ' →' if gb else ''} (w : Val) → ent 𝓤 ({con} .post ({at}) w) (mean 𝓤 H A ({gives}))
     leaves-{name}{lnames}{gv} w =
         qed W (later (some (λ (r : {v.denot}). (({tokens}) ⊛ ‵ ({v.row} .own r (w ∷ [])))
-        ⊛ some (λ (ws : Lasts {nm}.ended {lfts} ({at} .0 .3)). ‵ (lasts {nm}.ended {lfts} ({at} .0 .3) ws) ⊛ raw (fact 𝓤 ({phi_ws}))))) ∷ []) ∵
+        ⊛ some (λ (ws : Lasts {nm}.ended {lfts} ({at} .0 .3)). ‵ (lasts {nm}.ended {lfts} ({at} .0 .3) ws) ⊛ {' ⊛ '.join(f'raw (fact 𝓤 ({t}))' for t in told)}))) ∷ []) ∵
         updating ! $ await ! tt $ pick ! (λ r. split ! $ move ! (1 ∷ []) $ pick ! (λ ws. split ! $
         {c.text(8)}
 
-    pub {name} :{lengths and lengths + ' →'} {hyps}{fn.req() + ' → ' if fn.requires else ''}ent 𝓤 ({'mean 𝓤 H A (Loan-' + name + lnames + ' .held)' if S else 'emp 𝓤'}) ({'H .⇛ (' if S else ''}C {k} ({vs}) (λ w. mean 𝓤 H A (After-{name} w)){')' if S else ''})
+    pub {name} :{lengths and lengths + ' →'} {hyps}{'(' + fn.req() + ') → ' if fn.requires else ''}ent 𝓤 ({'mean 𝓤 H A (Loan-' + name + lnames + ' .held)' if S else 'emp 𝓤'}) ({'H .⇛ (' if S else ''}C {k} ({vs}) (λ w. mean 𝓤 H A (After-{name} w)){')' if S else ''})
     {name}{lnames}{gs}{' l' if fn.requires else ''} = """
     inner = f"""qed W ({f'Loan-{name}{lnames} .goes g ∷ []' if S else '[]'}) ∵
         suffices ! (C {k} ({vs}) ({con} .post ({at}))) (fm→monoC 𝓤 H (W .laws) C fm {k} ({vs}) ({con} .post ({at})) _ (leaves-{name}{lnames}{gv})) $
-        suffices ! ({con} .pre ({at})) (known ({at})) $ {'says ! l $ ' if fn.requires else ''}{e.text(8)}"""
+        suffices ! ({con} .pre ({at})) (known ({at})) $ {n.text(8)}"""
     lemma += (f"loan-call 𝓤 H A W (Loan-{name}{lnames}) {v.row} (λ x r. {phi}) C fm {k} ({vs}) (λ g.\n        {inner})\n" if S else f"\n        {inner}\n")
     return lemma

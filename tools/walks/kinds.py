@@ -85,11 +85,14 @@ class Record(Kind):
     """A struct by value. `a` is what its modules are called in a walk: a.the-row, a′.the-laws; m the name of its machine value."""
     known = {}
 
+    laws_of, few = "LL", ""
+
     def __init__(s, crate, path, fields, a, m):
-        s.crate, s.path, s.fields, s.a, s.mach = crate, path, fields, a, m
+        s.crate, s.path, s.fields, s.a = crate, path, fields, a
         s.denot = path.split(".")[-1]
         s.row, s.ty, s.of = f"{a}.the-row", f"{a}′.mir", f"{a}.the-type {a}′.the-laws"
-        s.laws, s.vals, s.tells = f"LL.lawful {s.of} 𝓤 H A W", f"LL.vals {s.of}", f"LL.tells {s.of}"
+        s.mach = m or f"EL.val {s.of}"
+        s.laws, s.vals, s.tells = f"{s.laws_of}.lawful {s.of} 𝓤 H A W{s.few}", f"{s.laws_of}.vals {s.of}", f"{s.laws_of}.tells {s.of}"
         Record.known[f"{crate}::{path.replace('.', '::')}"] = s
 
     def val(s, x):
@@ -105,7 +108,7 @@ class Record(Kind):
         return f"({s.laws} .typed {atom(x)} _ {g} .0)"
 
     def made(s, x, g):
-        return f"owned ! {s.row} (Is {s.row}) (LL.makes {s.a}.the-type {s.a}′.the-plain 𝓤 H A) {atom(x)} _ {g}"
+        return f"owned ! {s.row} (Is {s.row}) ({s.laws_of}.makes {s.a}.the-type {s.a}′.the-plain 𝓤 H A) {atom(x)} _ {g}"
 
     def spelt(s, v):
         return f"(spelt-{s.a} {v} r-{v} g-{v})"
@@ -143,6 +146,19 @@ spelt-{s.a} x r g = ap only ({s.tells} x (r ∷ []) g)
 at-{s.a} : (x : {s.denot}) (r : Val) → Is {s.row} x (r ∷ []) → Is {s.row} x ({s.mach} x ∷ [])
 at-{s.a} x r g = subst (λ (u : Val). Is {s.row} x (u ∷ [])) (spelt-{s.a} x r g) g
 """
+
+
+class Enum(Record):
+    """An enum by value, which a walked function makes, hands on or returns; a `match` on it is for a covered function. Variants: (name, kinds)."""
+    laws_of, few = "EL", " tt"
+
+    def __init__(s, crate, path, variants, a):
+        super().__init__(crate, path, variants, a, None)
+
+    def build(s, vs):
+        name, kinds = s.fields[int(vs[0][0])]
+        x = " ".join([name] + [atom(v[0]) for v in vs[1:]])
+        return (x, f"(EL.owes {s.of} {atom(x)} {nest([k.owes(v[1]) for k, v in zip(kinds, vs[1:])])})")
 
 
 class Bool(Kind):
@@ -201,8 +217,12 @@ class Slice:
 
 
 class Fn:
-    def __init__(s, name, params, result, ensures, requires=(), crate=None, contract=None, **walk):
-        s.name, s.crate, s.ensures, s.result, s.walk = name, crate, ensures, result, walk
+    """requires: (name, clause), each a part of one clause, or each a clause where `apart`. ensures: a clause, or a list of clauses."""
+
+    def __init__(s, name, params, result, ensures, requires=(), crate=None, contract=None, apart=False, **walk):
+        s.name, s.crate, s.result, s.apart, s.walk = name, crate, result, apart, walk
+        s.clauses = [ensures] if isinstance(ensures, str) else ensures
+        s.ensures = " × ".join(f"({c})" for c in s.clauses) if len(s.clauses) > 1 else s.clauses[0]
         s.d = dash(name)
         s.contract = contract or "".join(w.capitalize() for w in name.split("_")) + "-of"
         s.slices, s.params = [], []  # a parameter: (name, Kind) or a Slice
@@ -218,6 +238,9 @@ class Fn:
 
     def key(s):
         return f"#{s.crate}·{s.d}"
+
+    def asks(s):  # the clauses `requires`
+        return [t for _, t in s.requires] if s.apart else [s.req()] if s.requires else []
 
     def req(s):
         return " × ".join(f"({t})" if len(s.requires) > 1 else t for _, t in s.requires)

@@ -23,7 +23,7 @@ def local_ty(t):
 
 
 OPS = {"add": "+", "sub": "-", "mul": "*", "div": "/"}
-TESTS = {"lt": "ltb", "eq": "eqb"}
+TESTS = {"lt": "ltb {} {}", "eq": "eqb {} {}", "ne": "not (eqb {} {})"}
 
 
 class Walk(Context):
@@ -72,9 +72,11 @@ class Walk(Context):
         if x[0] == "int":
             return (x[2], "(lit< tt)")
         i, steps = s.local(x)
-        if steps and not isinstance(s.val[i][0], Slice):
-            return kind_of(s.types[i]).field(int(steps[0][1]), s.val[i])
-        return s.val[i]
+        if not steps:
+            return s.val[i]
+        if isinstance(s.val[i][0], Slice):  # its pointer, or its count
+            return s.val[i] if steps[0][1] == "0" else (s.val[i][0].n, f"({s.val[i][0].room} .0)")
+        return kind_of(s.types[i]).field(int(steps[0][1]), s.val[i])
 
     def write(s, i, typed):
         step = "store" if i in s.val else "init"
@@ -109,7 +111,7 @@ class Walk(Context):
             op = rv[1][0] if isinstance(rv[1], list) else rv[1]
             a, b = s.value(rv[2])[0], s.value(rv[3])[0]
             if op in TESTS:
-                v, side = (f"{TESTS[op]} {atom(a)} {atom(b)}", None), "tt"
+                v, side = (TESTS[op].format(atom(a), atom(b)), None), "tt"
             else:
                 e = f"{atom(a) if OPS[op] != '+' else a} {OPS[op]} {atom(b)}"
                 g = say.get("fits", s.fn.walk.get("fits", "(small {} (omega arith))")).format(atom(e))

@@ -7,4 +7,5 @@ pub mod Content
 pub mod Again
 pub mod Loan
 pub mod Slices
+pub mod Clauses
 pub mod Calls
