@@ -1,5 +1,5 @@
 """The texts around a walk: imports, the opening with what is had and what is owed, and the theorem at the end."""
-import re
+import os, re
 from walk import *
 
 IMPORTS = """mathlib.Core.Path: _≡_ refl sym _∙_ ap subst
@@ -84,7 +84,7 @@ class Crate:
         s.lines += [f"{here('pairs', 'proofs')}.Loan: Loan both Gives gives loan-call", f"{here('pairs', 'proofs')}.Slices: ref Has Sees lent-mut lent-shr lent-see", f"{here('pairs', 'proofs')}.Clauses: needs-more needs-none"]
         for f in fns:
             f.crate = f.crate or name
-            s.fns[f"{f.crate}::{f.name}"] = f
+            s.fns[f.mir()] = f
 
     def calls(s):
         todo = []
@@ -100,11 +100,11 @@ class Crate:
         body = "".join("\n" + k.machine() for k in Record.known.values() if not isinstance(k, Enum)) + f"""
 module _ {ALL} (mem : Memory → SProp 𝓤) (run : Routine → Fun 𝓤) where
 """ + "\n".join(f"  abbrev pub {f.contract} : Contract 𝓤\n  {f.contract} = tripleOf 𝓤 H A {f.d}.signature ({f.d}.spec 𝓤 H A mem run)\n" for f in callees) + f"\nmodule _ {GIVEN} where" + "".join(call(f, m) for f, m in todo)
-        lines = s.lines + [f"{s.proofs(f.crate)}.{f.name} as {f.d}" for f in callees] + [f"{s.proofs(f.crate)}.{f.name}.Symbol: name|{f.key()}" for f in callees]
+        lines = s.lines + [f"{s.proofs(f.crate)}.{f.path} as {f.d}" for f in callees] + [f"{s.proofs(f.crate)}.{f.path}.Symbol: name|{f.key()}" for f in callees]
         return "-- What a walk cites of each function: its call, as one entailment (`Loan.antt`). Written by tools/walks. Assumes `Given`, and each function's theorem.\n" + uses(body, lines) + body
 
     def walk(s, f, mir):
-        types, stmts = mir[f"{f.crate}::{f.name}"]
+        types, stmts = mir[f.mir()]
         d, S, K, N = f.d, f.slices, len(f.slices), len(types)
         used = []
         w = Walk(f, s.fns, types, used)
@@ -299,22 +299,22 @@ unfolding code.routine tablesOf
     entered 𝓤 H (tripleOf 𝓤 H (𝓖 .A) {d}.signature ({d}.spec 𝓤 H (𝓖 .A) (𝓜 .mem) (𝓡 .run)))
     (tables 𝓤 H 𝓜 𝓡 code.env .C) (tables 𝓤 H 𝓜 𝓡 code.env .Λ) {f.key()} code.function (code.unfolded 𝓤 H 𝓜 𝓡)
     ({d}-meets 𝓤 H (𝓖 .A) (givenOf 𝓤 H 𝓜 𝓖) (𝓜 .mem) (𝓡 .run) (tablesOf 𝓤 H 𝓜 (tables 𝓤 H 𝓜 𝓡 code.env))
-""" + "\n".join(f"    (cited 𝓤 H ({g.contract} 𝓤 H (𝓖 .A) (𝓜 .mem) (𝓡 .run)) 𝓜 𝓡 code.env {g.key()} {g.d}-def.routine code.calls-{g.crate}·{g.d} ({g.d}-thm.met 𝓤 H 𝓜 𝓖 𝓡))" for g in callees) + ")\n"
+""" + "\n".join(f"    (cited 𝓤 H ({g.contract} 𝓤 H (𝓖 .A) (𝓜 .mem) (𝓡 .run)) 𝓜 𝓡 code.env {g.key()} {g.d}-def.routine code.calls-{g.crate}·{dash(g.path).replace(chr(46), chr(183))} ({g.d}-thm.met 𝓤 H 𝓜 𝓖 𝓡))" for g in callees) + ")\n"
         P = s.proofs
         lines = s.lines + [f"{P(s.name)}.Calls: " + " ".join([k.mach for k in Record.known.values() if not isinstance(k, Enum)] + [g.contract for g in callees] + names + ["After-" + n for n in names])]
         for g in callees:
-            lines += [f"{P(g.crate)}.{g.name}.Symbol as {g.d}-def", f"{P(g.crate)}.{g.name}.Symbol: name|{g.key()}", f"{P(g.crate)}.{g.name}.Met as {g.d}-thm"]
-        lines += [f"{P(f.crate)}.{f.name}.Key: name|{f.key()}", f"{P(f.crate)}.{f.name} as {d}", f"{P(f.crate)}.{f.name}.Statement as stated", f"{P(f.crate)}.{f.name}.Code as code", f"{P(f.crate)}.{f.name}.Code.Mir as code-mir"]
-        return f"-- `{f.crate}::{f.name}` meets its contract: a walk of its MIR, written by tools/walks/{s.name}. Assumes nothing.\n" + uses(body, lines) + body
+            lines += [f"{P(g.crate)}.{g.path}.Symbol as {g.d}-def", f"{P(g.crate)}.{g.path}.Symbol: name|{g.key()}", f"{P(g.crate)}.{g.path}.Met as {g.d}-thm"]
+        lines += [f"{P(f.crate)}.{f.path}.Key: name|{f.key()}", f"{P(f.crate)}.{f.path} as {d}", f"{P(f.crate)}.{f.path}.Statement as stated", f"{P(f.crate)}.{f.path}.Code as code", f"{P(f.crate)}.{f.path}.Code.Mir as code-mir"]
+        return f"-- `{f.mir()}` meets its contract: a walk of its MIR, written by tools/walks/{s.name}. Assumes nothing.\n" + uses(body, lines) + body
 
     def write(s, mir):
         """Each walk, and then the calls that they cite."""
-        import os
         home = f"crates/{s.name}/proofs"
         for f in s.fns.values():
             if f.walk:
-                os.makedirs(f"{home}/{f.name}", exist_ok=True)
-                with open(f"{home}/{f.name}/Proof.antt", "w") as out:
+                at = f"{home}/{f.path.replace('.', '/')}"
+                os.makedirs(at, exist_ok=True)
+                with open(f"{at}/Proof.antt", "w") as out:
                     out.write(s.walk(f, mir))
         with open(f"{home}/Calls.antt", "w") as out:
             out.write(s.calls())

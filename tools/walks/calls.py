@@ -157,16 +157,18 @@ def call(fn, modes):
     # how its pre is put together
     n = Context(["goes"] if S else [])
     for i, s in enumerate(S):
-        more = f"more{i}" if i < K - 1 else None
-        n.split("goes", "this", "goes") if more else n.ctx.__setitem__(n.at("goes"), "this")
-        n.split("this", "tok-" + s.name, "own-" + s.name)
+        if i < K - 1:
+            n.split("goes", "this", "goes")
+        n.split("this" if i < K - 1 else "goes", "tok-" + s.name, "own-" + s.name)
     n.new("toks", "nothing !")
     n.chain(["tok-" + s.name for s in S], "toks", "toks")
     owns(n, fn)
     n.join("toks", "own", "all")
     n.gone("all", "frame !")
     n.p(said(fn.asks(), "l"))
-    gb = f" (g : {times([chr(8469) + ' × GName' if modes[s.at] != 'see' else 'Unit {0}' for s in S]) if K < 2 else times(['(ℕ × GName)' if modes[s.at] != 'see' else 'Unit {0}' for s in S])})" if S else ""
+    names = times(["(ℕ × GName)" if modes[s.at] != "see" else "Unit {0}" for s in S]) if S else ""
+    gb = f" (g : {names}) →" if S else ""
+    known = times([f"(length ({x(s)}) ≡ {s.n})" if modes[s.at] == "mut" else "Unit {0}" for s in S]) if S else ""
     gv = " g" if S else ""
     gives = f"Gives 𝓤 H A W (Loan-{name}{lnames}) {v.row} (λ x r. {phi}) g w" if S else f"After-{name} w"
     lemma = f"""
@@ -177,17 +179,17 @@ def call(fn, modes):
     Loan-{name}{lnames} = {loans(S)}
 
     abbrev pub After-{name} : Val → Item 𝓤
-    After-{name} w = later (some (λ (r : {v.denot}). some (λ (x : {left}). given (({times([f'length ({x(s)}) ≡ {s.n}' if modes[s.at] == 'mut' else 'Unit {0}' for s in S]) if K == 1 else times([f'(length ({x(s)}) ≡ {s.n})' if modes[s.at] == 'mut' else 'Unit {0}' for s in S])}) × ({phi})) ({backs(S)} ⊛ ‵ ({v.row} .own r (w ∷ []))))))
+    After-{name} w = later (some (λ (r : {v.denot}). some (λ (x : {left}). given (({known}) × ({phi})) ({backs(S)} ⊛ ‵ ({v.row} .own r (w ∷ []))))))
 """
     else:
         lemma += f"""    abbrev pub After-{name} : Val → Item 𝓤
     After-{name} w = later (some (λ (r : {v.denot}). given ({phi}) (‵ ({v.row} .own r (w ∷ [])))))
 """
     lemma += f"""
-    abbrev at-{name} :{' ' + gb.strip() + ' →' if gb else ''} {con} .Ghost
+    abbrev at-{name} :{gb} {con} .Ghost
     at-{name}{gv} = (({ghost}, {refs}, {vals}), tt)
 
-    leaves-{name} :{lengths and lengths + ' →'}{' ' + gb.strip() + ' →' if gb else ''} (w : Val) → ent 𝓤 ({con} .post ({at}) w) (mean 𝓤 H A ({gives}))
+    leaves-{name} :{lengths and lengths + ' →'}{gb} (w : Val) → ent 𝓤 ({con} .post ({at}) w) (mean 𝓤 H A ({gives}))
     leaves-{name}{lnames}{gv} w =
         qed W (later (some (λ (r : {v.denot}). (({tokens}) ⊛ ‵ ({v.row} .own r (w ∷ [])))
         ⊛ some (λ (ws : Lasts {nm}.ended {lfts} ({at} .0 .3)). ‵ (lasts {nm}.ended {lfts} ({at} .0 .3) ws) ⊛ {' ⊛ '.join(f'raw (fact 𝓤 ({t}))' for t in told)}))) ∷ []) ∵

@@ -220,11 +220,12 @@ class Fn:
     """requires: (name, clause), each a part of one clause, or each a clause where `apart`. ensures: a clause, or a list of clauses."""
 
     def __init__(s, name, params, result, ensures, requires=(), crate=None, contract=None, apart=False, **walk):
-        s.name, s.crate, s.result, s.apart, s.walk = name, crate, result, apart, walk
+        s.path, s.crate, s.result, s.apart, s.walk = name, crate, result, apart, walk  # the path: `waits.offer` of a module
+        s.name = name.split(".")[-1]
         s.clauses = [ensures] if isinstance(ensures, str) else ensures
         s.ensures = " × ".join(f"({c})" for c in s.clauses) if len(s.clauses) > 1 else s.clauses[0]
-        s.d = dash(name)
-        s.contract = contract or "".join(w.capitalize() for w in name.split("_")) + "-of"
+        s.d = dash(s.name)
+        s.contract = contract or "".join(w.capitalize() for w in s.name.split("_")) + "-of"
         s.slices, s.params = [], []  # a parameter: (name, Kind) or a Slice
         for n, t in params:
             m = re.fullmatch(r"(&mut|&) (\w+)", t) if isinstance(t, str) else None
@@ -238,6 +239,9 @@ class Fn:
 
     def key(s):
         return f"#{s.crate}·{s.d}"
+
+    def mir(s):
+        return f"{s.crate}::{s.path.replace('.', '::')}"
 
     def asks(s):  # the clauses `requires`
         return [t for _, t in s.requires] if s.apart else [s.req()] if s.requires else []
