@@ -65,12 +65,8 @@ def call_name(fn, modes):
     return fn.d + ("-call" if "see" not in modes else "-seen" if len(modes) == 1 else "-" + "-".join(modes))
 
 
-def slice_val(s, n=None):
-    return f"sliceVal {s.ptr} {n or s.n}"
-
-
 def values(fn):
-    return "".join((slice_val(p) if isinstance(p, Slice) else p[1].val(p[0])) + " ∷ " for p in fn.params) + "[]"
+    return "".join((p.value if isinstance(p, Slice) else p[1].val(p[0])) + " ∷ " for p in fn.params) + "[]"
 
 
 def prime(fn, text, to):  # the exit's lists by other names
@@ -93,25 +89,26 @@ def call(fn, modes):
     share = lambda s: "fullShare" if modes[s.at] != "see" else s.share
     gname = lambda s: f"({gpath(s.at)} .1)" if modes[s.at] != "see" else s.gamma
     left = times([f"List {s.denot}" if modes[s.at] == "mut" else "Unit {0}" for s in S]) if S else ""
-    back = lambda s: {"mut": f"Has {s.of} 𝓤 {s.n} ({x(s)})", "shr": f"Has {s.of} 𝓤 {s.n} {s.name}", "see": f"Sees {s.of} 𝓤 {s.n} {s.name}"}[modes[s.at]]
-    loan = lambda s: {"mut": f"lent-mut {s.of} 𝓤 H A W {s.name} {s.n} {s.long} {s.room}", "shr": f"lent-shr {s.of} 𝓤 H A W {s.name} {s.n} {s.long}",
+    sized = [s for s in S if not s.array]
+    back = lambda s: {"mut": s.has(f"({x(s)})"), "shr": f"Has {s.of} 𝓤 {s.n} {s.name}", "see": f"Sees {s.of} 𝓤 {s.n} {s.name}"}[modes[s.at]]
+    loan = lambda s: f"lent-ref {s.of} 𝓤 H A W {s.name}" if s.array else {"mut": f"lent-mut {s.of} 𝓤 H A W {s.name} {s.n} {s.long} {s.room}", "shr": f"lent-shr {s.of} 𝓤 H A W {s.name} {s.n} {s.long}",
                       "see": f"lent-see {s.of} 𝓤 H A W {s.name} {s.n}"}[modes[s.at]]
     def loans(ss):
         return loan(ss[0]) if len(ss) == 1 else f"both 𝓤 H A W ({loan(ss[0])}) ({loans(ss[1:])})"
     def backs(ss):
         return back(ss[0]) if len(ss) == 1 else f"({back(ss[0])} ⊛ {backs(ss[1:])})"
     phi = prime(fn, fn.ensures, lambda s: f"({x(s)})" if K > 1 else "x")
-    lengths = "".join(f" ({s.long} : length {s.name} ≡ {s.n})" for s in S if modes[s.at] != "see") + "".join(f" ({s.room} : Room {s.row} {s.n})" for s in S if modes[s.at] == "mut")
-    lnames = "".join(f" {s.long}" for s in S if modes[s.at] != "see") + "".join(f" {s.room}" for s in S if modes[s.at] == "mut")
+    lengths = "".join(f" ({s.long} : length {s.name} ≡ {s.n})" for s in sized if modes[s.at] != "see") + "".join(f" ({s.room} : Room {s.row} {s.n})" for s in sized if modes[s.at] == "mut")
+    lnames = "".join(f" {s.long}" for s in sized if modes[s.at] != "see") + "".join(f" {s.room}" for s in sized if modes[s.at] == "mut")
     slices = "".join(f" {s.names} ({s.n} : ℕ) ({s.name} : List {s.denot})" for s in S)
     ghost = f"{nest([lft(s) for s in S])}, {nest([share(s) for s in S])}, tt"
-    refs = nest([f"ref {p.of} {gname(p)} {p.name}" if isinstance(p, Slice) else p[0] for p in fn.params])
-    vals = nest([(slice_val(p) if isinstance(p, Slice) else p[1].val(p[0])) + " ∷ []" for p in fn.params])
+    refs = nest([p.ref(gname(p)) if isinstance(p, Slice) else p[0] for p in fn.params])
+    vals = nest([(p.value if isinstance(p, Slice) else p[1].val(p[0])) + " ∷ []" for p in fn.params])
     vs = values(fn)
     con = f"{C} 𝓤 H A mem run"
     lfts = nest([lft(s) for s in S])
     tokens = "".join(f"‵ (flft ({lft(s)}) {share(s)}) ⊛ " for s in S) + "‵ ftrue"
-    fits = pairs_of([f"l{sub(s.at)} ∙ {s.long}" if modes[s.at] == "mut" else "tt" for s in S]) if S else ""
+    fits = pairs_of([f"l{sub(s.at)} ∙ {s.long}" if modes[s.at] == "mut" and s in sized else "tt" for s in S]) if S else ""
     wsx = pairs_of(["ws" + path(fn.params.index(s)) if modes[s.at] == "mut" else "tt" for s in S]) if S else ""
     at = f"at-{name}" + (" g" if S else "")
     # how the callee's post is taken apart
@@ -134,6 +131,9 @@ def call(fn, modes):
         c.split(rest, f"left{i}", "lasts", "fsplit")
         if p in todo:
             todo.remove(p)
+            if p.array:
+                c.ctx[c.at(f"left{i}")] = "fin-" + p.name
+                continue
             c.split(f"left{i}", "fin-" + p.name, "len", "fsplit")
             c.move("len")
             c.ctx.remove("len")
@@ -168,7 +168,7 @@ def call(fn, modes):
     n.p(said(fn.asks(), "l"))
     names = times(["(ℕ × GName)" if modes[s.at] != "see" else "Unit {0}" for s in S]) if S else ""
     gb = f" (g : {names}) →" if S else ""
-    known = times([f"(length ({x(s)}) ≡ {s.n})" if modes[s.at] == "mut" else "Unit {0}" for s in S]) if S else ""
+    known = times([f"(length ({x(s)}) ≡ {s.n})" if modes[s.at] == "mut" and s in sized else "Unit {0}" for s in S]) if S else ""
     gv = " g" if S else ""
     gives = f"Gives 𝓤 H A W (Loan-{name}{lnames}) {v.row} (λ x r. {phi}) g w" if S else f"After-{name} w"
     lemma = f"""

@@ -199,13 +199,14 @@ class Unit(Kind):
 WORD, U64, U32, U8 = Uint("usize", 64), Uint("u64", 64), Uint("u32", 32), Uint("u8", 8)
 BOOL, UNIT = Bool(), Unit()
 PAIR = Record("pairs", "Pair", [("gain", U32), ("first", U32), ("second", U32)], "T", "mach")
-ELEMS = {"Pair": ("Pair", "T.the-row", "pointee (T.the-row .written)"), "u32": ("ℕ", "u32", "tyInt w32"), "u8": ("ℕ", "u8", "tyInt w8")}
+ELEMS = {"Pair": ("Pair", "T.the-row"), "u32": ("ℕ", "u32"), "u8": ("ℕ", "u8")}
 
 
 class Slice:
     def __init__(s, name, mut, elem, at):
         s.name, s.mut, s.at = name, mut, at  # `at`: which of the slices
-        s.denot, s.row, s.ty = ELEMS[elem]
+        s.array = elem.startswith("[")  # `&mut [u64; 16]`, a reference: it has no count, and its length is not said
+        s.denot, s.row = ("ℕ", "(Array {} tt {})".format(*elem[1:-1].split("; "))) if s.array else ELEMS[elem]
         n = "" if at == 0 else sub(at + 1)
         s.n, s.machine, s.held = f"ν{n}", f"σ{n}", f"Slice{n}"  # its count, its machine value, and what is had of it
         s.vars = f"κ{n} θ{n} γ{n} β{n} ι{n}"  # its lifetime, share, name, block and offset
@@ -214,6 +215,13 @@ class Slice:
         s.room, s.long = f"room{n}", f"long{n}"
         s.names = f"(κ{n} : Lft) (θ{n} : Share) (γ{n} : GName) (β{n} ι{n} : ℕ)"
         s.of = f"{s.row} {s.vars}"
+        s.value = f"vptr β{n} ι{n}" if s.array else f"sliceVal {s.ptr} {s.n}"
+
+    def has(s, x):
+        return f"HasRef {s.of} 𝓤 {x}" if s.array else f"{'Has' if s.mut else 'Sees'} {s.of} 𝓤 {s.n} {x}"
+
+    def ref(s, gamma):
+        return f"{'at-ref' if s.array else 'ref'} {s.of} {gamma} {s.name}"
 
 
 class Fn:
@@ -228,7 +236,7 @@ class Fn:
         s.contract = contract or "".join(w.capitalize() for w in s.name.split("_")) + "-of"
         s.slices, s.params = [], []  # a parameter: (name, Kind) or a Slice
         for n, t in params:
-            m = re.fullmatch(r"(&mut|&) (\w+)", t) if isinstance(t, str) else None
+            m = re.fullmatch(r"(&mut|&) (\w+|\[.*\])", t) if isinstance(t, str) else None
             if m:
                 s.slices.append(Slice(n, m[1] == "&mut", m[2], len(s.slices)))
                 s.params.append(s.slices[-1])

@@ -17,7 +17,7 @@ def local_ty(t):
         return kind_of(t).ty
     if t[0] == "tyRef":
         life = "erased" if t[1] == "erased" else f"(named {t[1][1]})"
-        elem = f"(pointee ({kind_of(t[3]).row} .written))" if t[3][0] == "tyNamed" else f"({kind_of(t[3]).ty})"
+        elem = f"(pointee (Array {'u' + t[3][1][1]} tt {t[3][2][1]} .written))" if t[3][0] == "tyArray" else f"(pointee ({kind_of(t[3]).row} .written))" if t[3][0] == "tyNamed" else f"({kind_of(t[3]).ty})"
         return f"tyRef {life} {t[2]} {elem}"
     return f"sliceTy ({local_ty(t[2][1])})"  # tyStruct "&[]"
 
@@ -102,6 +102,8 @@ class Walk(Context):
             j = int(rv[1][1])
             v = (s.val[j][0], None)
             text = f"(addr ! (from ! (fld ! refl (hop ! (look-in ! {s.at(f'l{j}')} (sub ! 0 refl (whole !))) (stop !)))))"
+            if v[0].array:
+                text = f"(addr ! (from ! (hop ! (look ! {s.at(f'l{j}')} refl) (stop !))))"
         elif rv[0] == "aggregate":
             xs = listed(rv[1])
             k = kind_of(s.types[i])
@@ -139,7 +141,7 @@ class Walk(Context):
         args = [s.value(y) for p, y in zip(callee.params, xs) if not isinstance(p, Slice)]
         slices = "".join(f" {m.vars} {m.n} {atom(s.cur[m.name][0])}" for m in own)
         at = f"𝓤 H A W mem run C fm known-{callee.d}{slices}" + "".join(" " + atom(a[0]) for a in args)
-        lens = "".join(" " + s.cur[m.name][1] for m, o in zip(own, modes) if o != "see") + "".join(" " + m.room for m, o in zip(own, modes) if o == "mut")
+        lens = "".join(" " + s.cur[m.name][1] for m, o in zip(own, modes) if o != "see" and not m.array) + "".join(" " + m.room for m, o in zip(own, modes) if o == "mut" and not m.array)
         vals = iter(args)
         machine = "".join((m.machine if isinstance(p, Slice) else p[1].val(next(vals)[0])) + " ∷ " for p, m in zip(callee.params, mine)) + "[]"
         proof = f"({cname} {at}{lens}{''.join(' ' + a[1] for a in args)}{' ' + atom(premise) if callee.requires else ''})"
@@ -181,7 +183,7 @@ class Walk(Context):
             s.ctx = [y for y in s.ctx if y not in (f"l{i}", f"d{i}")]
         s.p(" ".join(frees) + " free0 ! $")
         s.move(*["has-" + x.name for x in s.fn.slices])
-        lists = "".join(f" {atom(s.cur[x.name][0])} {s.cur[x.name][1]}" for x in s.fn.slices if x.mut)
+        lists = "".join(f" {atom(s.cur[x.name][0])} {'' if x.array else s.cur[x.name][1]}" for x in s.fn.slices if x.mut)
         s.p(f"by ! (exits{lists} {atom(s.val[0][0])} {s.val[0][1]} {atom(s.take('exits'))})" + ")" * s.par)
 
     # a list of statements; `then` is what stands behind them: None at the end of the body, else a function that goes on

@@ -7,5 +7,6 @@ pub mod Content
 pub mod Again
 pub mod Loan
 pub mod Slices
+pub mod Refs
 pub mod Clauses
 pub mod Calls
