@@ -1,0 +1,14 @@
+-- The queue: its order, its content, what a swap, a push and a take do; clearing.
+pub mod Order
+pub mod Bag
+pub mod Heap
+pub mod Sets
+pub mod Zeros
+pub mod Content
+-- For walks: what a call is lent, several clauses, and the calls.
+pub mod Again
+pub mod Loan
+pub mod Slices
+pub mod Refs
+pub mod Clauses
+pub mod Calls
