@@ -16,7 +16,8 @@ use Rattle.said.specs.Sets.{regionList, firstLike, has}
 use Rattle.said.specs.Job.{Said, State, inSets, Step, stop, on, unless, valueStep, afterValue, afterEnd, regionsOnly, Outcome, refused, fine, ended, endedSets, follow, walk}
 use Rattle.said.specs.Good.{Good}
 use Rattle.values.specs.Lent.{Holds, ValueFits, TookValue, EndedSet}
-use Rattle.walk.specs.Lent.{Room, EndFits, SetsHeld, SetsRead}
+use Rattle.walk.specs.declared.reading.SetsEnd.{SetsEnd}
+use Rattle.walk.specs.Lent.{Room, EndFits, SetsHeld, SetsRead, refusedEnd}
 use Rattle.walk.proofs.WalkLaws.{unless-stop, unless-on, left, after, at-end, value-turn, end-on, end-stop, other-stop}
 
 -- 0 for no region, else 1: what the code keeps of the regions that a set has named
@@ -184,3 +185,9 @@ tail-value {t} {s} {sets} {uses} {start} {count} {w} {w′} {nr} {uses′} {coun
 
 pub tail-end : (job : List ℕ) (a mode sets nr : ℕ) → nr ≡ endNo mode (take (length job - a) (drop a job)) sets → nr ≡ endNo mode (drop a job) sets
 tail-end job a mode sets nr e = e ∙ ap (λ (r : List ℕ). endNo mode r sets) (tail-is job a)
+
+-- by the answer that `refuse` gives
+pub refused-as : (axes mode : ℕ) (job : List ℕ) (records from : ℕ) (t : Tables) {old w : List ℕ} (r : SetsEnd) (n i : ℕ) → r ≡ refusedEnd n i
+    → SetsRead axes mode job records from t old w n i 0 0 0 → SetsRead axes mode job records from t old w (r .no) (r .at) (r .sets) (r .values) (r .uses)
+refused-as axes mode job records from t {old} {w} r n i e f =
+    subst (λ (x : SetsEnd). SetsRead axes mode job records from t old w (x .no) (x .at) (x .sets) (x .values) (x .uses)) (sym e) f

@@ -12,6 +12,7 @@ use Rattle.said.specs.Job.{Said, inSets, regionsOnly, refused, fine, walk}
 use Rattle.values.specs.declared.tables.Tables.{Tables}
 use Rattle.said.specs.Sets.{Region, coordinates, regionList, firstLike}
 use Rattle.values.specs.Lent.{Holds}
+use Rattle.walk.specs.declared.reading.SetsEnd.{SetsEnd}
 
 -- a region as a set: its coordinates by their numbers, from k on
 unfoldable pub asSet : ℕ → Region → Set
@@ -64,6 +65,10 @@ pub record SetsRead (axes mode : ℕ) (job : List ℕ) (records from : ℕ) (t :
   pub bad : (no ≡ 0 → ⊥) → walk axes mode job (drop (recordBytes * from) job) (records - from) from (inSets (regionsOnly (regionList axes (from / axes) job))) ≡ refused no at
   pub good : no ≡ 0 → SetsHeld axes mode job records from t new sets values uses
   pub only : Only ((0, t .first) ∷ []) old new
+
+-- a refusal has no counts
+abbrev pub refusedEnd : ℕ → ℕ → SetsEnd
+refusedEnd n i = record { no = n; at = i; sets = 0; values = 0; uses = 0 }
 
 -- what the end of a set asks of the tables
 pub record EndFits (w : List ℕ) (t : Tables) (sets start count : ℕ) : Type 0 where

@@ -9,7 +9,7 @@ ghost use lib.ListN.{length};
 ghost use Rattle.said.specs.Sets.{regionList};
 ghost use Rattle.said.specs.Job.{Said, regionsOnly};
 ghost use Rattle.values.specs.Lent.{Holds, EndedSet};
-ghost use Rattle.walk.specs.Lent.{Room, EndFits, SetsRead};
+ghost use Rattle.walk.specs.Lent.{Room, EndFits, SetsRead, refusedEnd};
 
 // A refusal number with its place, or 0 and the counts.
 pub struct SetsEnd {
@@ -18,6 +18,19 @@ pub struct SetsEnd {
     pub sets: usize,
     pub values: usize,
     pub uses: usize,
+}
+
+// A refusal: it has no counts.
+fn refuse(no: usize, at: usize) -> SetsEnd
+    ensures { λ r. ⌜ r ≡ refusedEnd no at ⌝ }
+{
+    SetsEnd {
+        no,
+        at,
+        sets: 0,
+        values: 0,
+        uses: 0,
+    }
 }
 
 // Writes the row of a set that has ended.
@@ -59,13 +72,7 @@ pub fn read_sets(
         if kind == 2 {
             let k = take_value(&job[at..], work, t, (sets + 1) as u32, uses, start, count);
             if k.no != 0 {
-                return SetsEnd {
-                    no: k.no,
-                    at: i,
-                    sets: 0,
-                    values: 0,
-                    uses: 0,
-                };
+                return refuse(k.no, i);
             }
             uses = k.uses;
             count = k.count;
@@ -75,13 +82,7 @@ pub fn read_sets(
         } else if kind == 3 {
             let no = end_no(&job[at..], mode, sets);
             if no != 0 {
-                return SetsEnd {
-                    no,
-                    at: i,
-                    sets: 0,
-                    values: 0,
-                    uses: 0,
-                };
+                return refuse(no, i);
             }
             end_set(work, t, sets, start, count);
             start = start + 2 * count;
@@ -90,23 +91,11 @@ pub fn read_sets(
             begun = 0;
             i += 1;
         } else {
-            return SetsEnd {
-                no: 5,
-                at: i,
-                sets: 0,
-                values: 0,
-                uses: 0,
-            };
+            return refuse(5, i);
         }
     }
     if begun != 0 {
-        return SetsEnd {
-            no: 8,
-            at: i,
-            sets: 0,
-            values: 0,
-            uses: 0,
-        };
+        return refuse(8, i);
     }
     SetsEnd {
         no: 0,

@@ -3,16 +3,17 @@ use mathlib.Core.List.{List, [], _∷_}
 use Prim.Native.Nat.{ℕ, _+_, _-_, _*_, _<_}
 use lib.ListN.{length, getD, length-take, length-drop}
 use Rattle.laws.proofs.RangeLaws.{only-refl}
-use Rattle.walk.proofs.ReadingLaws.{Stands, stands-start, value-fits, end-fits, value-stops, value-goes, end-stops, end-goes, other-stops, read-refused, read-open, read-fine, tail-value, tail-end}
-use borrow.Author.Needs.{needs}
+use Rattle.walk.proofs.ReadingLaws.{Stands, stands-start, value-fits, end-fits, value-stops, value-goes, end-stops, end-goes, other-stops, read-refused, read-open, read-fine, refused-as, tail-value, tail-end}
 use native.Mathlib.Omega.{arith}
+use borrow.Author.Needs.{needs}
 use Rattle.walk.proofs.reading.read_sets.Statement.{statement}
 use Rattle.walk.proofs.reading.read_sets.Tie as tie
 use Rattle.walk.proofs.reading.read_sets.Reads as reads
 use Rattle.walk.proofs.reading.read_sets.Lts as lts
-use Rattle.walk.proofs.reading.end_set.Reads as end-set-reads
 use Rattle.records.proofs.end_no.Reads as end-no-reads
 use Rattle.values.proofs.take_value.Reads as take-value-reads
+use Rattle.walk.proofs.reading.end_set.Reads as end-set-reads
+use Rattle.walk.proofs.reading.refuse.Reads as refuse-reads
 
 abbrev Inv-loop : tie.InvT-loop
 Inv-loop job axes records from mode work₀ t i₀ sets₀ values₀ uses₀ start₀ count₀ open₀ work i sets values uses start count shut = Stands axes mode job records from t work₀ work i sets values uses start count shut
@@ -52,20 +53,23 @@ take-value-requires c κs = let a = c .before .before .before .before .before .b
     let room = c .before .before .before .before .before .before .before .before .pre .1 .0 in
     (simp (length-take, length-drop) (omega (arith, c .before .before .before .before .before .before .before .before .pre .0)), value-fits (a .axes) (a .mode) (a .job .now) (a .records) (a .from) (a .t) (a .work .now) room n (omega arith))
 
+refuse-requires : tie.Need-refuse-requires Inv-loop μ-loop
+refuse-requires c κs = search needs
+
 same-length : tie.Need-same-length Inv-loop μ-loop
-same-length c = let a = c .before .before .before .before .before .before .before .before .before .before .before .before .before .args in
-    let l = c .before .before .before .before .before .before .before .before .before .before .loop in
+same-length c = let a = c .before .before .before .before .before .before .before .before .before .before .before .before .before .before .args in
+    let l = c .before .before .before .before .before .before .before .before .before .before .before .loop in
     let n = l .inv in
-    let room = c .before .before .before .before .before .before .before .before .before .before .before .before .before .pre .1 .0 in
-    (tail-value (a .job .now) (12 * l .i) (c .before .before .before .before .take-value .ensures (n .said) (l .sets) refl (n .held))) .only .long ∙ n .only .long
+    let room = c .before .before .before .before .before .before .before .before .before .before .before .before .before .before .pre .1 .0 in
+    (tail-value (a .job .now) (12 * l .i) (c .before .before .before .before .before .take-value .ensures (n .said) (l .sets) refl (n .held))) .only .long ∙ n .only .long
 
 returns : tie.Need-returns Inv-loop μ-loop
-returns c = let a = c .before .before .before .before .before .before .before .before .before .before .before .before .before .args in
-    let l = c .before .before .before .before .before .before .before .before .before .before .loop in
+returns c = let a = c .before .before .before .before .before .before .before .before .before .before .before .before .before .before .args in
+    let l = c .before .before .before .before .before .before .before .before .before .before .before .loop in
     let n = l .inv in
-    let room = c .before .before .before .before .before .before .before .before .before .before .before .before .before .pre .1 .0 in
-    let p = (tail-value (a .job .now) (12 * l .i) (c .before .before .before .before .take-value .ensures (n .said) (l .sets) refl (n .held))) in
-    read-refused (a .axes) (a .mode) (a .job .now) (a .records) (a .from) (a .t) (a .work .now) room n _ (c .before .before .before .before .take-value .result .no) (p .only) (c .if2 .taken) (value-stops (a .axes) (a .mode) (a .job .now) (a .records) (a .from) (a .t) (a .work .now) room n (omega arith) (c .before .before .before .before .before .before .before .if1 .taken) _ _ _ _ p (c .if2 .taken))
+    let room = c .before .before .before .before .before .before .before .before .before .before .before .before .before .before .pre .1 .0 in
+    let p = (tail-value (a .job .now) (12 * l .i) (c .before .before .before .before .before .take-value .ensures (n .said) (l .sets) refl (n .held))) in
+    refused-as (a .axes) (a .mode) (a .job .now) (a .records) (a .from) (a .t) _ _ _ (c .refuse .ensures) (read-refused (a .axes) (a .mode) (a .job .now) (a .records) (a .from) (a .t) (a .work .now) room n _ (c .before .before .before .before .before .take-value .result .no) (p .only) (c .before .if2 .taken) (value-stops (a .axes) (a .mode) (a .job .now) (a .records) (a .from) (a .t) (a .work .now) room n (omega arith) (c .before .before .before .before .before .before .before .before .if1 .taken) _ _ _ _ p (c .before .if2 .taken)))
 
 add-values : tie.Need-add-values Inv-loop μ-loop
 add-values c = omega (arith, c .before .before .before .before .before .before .before .before .before .before .before .before .before .pre .0, c .before .before .before .before .before .before .before .before .before .before .loop .inv .few, c .before .before .before .before .before .before .before .before .before .before .loop .inv .within, c .before .before .before .before .before .before .before .before .before .before .before .before .before .pre .1 .0 .few)
@@ -95,15 +99,18 @@ part-end-no-end c = omega (arith, c .before .before .before .before .before .bef
 end-no-requires : tie.Need-end-no-requires Inv-loop μ-loop
 end-no-requires c κs = simp (length-take, length-drop) (omega (arith, c .before .before .before .before .before .before .before .before .pre .0))
 
+refuse-requires-2 : tie.Need-refuse-requires-2 Inv-loop μ-loop
+refuse-requires-2 c κs = search needs
+
 same-length-2 : tie.Need-same-length-2 Inv-loop μ-loop
-same-length-2 c = c .before .before .before .before .before .before .before .loop .inv .only .long
+same-length-2 c = c .before .before .before .before .before .before .before .before .loop .inv .only .long
 
 returns-2 : tie.Need-returns-2 Inv-loop μ-loop
-returns-2 c = let a = c .before .before .before .before .before .before .before .before .before .before .args in
-    let l = c .before .before .before .before .before .before .before .loop in
+returns-2 c = let a = c .before .before .before .before .before .before .before .before .before .before .before .args in
+    let l = c .before .before .before .before .before .before .before .before .loop in
     let n = l .inv in
-    let room = c .before .before .before .before .before .before .before .before .before .before .pre .1 .0 in
-    read-refused (a .axes) (a .mode) (a .job .now) (a .records) (a .from) (a .t) (a .work .now) room n (l .work) (c .before .end-no .result) (only-refl ((0, a .t .first) ∷ []) (l .work)) (c .if4 .taken) (end-stops (a .axes) (a .mode) (a .job .now) (a .records) (a .from) (a .t) (a .work .now) room n (omega arith) (c .before .before .before .if3 .taken) (c .before .end-no .result) (tail-end (a .job .now) (12 * l .i) (a .mode) (l .sets) (c .before .end-no .result) (c .before .end-no .ensures)) (c .if4 .taken))
+    let room = c .before .before .before .before .before .before .before .before .before .before .before .pre .1 .0 in
+    refused-as (a .axes) (a .mode) (a .job .now) (a .records) (a .from) (a .t) _ _ _ (c .refuse2 .ensures) (read-refused (a .axes) (a .mode) (a .job .now) (a .records) (a .from) (a .t) (a .work .now) room n (l .work) (c .before .before .end-no .result) (only-refl ((0, a .t .first) ∷ []) (l .work)) (c .before .if4 .taken) (end-stops (a .axes) (a .mode) (a .job .now) (a .records) (a .from) (a .t) (a .work .now) room n (omega arith) (c .before .before .before .before .if3 .taken) (c .before .before .end-no .result) (tail-end (a .job .now) (12 * l .i) (a .mode) (l .sets) (c .before .before .end-no .result) (c .before .before .end-no .ensures)) (c .before .if4 .taken)))
 
 end-set-requires : tie.Need-end-set-requires Inv-loop μ-loop
 end-set-requires c κs = let a = c .before .before .before .before .before .before .before .before .before .before .before .args in
@@ -144,25 +151,31 @@ loop-again-2 c = let a = c .before .before .before .before .before .before .befo
     let room = c .before .before .before .before .before .before .before .before .before .before .before .before .before .before .pre .1 .0 in
     end-goes (a .axes) (a .mode) (a .job .now) (a .records) (a .from) (a .t) (a .work .now) room n (omega arith) (c .before .before .before .before .before .before .before .if3 .taken) (c .before .before .before .before .before .end-no .result) (tail-end (a .job .now) (12 * l .i) (a .mode) (l .sets) (c .before .before .before .before .before .end-no .result) (c .before .before .before .before .before .end-no .ensures)) _ (c .before .before .end-set .ensures (n .said) (l .uses) (omega (arith, n .uses-few, n .few, n .within, room .used-to)) (n .held)) (c .before .before .before .before .if4 .left)
 
+refuse-requires-3 : tie.Need-refuse-requires-3 Inv-loop μ-loop
+refuse-requires-3 c κs = search needs
+
 same-length-3 : tie.Need-same-length-3 Inv-loop μ-loop
-same-length-3 c = c .before .before .before .before .loop .inv .only .long
+same-length-3 c = c .before .before .before .before .before .loop .inv .only .long
 
 returns-3 : tie.Need-returns-3 Inv-loop μ-loop
-returns-3 c = let a = c .before .before .before .before .before .before .before .args in
-    let l = c .before .before .before .before .loop in
+returns-3 c = let a = c .before .before .before .before .before .before .before .before .args in
+    let l = c .before .before .before .before .before .loop in
     let n = l .inv in
-    let room = c .before .before .before .before .before .before .before .pre .1 .0 in
-    read-refused (a .axes) (a .mode) (a .job .now) (a .records) (a .from) (a .t) (a .work .now) room n (l .work) 5 (only-refl ((0, a .t .first) ∷ []) (l .work)) (λ e. omega arith) (other-stops (a .axes) (a .mode) (a .job .now) (a .records) (a .from) (a .t) (a .work .now) room n (omega arith) (c .before .if1 .left) (c .if3 .left))
+    let room = c .before .before .before .before .before .before .before .before .pre .1 .0 in
+    refused-as (a .axes) (a .mode) (a .job .now) (a .records) (a .from) (a .t) _ _ _ (c .refuse3 .ensures) (read-refused (a .axes) (a .mode) (a .job .now) (a .records) (a .from) (a .t) (a .work .now) room n (l .work) 5 (only-refl ((0, a .t .first) ∷ []) (l .work)) (λ e. omega arith) (other-stops (a .axes) (a .mode) (a .job .now) (a .records) (a .from) (a .t) (a .work .now) room n (omega arith) (c .before .before .if1 .left) (c .before .if3 .left)))
+
+refuse-requires-4 : tie.Need-refuse-requires-4 Inv-loop μ-loop
+refuse-requires-4 c κs = search needs
 
 same-length-4 : tie.Need-same-length-4 Inv-loop μ-loop
-same-length-4 c = c .before .before .loop .inv .only .long
+same-length-4 c = c .before .before .before .loop .inv .only .long
 
 returns-4 : tie.Need-returns-4 Inv-loop μ-loop
-returns-4 c = let a = c .before .before .before .before .before .args in
-    let l = c .before .before .loop in
+returns-4 c = let a = c .before .before .before .before .before .before .args in
+    let l = c .before .before .before .loop in
     let n = l .inv in
-    let room = c .before .before .before .before .before .pre .1 .0 in
-    read-open (a .axes) (a .mode) (a .job .now) (a .records) (a .from) (a .t) (a .work .now) room n (omega arith) (c .if5 .taken)
+    let room = c .before .before .before .before .before .before .pre .1 .0 in
+    refused-as (a .axes) (a .mode) (a .job .now) (a .records) (a .from) (a .t) _ _ _ (c .refuse4 .ensures) (read-open (a .axes) (a .mode) (a .job .now) (a .records) (a .from) (a .t) (a .work .now) room n (omega arith) (c .before .if5 .taken))
 
 same-length-5 : tie.Need-same-length-5 Inv-loop μ-loop
 same-length-5 c = c .before .before .loop .inv .only .long
@@ -189,6 +202,7 @@ read-sets-spec =
     add-take-value
     cast-take-value
     take-value-requires
+    refuse-requires
     same-length
     returns
     add-values
@@ -199,6 +213,7 @@ read-sets-spec =
     part-end-no-start
     part-end-no-end
     end-no-requires
+    refuse-requires-2
     same-length-2
     returns-2
     end-set-requires
@@ -208,8 +223,10 @@ read-sets-spec =
     add-i-2
     loop-less-2
     loop-again-2
+    refuse-requires-3
     same-length-3
     returns-3
+    refuse-requires-4
     same-length-4
     returns-4
     same-length-5
