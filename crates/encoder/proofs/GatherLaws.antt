@@ -4,17 +4,20 @@ use mathlib.Core.List.{List, [], _∷_}
 use Prim.Native.Nat.{ℕ, _+_, _*_, _≤_, _<_, min}
 use native.Mathlib.Omega.{arith}
 use lib.ListN.{length, getD}
+use Rattle.laws.specs.Every.{All}
 use Rattle.laws.specs.Bounded.{upTo}
 use Rattle.laws.specs.Range.{Only, seg}
-use Rattle.laws.specs.Sorting.{sorted}
+use Rattle.laws.specs.Sorting.{sorted, keep}
 use Rattle.laws.proofs.RangeLaws.{apart-part, only-trans, only-weaken, seg-ext}
+use Rattle.laws.proofs.EveryLaws.{all-imp}
+use Rattle.laws.proofs.SortLaws.{sorted-all, keep-same}
 use Rattle.laws.proofs.SortMap.{sorted-same}
 use Rattle.laws.proofs.UpLaws.{up-all}
 use Rattle.sets.specs.Set.{Set}
 use Rattle.sets.specs.Ids.{place, sharedIds, distinct}
-use Rattle.sets.specs.Lent.{setOf, setsIn, atMost, Held, IdsFit, Identified}
+use Rattle.sets.specs.Lent.{setOf, setsIn, isFirst, atMost, Held, IdsFit, Identified}
 use Rattle.sets.proofs.IdLaws.{distinct-most}
-use Rattle.sets.proofs.HeldLaws.{Kept, kept-only, kept-trans, set-same, sets-same, most-same, held-kept, sets-length}
+use Rattle.sets.proofs.HeldLaws.{Kept, kept-only, kept-trans, set-same, sets-same, most-same, first-same, held-kept, sets-length}
 use Rattle.grouping.specs.declared.Added.{Added}
 use Rattle.grouping.specs.declared.Added.the-variants.{Groups, Full}
 use Rattle.groups.specs.Groups.{shapeOf, groupsOf}
@@ -115,11 +118,21 @@ module _ {p : Places} {w : List ℕ} (f : Fit p w) where
         abbrev into : tab.GroupedInto (shapesAt p) 0 (p .sets) (p .kinds) w₁ w₂ groups
         into = result (Groups groups) e
 
-        line₂ : seg (p .line) (p .sets) w₂ ≡ sorted (atMost w₂ 0) (upTo (p .sets))
-        line₂ =
-            seg-ext (p .line) (p .line) (p .sets) w₂ w₁ (omega (arith, lies, kept .long)) (omega (arith, lies, d .only .long)) (λ i h. low₂ (p .line + i) (omega (arith, lies)))
-            ∙ d .line
-            ∙ sorted-same (λ (x : ℕ). x < p .sets) (atMost w 0) (atMost w₂ 0) (λ x y h k. sym (most-same (f .held) kept x y h k)) (upTo (p .sets)) (up-all (p .sets))
+        line₂ : seg (p .line) (p .sets) w₂ ≡ seg (p .line) (p .sets) w₁
+        line₂ = seg-ext (p .line) (p .line) (p .sets) w₂ w₁ (omega (arith, lies, kept .long)) (omega (arith, lies, d .only .long)) (λ i h. low₂ (p .line + i) (omega (arith, lies)))
+
+        -- the tests agree on the sets' numbers
+        firsts-same : (l : List ℕ) → All (λ x. x < p .sets) l → keep (isFirst 0 (p .sets) w₂) l ≡ keep (isFirst 0 (p .sets) w) l
+        firsts-same l low = keep-same (isFirst 0 (p .sets) w₂) (isFirst 0 (p .sets) w) l (all-imp (λ x h. first-same (f .held) kept x h) l low)
+
+        line-firsts₂ : keep (isFirst 0 (p .sets) w₂) (seg (p .line) (p .sets) w₂) ≡ keep (isFirst 0 (p .sets) w₂) (sorted (atMost w₂ 0) (upTo (p .sets)))
+        line-firsts₂ =
+            ap (keep (isFirst 0 (p .sets) w₂)) line₂
+            ∙ firsts-same (seg (p .line) (p .sets) w₁) (d .numbers)
+            ∙ d .firsts-line
+            ∙ sym (firsts-same (sorted (atMost w 0) (upTo (p .sets))) (sorted-all (atMost w 0) (λ (x : ℕ). x < p .sets) (upTo (p .sets)) (up-all (p .sets))))
+            ∙ ap (keep (isFirst 0 (p .sets) w₂))
+            (sorted-same (λ (x : ℕ). x < p .sets) (atMost w 0) (atMost w₂ 0) (λ x y h k. sym (most-same (f .held) kept x y h k)) (upTo (p .sets)) (up-all (p .sets)))
 
         ids₂ : seg (p .ids) (p .sets) w₂ ≡ sharedIds (setsIn 0 (p .sets) w₂)
         ids₂ =
@@ -130,7 +143,8 @@ module _ {p : Places} {w : List ℕ} (f : Fit p w) where
         gather-join = record {
           laid = rw (kept .long) lies;
           held = held-kept (f .held) kept;
-          line-is = line₂;
+          line-low = subst (All (λ (x : ℕ). x < p .sets)) (sym line₂) (d .numbers);
+          line-firsts = line-firsts₂;
           firsts = λ x h. low₂ (p .first + x) (omega (arith, lies)) ∙ d .firsts x h
               ∙ rw (sets₂, set-same (f .held) kept x h) refl;
           ids-are = ids₂;

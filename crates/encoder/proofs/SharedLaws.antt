@@ -20,14 +20,14 @@ use Rattle.laws.proofs.EveryLaws.{all-imp, all-getD, all-intro}
 use Rattle.laws.proofs.BoundedLaws.{length-tabulate, getD-tabulate}
 use Rattle.laws.proofs.RangeLaws.{apart-part, only-trans, only-weaken, only-seg, seg-ext, getD-seg, length-seg}
 use Rattle.laws.proofs.SortLaws.{sorted-all, keep-same}
-use Rattle.laws.proofs.SortMap.{length-sorted, keep-all}
+use Rattle.laws.proofs.SortMap.{length-sorted, keep-all, keep-keep}
 use Rattle.laws.proofs.SortMap as mapping
 use Rattle.laws.proofs.UpLaws.{up-all}
 use Rattle.shapes.specs.Group.{Group}
 use Rattle.shapes.specs.Lent.{Narrow}
 use Rattle.sets.specs.Set.{Set, Ascending}
 use Rattle.sets.specs.Ids.{place, sharedIds, distinct}
-use Rattle.sets.specs.Lent.{setOf, setsIn, atMost, Held}
+use Rattle.sets.specs.Lent.{setOf, setsIn, isFirst, atMost, Held}
 use Rattle.sets.proofs.IdLaws.{distinct-most}
 use Rattle.sets.proofs.HeldLaws.{Kept, kept-only, set-same, held-kept, sets-length, sets-at}
 use Rattle.groups.specs.Groups.{shapeOf, groupsOf}
@@ -180,9 +180,8 @@ module _ {p : Places} {groups ids : ℕ} {w : List ℕ} (f : JoinFit p groups id
 
   line-number : (q : ℕ) → q < p .sets → getD w (p .line + q) 0 < p .sets
   line-number q h =
-      let s = sorted-all (atMost w 0) (λ (x : ℕ). x < p .sets) (upTo (p .sets)) (up-all (p .sets)) in
       let n : length (seg (p .line) (p .sets) w) ≡ p .sets = length-seg (p .line) (p .sets) w (omega (arith, lies)) in
-      let l = all-getD (λ (x : ℕ). x < p .sets) (seg (p .line) (p .sets) w) q 0 (subst (All (λ (x : ℕ). x < p .sets)) (sym (f .line-is)) s) (omega arith) in
+      let l = all-getD (λ (x : ℕ). x < p .sets) (seg (p .line) (p .sets) w) q 0 (f .line-low) (omega arith) in
       subst (λ (z : ℕ). z < p .sets) (getD-seg (p .line) (p .sets) w q h) l
 
   kinds-low : (x : ℕ) → x < p .sets → getD w′ (p .kinds + x) 0 ≡ getD w (p .kinds + x) 0
@@ -298,15 +297,31 @@ module _ {p : Places} {groups ids : ℕ} {w : List ℕ} (f : JoinFit p groups id
     unfolding atMost noLater
     most-same x y h k = rw (sets-at 0 (p .sets) w x h, sets-at 0 (p .sets) w y k) refl
 
-    line-sorted : seg (p .line) (p .sets) w′ ≡ sorted (noLater all) (upTo (length all))
-    line-sorted =
-        seg-ext (p .line) (p .line) (p .sets) w′ w (omega (arith, lies, o .only .long)) (omega (arith, lies)) (λ i h. low (p .line + i) (omega (arith, lies)))
-        ∙ f .line-is
-        ∙ mapping.sorted-same (λ (x : ℕ). x < p .sets) (atMost w 0) (noLater all) most-same (upTo (p .sets)) (up-all (p .sets))
+    line-kept : seg (p .line) (p .sets) w′ ≡ seg (p .line) (p .sets) w
+    line-kept = seg-ext (p .line) (p .line) (p .sets) w′ w (omega (arith, lies, o .only .long)) (omega (arith, lies)) (λ i h. low (p .line + i) (omega (arith, lies)))
+
+    sorted-is : sorted (atMost w 0) (upTo (p .sets)) ≡ sorted (noLater all) (upTo (length all))
+    sorted-is =
+        mapping.sorted-same (λ (x : ℕ). x < p .sets) (atMost w 0) (noLater all) most-same (upTo (p .sets)) (up-all (p .sets))
         ∙ ap (λ (n : ℕ). sorted (noLater all) (upTo n)) (sym all-long)
 
-    line-low : All (λ (x : ℕ). x < p .sets) (sorted (noLater all) (upTo (length all)))
-    line-low = sorted-all (noLater all) (λ (x : ℕ). x < p .sets) (upTo (length all)) (all-imp (λ x h. omega (arith, all-long)) (upTo (length all)) (up-all (length all)))
+    sorted-low : All (λ (x : ℕ). x < p .sets) (sorted (noLater all) (upTo (length all)))
+    sorted-low = sorted-all (noLater all) (λ (x : ℕ). x < p .sets) (upTo (length all)) (all-imp (λ x h. omega (arith, all-long)) (upTo (length all)) (up-all (length all)))
+
+    first-is : (x : ℕ) → x < p .sets → isFirst 0 (p .sets) w x ≡ eqb (place (getD all x []) all) x
+    unfolding isFirst
+    first-is x h = ap (λ (s : Set). eqb (place s all) x) (sym (sets-at 0 (p .sets) w x h))
+
+    firsts-are : (l : List ℕ) → All (λ (x : ℕ). x < p .sets) l → keep (isFirst 0 (p .sets) w) l ≡ keep (λ x. eqb (place (getD all x []) all) x) l
+    firsts-are l low = keep-same (isFirst 0 (p .sets) w) (λ x. eqb (place (getD all x []) all) x) l (all-imp first-is l low)
+
+    -- the numbers that are the first of their like stand in the order of the sets
+    line-sorted : keep (λ x. eqb (place (getD all x []) all) x) (seg (p .line) (p .sets) w) ≡ keep (λ x. eqb (place (getD all x []) all) x) (sorted (noLater all) (upTo (length all)))
+    line-sorted =
+        sym (firsts-are (seg (p .line) (p .sets) w) (f .line-low))
+        ∙ f .line-firsts
+        ∙ ap (keep (isFirst 0 (p .sets) w)) sorted-is
+        ∙ firsts-are (sorted (noLater all) (upTo (length all))) sorted-low
 
     test-same : (q x : ℕ) → q < count → x < p .sets
         → (eqb (getD w′ (p .first + x) 0) x && eqb (r .home (getD w′ (p .kinds + x) 0)) q) ≡ (eqb (place (getD all x []) all) x && belongs (p .regions) gs (at q) (getD all x []))
@@ -318,18 +333,21 @@ module _ {p : Places} {groups ids : ℕ} {w : List ℕ} (f : JoinFit p groups id
         ≡ keep (λ x. eqb (place (getD all x []) all) x && belongs (p .regions) gs (at q) (getD all x [])) (sorted (noLater all) (upTo (length all)))
     rows-kept q l =
         r .rows q l
-        ∙ ap (keep (λ x. eqb (getD w′ (p .first + x) 0) x && eqb (r .home (getD w′ (p .kinds + x) 0)) q)) line-sorted
+        ∙ ap (keep (λ x. eqb (getD w′ (p .first + x) 0) x && eqb (r .home (getD w′ (p .kinds + x) 0)) q)) line-kept
         ∙ keep-same (λ x. eqb (getD w′ (p .first + x) 0) x && eqb (r .home (getD w′ (p .kinds + x) 0)) q)
         (λ x. eqb (place (getD all x []) all) x && belongs (p .regions) gs (at q) (getD all x []))
-        (sorted (noLater all) (upTo (length all)))
-        (all-imp (λ x h. test-same q x l h) (sorted (noLater all) (upTo (length all))) line-low)
+        (seg (p .line) (p .sets) w)
+        (all-imp (λ x h. test-same q x l h) (seg (p .line) (p .sets) w) (f .line-low))
+        ∙ sym (keep-keep (λ x. belongs (p .regions) gs (at q) (getD all x [])) (λ x. eqb (place (getD all x []) all) x) (seg (p .line) (p .sets) w))
+        ∙ ap (keep (λ x. belongs (p .regions) gs (at q) (getD all x []))) line-sorted
+        ∙ keep-keep (λ x. belongs (p .regions) gs (at q) (getD all x [])) (λ x. eqb (place (getD all x []) all) x) (sorted (noLater all) (upTo (length all)))
 
     rows-are : (q : ℕ) → q < count → map (λ x. getD (sharedIds all) x 0) (seg (getD w″ (groupAt p q + 1) 0) (getD w″ (groupAt p q + 2) 0) w″)
         ≡ keep (λ k. belongs (p .regions) gs (at q) (getD (distinct all) k [])) (dense (distinct all))
     rows-are q l = ap (map (λ x. getD (sharedIds all) x 0)) (rows-kept q l) ∙ dealt-ids all all-ascending (belongs (p .regions) gs (at q))
 
     rows-low : (q : ℕ) → q < count → All (λ (x : ℕ). x < p .sets) (seg (getD w″ (groupAt p q + 1) 0) (getD w″ (groupAt p q + 2) 0) w″)
-    rows-low q l = subst (All (λ (x : ℕ). x < p .sets)) (sym (rows-kept q l)) (keep-all _ (λ (x : ℕ). x < p .sets) (sorted (noLater all) (upTo (length all))) line-low)
+    rows-low q l = subst (All (λ (x : ℕ). x < p .sets)) (sym (rows-kept q l)) (keep-all _ (λ (x : ℕ). x < p .sets) (sorted (noLater all) (upTo (length all))) sorted-low)
 
     -- ---- shapes
 

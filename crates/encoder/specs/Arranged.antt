@@ -5,12 +5,13 @@ use mathlib.Core.List.{List, [], _∷_}
 use Prim.Native.Nat.{ℕ, _+_, _-_, _*_, _≤_, _<_}
 use lib.Dec.{eqb}
 use lib.ListN.{length, getD}
+use Rattle.laws.specs.Every.{All}
 use Rattle.laws.specs.Bag.{sum}
 use Rattle.laws.specs.Bounded.{upTo}
 use Rattle.laws.specs.Range.{Only, seg}
 use Rattle.laws.specs.Sorting.{sorted, keep}
 use Rattle.sets.specs.Ids.{place, sharedIds, distinct}
-use Rattle.sets.specs.Lent.{setOf, setsIn, atMost, Held}
+use Rattle.sets.specs.Lent.{setOf, setsIn, isFirst, atMost, Held}
 use Rattle.groups.specs.Groups.{groupsOf, maxShapes}
 use Rattle.grouping.specs.Grouped.{GroupedInto}
 use Rattle.table.specs.declared.Shapes.{Shapes}
@@ -83,7 +84,8 @@ pub record Arranged (p : Places) (groups k : ℕ) (old new : List ℕ) (count : 
 pub record JoinFit (p : Places) (groups ids : ℕ) (w : List ℕ) : Type 0 where
   pub laid : Laid p (length w)
   pub held : Held w 0 (p .sets) (p .regions) (p .line)
-  pub line-is : seg (p .line) (p .sets) w ≡ sorted (atMost w 0) (upTo (p .sets))
+  pub line-low : All (λ x. x < p .sets) (seg (p .line) (p .sets) w)
+  pub line-firsts : keep (isFirst 0 (p .sets) w) (seg (p .line) (p .sets) w) ≡ keep (isFirst 0 (p .sets) w) (sorted (atMost w 0) (upTo (p .sets)))
   pub firsts : (x : ℕ) → x < p .sets → getD w (p .first + x) 0 ≡ place (setOf 0 x w) (setsIn 0 (p .sets) w)
   pub ids-are : seg (p .ids) (p .sets) w ≡ sharedIds (setsIn 0 (p .sets) w)
   pub ids-is : ids ≡ length (distinct (setsIn 0 (p .sets) w))

@@ -1,5 +1,5 @@
 -- From n held sets to their ids, call by call. Assumes nothing.
-use mathlib.Core.Path.{_≡_, refl, sym, ap, _∙_}
+use mathlib.Core.Path.{_≡_, refl, sym, ap, subst, _∙_}
 use mathlib.Core.Bool.{Bool, true, false}
 use mathlib.Core.List.{List, [], _∷_}
 use Prim.Native.Nat.{ℕ, _+_, _-_, _≤_, _<_}
@@ -8,13 +8,13 @@ use lib.ListN.{length, getD}
 use Rattle.laws.specs.Every.{All}
 use Rattle.laws.specs.Bounded.{upTo}
 use Rattle.laws.specs.Range.{Apart, Outside, Only, seg}
-use Rattle.laws.specs.Sorting.{sorted}
+use Rattle.laws.specs.Sorting.{sorted, keep}
 use Rattle.laws.proofs.RangeLaws.{only-trans, only-weaken, only-seg, getD-seg, seg-all}
 use Rattle.laws.proofs.SortLaws.{sorted-same, sorted-all}
 use Rattle.laws.proofs.UpLaws.{up-all}
 use Rattle.sets.specs.Set.{Set}
 use Rattle.sets.specs.Ids.{place, distinct, sharedIds}
-use Rattle.sets.specs.Lent.{setOf, Ready, SortedAt, Held, setsIn, atMost, CountedUp, IdsFit, Identified}
+use Rattle.sets.specs.Lent.{setOf, Ready, SortedAt, Held, setsIn, isFirst, atMost, CountedUp, IdsFit, Identified}
 use Rattle.ids.specs.Inner.{FirstsFit, FirstsAt, GivesIds}
 use Rattle.sets.proofs.IdLaws.{place-first}
 use Rattle.sets.proofs.HeldLaws.{Kept, kept-only, kept-trans, held-kept, held-ready, set-same, sets-same, most-same, sets-length, sets-at}
@@ -85,12 +85,15 @@ module _ {w₀ : List ℕ} {index n at first ids : ℕ} (r : IdsFit w₀ index n
           only-trans (only-weaken (λ k o. (o .0, tt)) (c .only))
           (only-trans (only-weaken (λ k o. (o .0, (o .1 .0, tt))) (s .only))
           (only-trans (only-weaken (λ k o. (o .1 .0, tt)) (f .only)) (only-weaken (λ k o. (o .1 .1 .0, tt)) (v .only)))) in
+          let line₄ : seg at n w₄ ≡ sorted (atMost w₀ index) (upTo n) =
+          only-seg (v .only) at n (omega (arith, room-first, r .at-to)) (λ k p q. (record { apart = λ t. absurd (omega (arith, r .at-to, r .first-to)) }, tt))
+          ∙ only-seg (f .only) at n (omega (arith, room-first, r .at-to, f .only .long)) (λ k p q. (record { apart = λ t. absurd (omega (arith, r .at-to)) }, tt))
+          ∙ line₂ ∙ sorted-kept (r .held) kept₁ in
           record {
             only = all;
-            line =
-                only-seg (v .only) at n (omega (arith, room-first, r .at-to)) (λ k p q. (record { apart = λ t. absurd (omega (arith, r .at-to, r .first-to)) }, tt))
-                ∙ only-seg (f .only) at n (omega (arith, room-first, r .at-to, f .only .long)) (λ k p q. (record { apart = λ t. absurd (omega (arith, r .at-to)) }, tt))
-                ∙ line₂ ∙ sorted-kept (r .held) kept₁;
+            line = line₄;
+            numbers = subst (All (λ (x : ℕ). x < n)) (sym line₄) (sorted-all (atMost w₀ index) (λ x. x < n) (upTo n) (up-all n));
+            firsts-line = ap (keep (isFirst index n w₀)) line₄;
             firsts = λ k h. v .only .kept (first + k) (record { apart = λ t. absurd (omega (arith, r .first-to)) }, tt) ∙ first-is k h;
             given = v .given (sets-length index n w₀) same;
             count = v .count (sets-length index n w₀) same;

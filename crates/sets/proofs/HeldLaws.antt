@@ -9,7 +9,7 @@ use Rattle.laws.specs.Range.{Apart, Outside, Only}
 use Rattle.laws.proofs.BoundedLaws.{length-tabulate, getD-tabulate, tabulate-same}
 use Rattle.sets.specs.Set.{Set, Ascending, Proper}
 use Rattle.sets.specs.Order.{order}
-use Rattle.sets.specs.Lent.{entries, startOf, countOf, setOf, Stored, Clear, Good, Ready, Held, setsIn, Behind, atMost}
+use Rattle.sets.specs.Lent.{entries, startOf, countOf, setOf, Stored, Clear, Good, Ready, Held, setsIn, isFirst, Behind, atMost}
 
 pub behind-outside : {end : ℕ} (rs : List (ℕ × ℕ)) (k : ℕ) → Behind end rs → k < end → Outside rs k
 behind-outside [] k b h = tt
@@ -59,6 +59,10 @@ module _ {old new : List ℕ} {index n regions end : ℕ} (h : Held old index n 
   pub most-same : (x y : ℕ) → x < n → y < n → atMost new index x y ≡ atMost old index x y
   unfolding atMost
   most-same x y p q = rw (set-same x p, set-same y q)
+
+  pub first-same : (x : ℕ) → x < n → isFirst index n new x ≡ isFirst index n old x
+  unfolding isFirst
+  first-same x p = rw (set-same x p, sets-same)
 
 -- the sets as a list
 pub sets-length : (index n : ℕ) (w : List ℕ) → length (setsIn index n w) ≡ n
