@@ -25,10 +25,10 @@ use Rattle.sets.specs.Set.{Set}
 use Rattle.sets.specs.Order.{order}
 use Rattle.sets.specs.Ids.{place, distinctFrom, distinct}
 use Rattle.sets.specs.Lent.{setOf, Stored, Held, setsIn, atMost, CountedUp}
-use Rattle.ids.specs.Inner.{isSame, beginsAt, FirstsFit, FirstsAt, GivesIds}
+use Rattle.ids.specs.Inner.{isSame, beginsAt, FirstsFit, FirstsAt, Resolved, GivesIds}
 use Rattle.sets.proofs.IdLaws.{ids-place, first-id, first-count, again-count, again-same, distinct-all-of}
 use Rattle.sets.proofs.HeldLaws.{Kept, kept-only, set-same, held-kept, held-stored, sets-length, sets-at}
-use Rattle.ids.proofs.FirstLaws.{line-at, line-has, order-same, begins-first}
+use Rattle.ids.proofs.FirstLaws.{line-at, order-same, begins-first}
 
 -- ---- counting up
 
@@ -64,22 +64,23 @@ module _ (at n : ℕ) (old : List ℕ) (room : at + n ≤ length old) where
 -- ---- firsts
 
 -- the sets of the first i sorted numbers have their firsts
-pub record Firsting (index at n first : ℕ) (old new : List ℕ) (i : ℕ) : Type 0 where
+pub record Firsting (index at n first all : ℕ) (old new : List ℕ) (i : ℕ) : Type 0 where
   pub within : i ≤ n
-  pub only : Only ((first, n) ∷ []) old new
-  pub done : (p : ℕ) → p < i → getD new (first + getD old (at + p) 0) 0 ≡ place (setOf index (getD old (at + p) 0) old) (setsIn index n old)
+  pub only : Only ((first, all) ∷ []) old new
+  pub done : (p : ℕ) → p < i → getD new (first + getD old (at + p) 0) 0 ≡ place (setOf index (getD old (at + p) 0) old) (setsIn index all old)
+  pub others : (x : ℕ) → ((p : ℕ) → p < n → getD old (at + p) 0 ≡ x → ⊥) → getD new (first + x) 0 ≡ getD old (first + x) 0
 
 module _ {index at n first : ℕ} {old : List ℕ} (r : FirstsFit old index at n first) where
-  number-is : (p : ℕ) → p < n → getD old (at + p) 0 ≡ getD (sorted (atMost old index) (upTo n)) p 0
+  number-is : (p : ℕ) → p < n → getD old (at + p) 0 ≡ getD (sorted (atMost old index) (r .numbers)) p 0
   number-is p h = sym (getD-seg at n old p h) ∙ ap (λ (l : List ℕ). getD l p 0) (r .line)
 
-  pub number-below : (p : ℕ) → p < n → getD old (at + p) 0 < n
-  number-below p h = rw (number-is p h) (line-at (r .held) p h)
+  pub number-below : (p : ℕ) → p < n → getD old (at + p) 0 < r .all
+  number-below p h = rw (number-is p h) (line-at (r .held) (r .numbers) (r .low) (r .rising) p (omega (arith, r .many)))
 
-  pub first-start : Firsting index at n first old old 0
-  first-start = record { within = omega arith; only = only-refl ((first, n) ∷ []) old; done = λ p h. absurd (omega arith) }
+  pub first-start : Firsting index at n first (r .all) old old 0
+  first-start = record { within = omega arith; only = only-refl ((first, r .all) ∷ []) old; done = λ p h. absurd (omega arith); others = λ x h. refl }
 
-  module _ {new : List ℕ} {i : ℕ} (f : Firsting index at n first old new i) where
+  module _ {new : List ℕ} {i : ℕ} (f : Firsting index at n first (r .all) old new i) where
     kept : Kept (r .end) old new
     kept = kept-only (f .only) (omega (arith, r .behind, r .at-to), tt)
 
@@ -87,7 +88,7 @@ module _ {index at n first : ℕ} {old : List ℕ} (r : FirstsFit old index at n
     pub number-same : (p : ℕ) → p < n → getD new (at + p) 0 ≡ getD old (at + p) 0
     number-same p h = f .only .kept (at + p) (record { apart = λ q. absurd (omega (arith, r .at-to)) }, tt)
 
-    pub new-below : (p : ℕ) → p < n → getD new (at + p) 0 < n
+    pub new-below : (p : ℕ) → p < n → getD new (at + p) 0 < r .all
     new-below p h = rw (number-same p h) (number-below p h)
 
     pub new-stored : (p : ℕ) → p < n → Stored new index (getD new (at + p) 0)
@@ -105,11 +106,11 @@ module _ {index at n first : ℕ} {old : List ℕ} (r : FirstsFit old index at n
         )
 
     -- what a true and a false answer say
-    begins-true : i < n → beginsAt old index at i ≡ true → place (setOf index (getD old (at + i) 0) old) (setsIn index n old) ≡ getD old (at + i) 0
+    begins-true : i < n → beginsAt old index at i ≡ true → place (setOf index (getD old (at + i) 0) old) (setsIn index (r .all) old) ≡ getD old (at + i) 0
     unfolding beginsAt isSame
     begins-true h e =
         let j : i - 1 < n = omega arith in
-        rw (number-is i h) (begins-first (r .held) i h
+        rw (number-is i h) (begins-first (r .held) (r .numbers) (r .low) (r .rising) (r .firsts-in) i (omega (arith, r .many))
         (λ p q.
         let a = ap₂ (λ (y z : ℕ). order (setOf index y old) (setOf index z old)) (number-is (i - 1) j) (number-is i h) ∙ q in
         let b = rw (ne-eqb i 0 (omega arith), a) at e in
@@ -133,45 +134,82 @@ module _ {index at n first : ℕ} {old : List ℕ} (r : FirstsFit old index at n
         said Greater h = unfold isSame in let z : _≡_ {A = ℕ} 0 1 = cc in absurd (omega arith)
 
     -- one more, with the right first
-    more : (v : ℕ) → i < n → v ≡ place (setOf index (getD old (at + i) 0) old) (setsIn index n old)
-        → Firsting index at n first old (set new (first + getD new (at + i) 0) v) (i + 1)
+    more : (v : ℕ) → i < n → v ≡ place (setOf index (getD old (at + i) 0) old) (setsIn index (r .all) old)
+        → Firsting index at n first (r .all) old (set new (first + getD new (at + i) 0) v) (i + 1)
     more v h e =
         let y = getD old (at + i) 0 in
-        let b : y < n = number-below i h in
+        let b : y < r .all = number-below i h in
         rw (number-same i h) (record {
           within = omega arith;
-          only = only-trans (f .only) (only-set ((first, n) ∷ []) new (first + y) v (λ o. omega (arith, o .0 .apart (omega arith))));
+          only = only-trans (f .only) (only-set ((first, r .all) ∷ []) new (first + y) v (λ o. omega (arith, o .0 .apart (omega arith))));
           done = below-more _ _
               (λ p l. ⊎-elim
               (λ (q : getD old (at + p) 0 ≡ y). rw q (getD-set-same new (first + y) v 0 (omega (arith, r .room, f .only .long)) ∙ e))
               (λ q. getD-set-other new (first + y) (first + getD old (at + p) 0) v 0 (λ z. q (omega arith)) ∙ f .done p l)
               (same-or-not (getD old (at + p) 0) y))
               (getD-set-same new (first + y) v 0 (omega (arith, r .room, f .only .long)) ∙ e);
+          others = λ x d. getD-set-other new (first + y) (first + x) v 0 (λ z. d i h (omega arith)) ∙ f .others x d;
         })
 
-    pub first-more : i < n → beginsAt new index at i ≡ true → Firsting index at n first old (set new (first + getD new (at + i) 0) (getD new (at + i) 0)) (i + 1)
+    pub first-more : i < n → beginsAt new index at i ≡ true → Firsting index at n first (r .all) old (set new (first + getD new (at + i) 0) (getD new (at + i) 0)) (i + 1)
     first-more h e = more (getD new (at + i) 0) h (number-same i h ∙ sym (begins-true h (sym (begins-same h) ∙ e)))
 
     pub again-some : i < n → beginsAt new index at i ≡ false → 0 < i
     again-some h e = begins-false h (sym (begins-same h) ∙ e) .0
 
     pub again-more : i < n → beginsAt new index at i ≡ false
-        → Firsting index at n first old (set new (first + getD new (at + i) 0) (getD new (first + getD new (at + (i - 1)) 0) 0)) (i + 1)
+        → Firsting index at n first (r .all) old (set new (first + getD new (at + i) 0) (getD new (first + getD new (at + (i - 1)) 0) 0)) (i + 1)
     again-more h e =
         let b = begins-false h (sym (begins-same h) ∙ e) in
         let j : i - 1 < n = omega arith in
         let k : i - 1 < i = omega (arith, b .0) in
         more (getD new (first + getD new (at + (i - 1)) 0) 0) h
-        (ap (λ (y : ℕ). getD new (first + y) 0) (number-same (i - 1) j) ∙ f .done (i - 1) k ∙ ap (λ (s : Set). place s (setsIn index n old)) (b .1))
+        (ap (λ (y : ℕ). getD new (first + y) 0) (number-same (i - 1) j) ∙ f .done (i - 1) k ∙ ap (λ (s : Set). place s (setsIn index (r .all) old)) (b .1))
 
-    pub first-done : n ≤ i → FirstsAt index n first old new
-    first-done h = record {
-      only = f .only;
-      at = λ k l.
-          let q = line-has (r .held) k l in
-          let e : getD old (at + q .0) 0 ≡ k = number-is (q .0) (q .1) ∙ q .2 in
-          rw e at (f .done (q .0) (omega (arith, q .1)));
-    }
+    pub first-done : n ≤ i → FirstsAt index at n first (r .all) old new
+    first-done h = record { only = f .only; found = λ p l. f .done p (omega arith); others = f .others }
+
+-- ---- a first's first
+
+-- the words of the first x places are resolved
+pub record Resolving (first n : ℕ) (old new : List ℕ) (x : ℕ) : Type 0 where
+  pub within : x ≤ n
+  pub only : Only ((first, n) ∷ []) old new
+  pub same : (k : ℕ) → x ≤ k → k < n → getD new (first + k) 0 ≡ getD old (first + k) 0
+  pub each : (F : ℕ → ℕ) → ((k : ℕ) → k < n → (F (getD old (first + k) 0) ≡ F k) × (getD old (first + k) 0 ≡ k → F k ≡ k)) → (k : ℕ) → k < x → getD new (first + k) 0 ≡ F k
+
+module _ (first n : ℕ) (old : List ℕ) (room : first + n ≤ length old) (most : (x : ℕ) → x < n → getD old (first + x) 0 ≤ x) where
+  pub resolve-start : Resolving first n old old 0
+  resolve-start = record { within = omega arith; only = only-refl ((first, n) ∷ []) old; same = λ k l h. refl; each = λ F f k h. absurd (omega arith) }
+
+  module _ {new : List ℕ} {x : ℕ} (s : Resolving first n old new x) (h : x < n) where
+    pub named : getD new (first + x) 0 ≤ x
+    named = rw (s .same x (omega arith) h) (most x h)
+
+    -- what stands at the number that stands at x
+    next-is : (F : ℕ → ℕ) → ((k : ℕ) → k < n → (F (getD old (first + k) 0) ≡ F k) × (getD old (first + k) 0 ≡ k → F k ≡ k))
+        → (y : ℕ) → y ≡ getD old (first + x) 0 → y ≤ x → getD new (first + y) 0 ≡ F x
+    next-is F f y e l = ⊎-elim
+        (λ (b : y < x). s .each F f y b ∙ ap F e ∙ f x h .0)
+        (λ b. let z : y ≡ x = omega arith in
+        ap (λ (k : ℕ). getD new (first + k) 0) z ∙ s .same x (omega arith) h ∙ sym e ∙ z ∙ sym (f x h .1 (sym e ∙ z)))
+        (lt-or-ge y x)
+
+    pub resolve-more : (y : ℕ) → y ≡ getD new (first + x) 0 → Resolving first n old (set new (first + x) (getD new (first + y) 0)) (x + 1)
+    resolve-more y e =
+        let v = getD new (first + y) 0 in
+        let y-is : y ≡ getD old (first + x) 0 = e ∙ s .same x (omega arith) h in
+        record {
+          within = omega arith;
+          only = only-trans (s .only) (only-set ((first, n) ∷ []) new (first + x) v (λ o. omega (arith, o .0 .apart (omega arith))));
+          same = λ k l b. getD-set-other new (first + x) (first + k) v 0 (omega arith) ∙ s .same k (omega arith) b;
+          each = λ F f. below-more _ _
+              (λ k l. getD-set-other new (first + x) (first + k) v 0 (omega arith) ∙ s .each F f k l)
+              (getD-set-same new (first + x) v 0 (omega (arith, s .only .long)) ∙ next-is F f y y-is (omega (arith, most x h)));
+        }
+
+  pub resolve-done : {new : List ℕ} {x : ℕ} → Resolving first n old new x → n ≤ x → Resolved first n old new
+  resolve-done s l = record { only = s .only; each = λ F f k h. s .each F f k (omega arith) }
 
 -- ---- giving ids
 

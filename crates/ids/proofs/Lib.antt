@@ -1,3 +1,4 @@
 pub mod FirstLaws
 pub mod FirstSteps
+pub mod ScreenLaws
 pub mod IdentifySteps

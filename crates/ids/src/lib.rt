@@ -1,4 +1,7 @@
 // Ids: sets sorted once; of equal ones, which stand side by side, the first in the job gives its id to all.
+mod screening;
+
+use crate::screening::screen;
 use comparing::compare;
 use laws::Order;
 use laws::wide;
@@ -10,7 +13,7 @@ ghost use lib.ListN.{length, getD};
 ghost use Rattle.laws.specs.Range.{Apart};
 ghost use Rattle.sets.specs.Set.{Set};
 ghost use Rattle.sets.specs.Lent.{Stored, CountedUp, IdsFit, Identified};
-ghost use Rattle.ids.specs.Inner.{beginsAt, FirstsFit, FirstsAt, GivesIds};
+ghost use Rattle.ids.specs.Inner.{beginsAt, FirstsFit, FirstsAt, Resolved, GivesIds};
 
 // The numbers 0 up to n: in mode 1 a set's own number is its id.
 pub fn own_ids(work: &mut [u32], at: usize, n: usize)
@@ -44,10 +47,10 @@ fn begins(work: &[u32], index: usize, at: usize, i: usize) -> bool
     }
 }
 
-// For each set the first set that equals it, from the sorted numbers.
+// For each of n sorted numbers the first set that equals its set.
 fn firsts(work: &mut [u32], index: usize, at: usize, n: usize, first: usize)
     requires { ⌜ FirstsFit (now work) index at n first ⌝ }
-    ensures { λ _. ⌜ FirstsAt index n first (now (work .entry)) (now (work .exit)) ⌝ }
+    ensures { λ _. ⌜ ((f : FirstsFit (now (work .entry)) index at n first) → FirstsAt index at n first (f .all) (now (work .entry)) (now (work .exit))) ⌝ }
 {
     let mut i = 0;
     while i < n {
@@ -60,6 +63,20 @@ fn firsts(work: &mut [u32], index: usize, at: usize, n: usize, first: usize)
             work[first + x] = work[first + y];
             i += 1;
         }
+    }
+}
+
+// Where an earlier equal set is known for a set, its first is that one's.
+fn resolve(work: &mut [u32], first: usize, n: usize)
+    requires { ⌜ first + n ≤ length (now work) ⌝ }
+    requires { ⌜ ((x : ℕ) → x < n → getD (now work) (first + x) 0 ≤ x) ⌝ }
+    ensures { λ _. ⌜ Resolved first n (now (work .entry)) (now (work .exit)) ⌝ }
+{
+    let mut x = 0;
+    while x < n {
+        let y = wide(work[first + x]);
+        work[first + x] = work[first + y];
+        x += 1;
     }
 }
 
@@ -87,7 +104,8 @@ fn give_ids(work: &mut [u32], first: usize, ids: usize, n: usize) -> usize
     next
 }
 
-// Sorts the numbers of n sets into the words from `at` on, and writes for each set its first like and its id.
+// Writes the numbers of n sets from `at` on, those that are the first of their like in the order of the sets, and for each set its first like and
+// its id.
 // Returns how many distinct sets there are.
 pub fn identify(
     work: &mut [u32],
@@ -100,8 +118,9 @@ pub fn identify(
     requires { ⌜ IdsFit (now work) index n at first ids ⌝ }
     ensures { λ r. ⌜ Identified index n at first ids (now (work .entry)) (now (work .exit)) r ⌝ }
 {
-    own_ids(work, at, n);
-    sort(work, index, at, n, first);
-    firsts(work, index, at, n, first);
+    let m = screen(work, index, n, at, first, ids);
+    sort(work, index, at, m, ids);
+    firsts(work, index, at, m, first);
+    resolve(work, first, n);
     give_ids(work, first, ids, n)
 }

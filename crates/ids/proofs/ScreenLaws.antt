@@ -1,0 +1,252 @@
+-- Screening, set by set: what is to be sorted stands in front and in order, what is not has an earlier equal set. Assumes nothing.
+use mathlib.Core.Path.{_≡_, refl, sym, ap, subst, _∙_}
+use mathlib.Core.Bool.{Bool, true, false}
+use mathlib.Core.List.{List, [], _∷_, _++_}
+use mathlib.Core.Logic.{⊎-elim}
+use Prim.Native.Nat.{ℕ, _+_, _-_, _*_, _≤_, _<_}
+use native.Mathlib.Omega.{arith}
+use lib.ListN.{length, getD, set, length-set}
+use lib.Seq.{getD-set-same, getD-set-other}
+use lib.Dec.{eqb}
+use borrow.Author.Tests.{eq-eqb, ne-eqb}
+use borrow.Author.Count.{below-more}
+use Rattle.laws.specs.declared.Order.the-variants.{Equal}
+use Rattle.laws.specs.Every.{All}
+use Rattle.laws.specs.Bounded.{tabulate, upTo}
+use Rattle.laws.specs.Range.{Only, seg}
+use Rattle.laws.specs.Sorting.{keep}
+use Rattle.laws.proofs.Cases.{same-or-not, lt-or-ge}
+use Rattle.laws.proofs.EveryLaws.{all-imp}
+use Rattle.laws.proofs.BoundedLaws.{tabulate-snoc}
+use Rattle.laws.proofs.RangeLaws.{only-refl, only-trans, only-weaken, only-set, seg-ext, seg-snoc, seg-none}
+use Rattle.laws.proofs.SortLaws.{keep-append, keep-same}
+use Rattle.laws.proofs.SortMap.{keep-in, keep-out}
+use Rattle.laws.proofs.UpLaws.{up-all}
+use Rattle.sets.specs.Set.{Set}
+use Rattle.sets.specs.Order.{order}
+use Rattle.sets.specs.Lent.{setOf, Stored, Held, IdsFit}
+use Rattle.sets.proofs.HeldLaws.{Kept, kept-only, set-same, held-kept, held-stored}
+use Rattle.ids.specs.Screened.{NoneSeen, isKept, Screened}
+use Rattle.ids.proofs.FirstLaws.{order-same}
+
+-- ---- nothing seen
+
+pub record Clearing (seen n : ℕ) (old new : List ℕ) (i : ℕ) : Type 0 where
+  pub within : i ≤ n
+  pub only : Only ((seen, n) ∷ []) old new
+  pub none : (h : ℕ) → h < i → getD new (seen + h) 0 ≡ 0
+
+module _ (seen n : ℕ) (old : List ℕ) (room : seen + n ≤ length old) where
+  pub clear-start : Clearing seen n old old 0
+  clear-start = record { within = omega arith; only = only-refl ((seen, n) ∷ []) old; none = λ h l. absurd (omega arith) }
+
+  pub clear-more : (new : List ℕ) (i : ℕ) → Clearing seen n old new i → i < n → Clearing seen n old (set new (seen + i) 0) (i + 1)
+  clear-more new i c h = record {
+    within = omega arith;
+    only = only-trans (c .only) (only-set ((seen, n) ∷ []) new (seen + i) 0 (λ o. omega (arith, o .0 .apart (omega arith))));
+    none = below-more _ _
+        (λ k l. getD-set-other new (seen + i) (seen + k) 0 0 (omega arith) ∙ c .none k l)
+        (getD-set-same new (seen + i) 0 0 (omega (arith, c .only .long)));
+  }
+
+  pub clear-done : (new : List ℕ) (i : ℕ) → Clearing seen n old new i → n ≤ i → NoneSeen seen n old new
+  clear-done new i c h = record { only = c .only; none = λ k l. c .none k (omega arith) }
+
+-- ---- keeping what is marked, one more
+
+up-snoc : (n : ℕ) → upTo (n + 1) ≡ upTo n ++ (n ∷ [])
+up-snoc n = tabulate-snoc 0 n (λ k. k) ∙ ap (λ (k : ℕ). upTo n ++ (k ∷ [])) (omega arith)
+
+kept-same : (first : ℕ) (u w : List ℕ) (n : ℕ) → ((k : ℕ) → k < n → getD w (first + k) 0 ≡ getD u (first + k) 0) → keep (isKept first w) (upTo n) ≡ keep (isKept first u) (upTo n)
+unfolding isKept
+kept-same first u w n h = keep-same (isKept first w) (isKept first u) (upTo n) (all-imp (λ k l. ap (λ (v : ℕ). eqb v k) (h k l)) (upTo n) (up-all n))
+
+is-kept : (first : ℕ) (w : List ℕ) (k : ℕ) → getD w (first + k) 0 ≡ k → isKept first w k ≡ true
+unfolding isKept
+is-kept first w k e = eq-eqb (getD w (first + k) 0) k e
+
+not-kept : (first : ℕ) (w : List ℕ) (k : ℕ) → (getD w (first + k) 0 ≡ k → ⊥) → isKept first w k ≡ false
+unfolding isKept
+not-kept first w k e = ne-eqb (getD w (first + k) 0) k e
+
+keep-one : (first : ℕ) (w : List ℕ) (n : ℕ) → keep (isKept first w) (upTo (n + 1)) ≡ keep (isKept first w) (upTo n) ++ keep (isKept first w) (n ∷ [])
+keep-one first w n = ap (keep (isKept first w)) (up-snoc n) ∙ keep-append (isKept first w) (upTo n) (n ∷ [])
+
+keep-nothing : (f : ℕ → Bool) → keep f [] ≡ []
+unfolding keep
+keep-nothing f = refl
+
+-- ---- the loop
+
+pub record Screening (index n at first seen : ℕ) (old new : List ℕ) (x m : ℕ) : Type 0 where
+  pub within : x ≤ n
+  pub few : m ≤ x
+  pub only : Only ((at, n) ∷ (first, n) ∷ (seen, n) ∷ []) old new
+  pub line : seg at m new ≡ keep (isKept first new) (upTo x)
+  pub rest : (q : ℕ) → n ≤ q + (x - m) → q < n → (getD new (at + q) 0 < x) × (getD new (first + getD new (at + q) 0) 0 < getD new (at + q) 0)
+  pub noted : (k : ℕ) → k < x → (getD new (first + k) 0 ≡ k → ⊥) → (getD new (first + k) 0 < k) × (setOf index (getD new (first + k) 0) old ≡ setOf index k old)
+  pub seen-few : (h : ℕ) → h < n → getD new (seen + h) 0 ≤ x
+
+module _ {old : List ℕ} {index n at first seen : ℕ} (r : IdsFit old index n at first seen) where
+  pub screen-start : ((h : ℕ) → h < n → getD old (seen + h) 0 ≡ 0) → Screening index n at first seen old old 0 0
+  unfolding tabulate keep
+  screen-start z = record {
+    within = omega arith;
+    few = omega arith;
+    only = only-refl ((at, n) ∷ (first, n) ∷ (seen, n) ∷ []) old;
+    line = seg-none at old;
+    rest = λ q l h. absurd (omega arith);
+    noted = λ k h. absurd (omega arith);
+    seen-few = λ h l. omega (arith, z h l);
+  }
+
+  module _ {new : List ℕ} {x m : ℕ} (s : Screening index n at first seen old new x m) where
+    kept : Kept (r .end) old new
+    kept = kept-only (s .only) (r .behind, (omega (arith, r .behind, r .at-to), (omega (arith, r .behind, r .at-to, r .first-to), tt)))
+
+    pub stored : (k : ℕ) → k < n → Stored new index k
+    stored k h = held-stored (held-kept (r .held) kept) k h
+
+    long : length new ≡ length old
+    long = s .only .long
+
+    -- the set that was seen is stored
+    pub seen-stored : (h : ℕ) → h < n → x < n → (y : ℕ) → y ≡ getD new (seen + h) 0 → 0 < y → Stored new index (y - 1)
+    seen-stored h l b y e p = stored (y - 1) (omega (arith, s .seen-few h l))
+
+    module _ (h : x < n) (k : ℕ) (lk : k < n) where
+      pub screen-new : Screening index n at first seen old (set (set (set new (seen + k) (x + 1)) (first + x) x) (at + m) x) (x + 1) (m + 1)
+      screen-new =
+          let a = r .at-to in
+          let b = r .first-to in
+          let c = r .room in
+          let f = s .few in
+          let l = s .only .long in
+          let u = set new (seen + k) (x + 1) in
+          let v = set u (first + x) x in
+          let w = set v (at + m) x in
+          let lu : length u ≡ length new = length-set new (seen + k) (x + 1) in
+          let lv : length v ≡ length u = length-set u (first + x) x in
+          let lw : length w ≡ length v = length-set v (at + m) x in
+          let other : (i : ℕ) → (i ≡ seen + k → ⊥) → (i ≡ first + x → ⊥) → (i ≡ at + m → ⊥) → getD w i 0 ≡ getD new i 0 = λ i p q t.
+          getD-set-other v (at + m) i x 0 t ∙ getD-set-other u (first + x) i x 0 q ∙ getD-set-other new (seen + k) i (x + 1) 0 p in
+          let at-is : getD w (at + m) 0 ≡ x = getD-set-same v (at + m) x 0 (omega arith) in
+          let first-is : getD w (first + x) 0 ≡ x = getD-set-other v (at + m) (first + x) x 0 (omega arith) ∙ getD-set-same u (first + x) x 0 (omega arith) in
+          let seen-is : getD w (seen + k) 0 ≡ x + 1 = getD-set-other v (at + m) (seen + k) x 0 (omega arith) ∙ getD-set-other u (first + x) (seen + k) x 0 (omega arith) ∙ getD-set-same new (seen + k) (x + 1) 0 (omega arith) in
+          let firsts : (j : ℕ) → j < x → getD w (first + j) 0 ≡ getD new (first + j) 0 = λ j p. other (first + j) (omega arith) (omega arith) (omega arith) in
+          let spots : (q : ℕ) → q < n → (q ≡ m → ⊥) → getD w (at + q) 0 ≡ getD new (at + q) 0 = λ q p t. other (at + q) (omega arith) (omega arith) (λ z. t (omega arith)) in
+          record {
+            within = omega arith;
+            few = omega arith;
+            only = only-trans (s .only)
+                (only-trans (only-set ((at, n) ∷ (first, n) ∷ (seen, n) ∷ []) new (seen + k) (x + 1) (λ o. omega (arith, o .1 .1 .0 .apart (omega arith))))
+                (only-trans (only-set ((at, n) ∷ (first, n) ∷ (seen, n) ∷ []) u (first + x) x (λ o. omega (arith, o .1 .0 .apart (omega arith))))
+                (only-set ((at, n) ∷ (first, n) ∷ (seen, n) ∷ []) v (at + m) x (λ o. omega (arith, o .0 .apart (omega arith))))));
+            line =
+                seg-snoc at m w (omega arith)
+                ∙ ap (λ (z : List ℕ). z ++ (getD w (at + m) 0 ∷ [])) (seg-ext at at m w new (omega arith) (omega arith) (λ q p. spots q (omega arith) (omega arith)) ∙ s .line ∙ sym (kept-same first new w x firsts))
+                ∙ ap (λ (z : ℕ). keep (isKept first w) (upTo x) ++ (z ∷ [])) at-is
+                ∙ sym (keep-one first w x ∙ ap (λ (z : List ℕ). keep (isKept first w) (upTo x) ++ z) (keep-in (isKept first w) x [] (is-kept first w x first-is) ∙ ap (λ (z : List ℕ). x ∷ z) (keep-nothing (isKept first w))));
+            rest = λ q p t.
+                let o = s .rest q (omega arith) t in
+                let e = spots q t (omega arith) in
+                (omega (arith, o .0), rw e (rw (firsts (getD new (at + q) 0) (o .0)) (o .1)));
+            noted = λ j p d. ⊎-elim
+                (λ (b : j < x). let o = s .noted j b (λ z. d (firsts j b ∙ z)) in rw (firsts j b) o)
+                (λ b. let z : j ≡ x = omega arith in absurd (d (ap (λ (y : ℕ). getD w (first + y) 0) z ∙ first-is ∙ sym z)))
+                (lt-or-ge j x);
+            seen-few = λ j p. ⊎-elim
+                (λ (z : j ≡ k). rw z (omega (arith, seen-is)))
+                (λ d. omega (arith, other (seen + j) (λ z. d (omega arith)) (omega arith) (omega arith), s .seen-few j p))
+                (same-or-not j k);
+          }
+
+      pub screen-twin : (y : ℕ) → y ≡ getD new (seen + k) 0 → 0 < y → order (setOf index (y - 1) new) (setOf index x new) ≡ Equal
+          → Screening index n at first seen old (set (set new (first + x) (y - 1)) (at + (n - 1 - (x - m))) x) (x + 1) m
+      screen-twin y y-is some eq =
+          let a = r .at-to in
+          let b = r .first-to in
+          let c = r .room in
+          let f = s .few in
+          let l = s .only .long in
+          let low : y ≤ x = omega (arith, s .seen-few k lk) in
+          let p = at + (n - 1 - (x - m)) in
+          let u = set new (first + x) (y - 1) in
+          let w = set u p x in
+          let lu : length u ≡ length new = length-set new (first + x) (y - 1) in
+          let lw : length w ≡ length u = length-set u p x in
+          let other : (i : ℕ) → (i ≡ first + x → ⊥) → (i ≡ at + (n - 1 - (x - m)) → ⊥) → getD w i 0 ≡ getD new i 0 = λ i q t.
+          getD-set-other u p i x 0 t ∙ getD-set-other new (first + x) i (y - 1) 0 q in
+          let at-is : getD w p 0 ≡ x = getD-set-same u p x 0 (omega arith) in
+          let first-is : getD w (first + x) 0 ≡ y - 1 = getD-set-other u p (first + x) x 0 (omega arith) ∙ getD-set-same new (first + x) (y - 1) 0 (omega arith) in
+          let firsts : (j : ℕ) → j < x → getD w (first + j) 0 ≡ getD new (first + j) 0 = λ j q. other (first + j) (omega arith) (omega arith) in
+          let same : setOf index (y - 1) old ≡ setOf index x old =
+          sym (set-same (r .held) kept (y - 1) (omega arith)) ∙ order-same (held-kept (r .held) kept) (y - 1) x (omega arith) h eq ∙ set-same (r .held) kept x h in
+          record {
+            within = omega arith;
+            few = omega arith;
+            only = only-trans (s .only)
+                (only-trans (only-set ((at, n) ∷ (first, n) ∷ (seen, n) ∷ []) new (first + x) (y - 1) (λ o. omega (arith, o .1 .0 .apart (omega arith))))
+                (only-set ((at, n) ∷ (first, n) ∷ (seen, n) ∷ []) u p x (λ o. omega (arith, o .0 .apart (omega arith)))));
+            line =
+                seg-ext at at m w new (omega arith) (omega arith) (λ q t. other (at + q) (omega arith) (omega arith)) ∙ s .line ∙ sym (kept-same first new w x firsts)
+                ∙ sym (keep-one first w x ∙ ap (λ (z : List ℕ). keep (isKept first w) (upTo x) ++ z) (keep-out (isKept first w) x [] (not-kept first w x (λ z. omega (arith, first-is))) ∙ (keep-nothing (isKept first w))) ∙ no-more (keep (isKept first w) (upTo x)));
+            rest = λ q t e. ⊎-elim
+                (λ (z : q ≡ n - 1 - (x - m)).
+                let i : getD w (at + q) 0 ≡ x = ap (λ (o : ℕ). getD w (at + o) 0) z ∙ at-is in
+                (omega arith, rw i (omega (arith, first-is))))
+                (λ d.
+                let o = s .rest q (omega arith) e in
+                let i = other (at + q) (omega arith) (λ z. d (omega arith)) in
+                (omega (arith, o .0), rw i (rw (firsts (getD new (at + q) 0) (o .0)) (o .1))))
+                (same-or-not q (n - 1 - (x - m)));
+            noted = λ j q d. ⊎-elim
+                (λ (b : j < x). let o = s .noted j b (λ z. d (firsts j b ∙ z)) in rw (firsts j b) o)
+                (λ b. let z : j ≡ x = omega arith in rw z (omega (arith, first-is), ap (λ (i : ℕ). setOf index i old) first-is ∙ same))
+                (lt-or-ge j x);
+            seen-few = λ j q. omega (arith, other (seen + j) (omega arith) (omega arith), s .seen-few j q);
+          }
+        where
+          no-more : (l : List ℕ) → l ++ [] ≡ l
+          no-more [] = refl
+          no-more (z ∷ l) = ap (λ (t : List ℕ). z ∷ t) (no-more l)
+
+    pub screen-done : n ≤ x → Screened index n at first seen old new m
+    screen-done l =
+        let e : x ≡ n = omega (arith, s .within) in
+        record {
+          only = s .only;
+          few = omega (arith, s .few);
+          line = s .line ∙ ap (λ (z : ℕ). keep (isKept first new) (upTo z)) e;
+          rest = λ q p h. let o = s .rest q (omega (arith, s .few)) h in (omega (arith, o .0), o .1);
+          noted = λ k h d. s .noted k (omega arith) d;
+        }
+
+-- ---- with nothing seen before
+
+module _ {old mid : List ℕ} {index n at first seen : ℕ} (r : IdsFit old index n at first seen) (z : NoneSeen seen n old mid) where
+  unseen : Kept (r .end) old mid
+  unseen = kept-only (z .only) (omega (arith, r .behind, r .at-to, r .first-to), tt)
+
+  pub sift-fit : IdsFit mid index n at first seen
+  sift-fit = record {
+    regions = r .regions;
+    end = r .end;
+    held = held-kept (r .held) unseen;
+    few = r .few;
+    behind = r .behind;
+    at-to = r .at-to;
+    first-to = r .first-to;
+    room = omega (arith, r .room, z .only .long);
+  }
+
+  pub screened : {new : List ℕ} {m : ℕ} → Screened index n at first seen mid new m → Screened index n at first seen old new m
+  screened {new} {m} s = record {
+    only = only-trans (only-weaken (λ k o. (o .1 .1 .0, tt)) (z .only)) (s .only);
+    few = s .few;
+    line = s .line;
+    rest = s .rest;
+    noted = λ k h d.
+        let o = s .noted k h d in
+        (o .0, sym (set-same (r .held) unseen (getD new (first + k) 0) (omega (arith, o .0))) ∙ o .1 ∙ set-same (r .held) unseen k h);
+  }

@@ -1,0 +1,101 @@
+// Before sorting: most sets that equal an earlier one are found at once, by a table of the set that was seen last at each hash. One that is missed
+// there is sorted like any other, so that nothing rests on the hash.
+use comparing::compare;
+use laws::Order;
+use laws::wide;
+ghost use mathlib.Core.Path.{_≡_};
+ghost use mathlib.Core.Bool.{true};
+ghost use Prim.Native.Nat.{ℕ, _+_, _-_, _≤_, _<_};
+ghost use lib.ListN.{length, getD};
+ghost use Rattle.laws.specs.declared.Order.the-variants.{Equal};
+ghost use Rattle.sets.specs.Order.{order};
+ghost use Rattle.sets.specs.Lent.{setOf, Stored, IdsFit};
+ghost use Rattle.ids.specs.Screened.{NoneSeen, Screened};
+
+// A number below n which equal sets have in common.
+fn hash(work: &[u32], index: usize, x: usize, n: usize) -> usize
+    requires { ⌜ Stored (now work) index x ⌝ }
+    requires { ⌜ 0 < n ⌝ }
+    ensures { λ r. ⌜ r < n ⌝ }
+{
+    let start = wide(work[index + 2 * x]);
+    let end = start + 2 * wide(work[index + 2 * x + 1]);
+    let mut h: usize = 0;
+    let mut i = start;
+    while i < end {
+        h = (h * 31 + wide(work[i])) % 4294967296;
+        i += 1;
+    }
+    h % n
+}
+
+// Whether set x equals the one that was seen: y is its number and one more, or 0 where none was.
+fn known(work: &[u32], index: usize, x: usize, y: usize) -> bool
+    requires { ⌜ Stored (now work) index x ⌝ }
+    requires { ⌜ (0 < y → Stored (now work) index (y - 1)) ⌝ }
+    ensures { λ r. ⌜ (r ≡ true → (0 < y) × (order (setOf index (y - 1) (now (work .entry))) (setOf index x (now (work .entry))) ≡ Equal)) ⌝ }
+{
+    if y == 0 {
+        return false;
+    }
+    match compare(work, index, y - 1, x) {
+        Order::Less => false,
+        Order::Equal => true,
+        Order::Greater => false,
+    }
+}
+
+// Nothing was seen yet.
+fn see_none(work: &mut [u32], seen: usize, n: usize)
+    requires { ⌜ seen + n ≤ length (now work) ⌝ }
+    ensures { λ _. ⌜ NoneSeen seen n (now (work .entry)) (now (work .exit)) ⌝ }
+{
+    let mut i = 0;
+    while i < n {
+        work[seen + i] = 0;
+        i += 1;
+    }
+}
+
+// From `at` on the numbers that are to be sorted, and behind them those of which an earlier equal one is known; that one, or the set itself, from
+// `first` on. Returns how many are to be sorted.
+fn sift(work: &mut [u32], index: usize, n: usize, at: usize, first: usize, seen: usize) -> usize
+    requires { ⌜ IdsFit (now work) index n at first seen ⌝ }
+    requires { ⌜ ((h : ℕ) → h < n → getD (now work) (seen + h) 0 ≡ 0) ⌝ }
+    ensures { λ r. ⌜ Screened index n at first seen (now (work .entry)) (now (work .exit)) r ⌝ }
+{
+    let mut m = 0;
+    let mut x = 0;
+    while x < n {
+        let h = hash(work, index, x, n);
+        let y = wide(work[seen + h]);
+        if known(work, index, x, y) {
+            work[first + x] = (y - 1) as u32;
+            work[at + (n - 1 - (x - m))] = x as u32;
+            x += 1;
+        } else {
+            work[seen + h] = (x + 1) as u32;
+            work[first + x] = x as u32;
+            work[at + m] = x as u32;
+            m += 1;
+            x += 1;
+        }
+    }
+    m
+}
+
+// The same, with n words from `seen` on for the sets that were seen.
+pub fn screen(
+    work: &mut [u32],
+    index: usize,
+    n: usize,
+    at: usize,
+    first: usize,
+    seen: usize,
+) -> usize
+    requires { ⌜ IdsFit (now work) index n at first seen ⌝ }
+    ensures { λ r. ⌜ Screened index n at first seen (now (work .entry)) (now (work .exit)) r ⌝ }
+{
+    see_none(work, seen, n);
+    sift(work, index, n, at, first, seen)
+}
