@@ -8,11 +8,13 @@ use std::path::PathBuf;
 use std::process::Command;
 
 /// The crate, and those that it reaches.
-const CRATES: [&str; 6] = [
+const CRATES: [&str; 8] = [
     "laws",
     "shapes",
     "rule",
     "queue",
+    "slots",
+    "waits",
     "merging",
     "merging_bench",
 ];

@@ -6,7 +6,7 @@ use Prim.Native.Nat.{ℕ, _+_, _*_, _/_, _≤_, _<_}
 use native.Mathlib.Omega.{arith}
 use lib.ListN.{length, replicate}
 use Rattle.merging.specs.declared.encoder.Merged.{Merged}
-use Rattle.merging.specs.declared.tables.Tables.{Tables}
+use Rattle.slots.specs.declared.tables.Tables.{Tables}
 use Rattle.merging.specs.Optimized.{Ready, Optimized}
 use Rattle.said.specs.Job.{Said, Outcome, refused, fine, inAxes, walk}
 use Rattle.job.proofs.CheckLaws.{left-early, left-zeros}

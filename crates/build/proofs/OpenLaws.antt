@@ -8,7 +8,7 @@ use lib.ListN.{length}
 use Rattle.laws.specs.Range.{Only}
 use Rattle.sets.specs.Set.{Set}
 use Rattle.groups.specs.Groups.{groupsOf, maxShapes}
-use Rattle.merging.specs.Lent as merge
+use Rattle.slots.specs.Lent as merge
 use Rattle.merging.specs.Optimized.{Ready}
 use Rattle.said.specs.Refusals.{earlyNo}
 use Rattle.said.specs.Job.{Said, Outcome, refused, fine, inAxes, walk}

@@ -19,11 +19,11 @@ use Rattle.laws.proofs.SortLaws.{insert-all, sorted-all}
 use Rattle.laws.proofs.SortMap.{sorted-map, sorted-same, length-sorted}
 use Rattle.table.specs.declared.Shapes.{Shapes}
 use Rattle.table.specs.Table.{shapeIn}
-use Rattle.merging.specs.declared.tables.Tables.{Tables}
+use Rattle.slots.specs.declared.tables.Tables.{Tables}
 use Rattle.rule.specs.Model.{Living, merged}
-use Rattle.merging.specs.Lent.{groupIn, starting}
-use Rattle.merging.specs.Lent as lent
-use Rattle.merging.specs.Waits.{placeOf, groupOf}
+use Rattle.slots.specs.Lent.{groupIn, starting}
+use Rattle.slots.specs.Lent as lent
+use Rattle.waits.specs.Waits.{placeOf, groupOf}
 use Rattle.rule.specs.Told.{Among}
 use Rattle.merging.specs.Held.{Lives}
 use Rattle.merging.specs.Optimized.{Optimized}

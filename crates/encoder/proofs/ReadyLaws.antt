@@ -23,8 +23,8 @@ use Rattle.groups.specs.Groups.{Before, groupsOf}
 use Rattle.table.specs.Table as tab
 use Rattle.groups.proofs.GroupLaws.{before-unlike, groups-some, groups-long, groups-unlike, groups-count}
 use Rattle.grouping.proofs.AddSteps.{none, groups-length, shape-at}
-use Rattle.merging.specs.declared.tables.Tables.{Tables}
-use Rattle.merging.specs.Lent as merge
+use Rattle.slots.specs.declared.tables.Tables.{Tables}
+use Rattle.slots.specs.Lent as merge
 use Rattle.merging.specs.Optimized.{Ready, Optimized}
 use Rattle.rule.proofs.Theorems.{Proper}
 use Rattle.encoder.specs.declared.places.Places.{Places}

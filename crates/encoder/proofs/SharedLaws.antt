@@ -34,9 +34,9 @@ use Rattle.groups.specs.Groups.{shapeOf, groupsOf}
 use Rattle.table.specs.Table as tab
 use Rattle.groups.proofs.GroupLaws.{groups-unlike}
 use Rattle.grouping.proofs.AddSteps.{none, groups-length, shape-at}
-use Rattle.merging.specs.declared.tables.Tables.{Tables}
+use Rattle.slots.specs.declared.tables.Tables.{Tables}
 use Rattle.rule.specs.Model.{Living, start, merged, total}
-use Rattle.merging.specs.Lent as merge
+use Rattle.slots.specs.Lent as merge
 use Rattle.rule.specs.Told.{words}
 use Rattle.merging.specs.Held.{written}
 use Rattle.merging.specs.Optimized.{Optimized}

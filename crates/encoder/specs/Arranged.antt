@@ -15,7 +15,7 @@ use Rattle.sets.specs.Lent.{setOf, setsIn, isFirst, atMost, Held}
 use Rattle.groups.specs.Groups.{groupsOf, maxShapes}
 use Rattle.grouping.specs.Grouped.{GroupedInto}
 use Rattle.table.specs.declared.Shapes.{Shapes}
-use Rattle.merging.specs.declared.tables.Tables.{Tables}
+use Rattle.slots.specs.declared.tables.Tables.{Tables}
 use Rattle.merging.specs.declared.encoder.Merged.{Merged}
 use Rattle.merging.specs.Optimized.{Optimized}
 use Rattle.finals.specs.Living.{noLater, livingIn, LivingFit}

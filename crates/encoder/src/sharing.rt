@@ -7,7 +7,7 @@ use grouping::Added;
 use grouping::group;
 use ids::identify;
 use merging::Merged;
-use merging::Tables;
+use slots::Tables;
 use table::Shapes;
 ghost use mathlib.Core.Path.{_≡_};
 ghost use mathlib.Core.List.{List};

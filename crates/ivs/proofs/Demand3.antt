@@ -1,4 +1,4 @@
--- Demand 3 of the whole build, of the merges that it makes and logs, over the rule (merging's specs/Model.antt) on the job's groups: each sentence a
+-- Demand 3 of the whole build, of the merges that it makes and logs, over the rule (rule's specs/Model.antt) on the job's groups: each sentence a
 -- field. And what mode 1 answers for them. Assumes nothing.
 use mathlib.Core.Path.{_≡_, refl, sym, ap, subst, _∙_}
 use mathlib.Core.Option.{some}

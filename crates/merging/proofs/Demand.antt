@@ -10,8 +10,8 @@ use Rattle.shapes.specs.Group.{Group}
 use Rattle.rule.specs.Model.{gainOf, start, merged}
 use Rattle.rule.proofs.Theorems.{Merges, saved, merged-merges, run-total, all-gains-zero, fewer, none-of-none, weighed-is, weighed-few}
 use Rattle.rule.proofs.Origins.{homes, one-home, Made, made}
-use Rattle.merging.specs.declared.tables.Tables.{Tables}
-use Rattle.merging.specs.Lent.{starting}
+use Rattle.slots.specs.declared.tables.Tables.{Tables}
+use Rattle.slots.specs.Lent.{starting}
 use Rattle.merging.specs.Optimized.{Optimized}
 use Rattle.merging.proofs.Unique.{starting-length}
 

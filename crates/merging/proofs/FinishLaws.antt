@@ -9,13 +9,13 @@ use lib.Seq.{getD-set-same, getD-set-other}
 use Rattle.laws.specs.Range.{Only}
 use Rattle.laws.proofs.Cases.{same-or-not}
 use Rattle.laws.proofs.RangeLaws.{only-refl, only-trans, only-set, only-weaken, apart-part}
-use Rattle.merging.specs.declared.tables.Tables.{Tables}
-use Rattle.merging.specs.Lent.{Laid}
-use Rattle.merging.specs.Waits.{placeOf}
+use Rattle.slots.specs.declared.tables.Tables.{Tables}
+use Rattle.slots.specs.Lent.{Laid}
+use Rattle.waits.specs.Waits.{placeOf}
 use Rattle.merging.specs.Held.{Reaches}
 use Rattle.merging.specs.Held.Reaches.{here, onto}
 use Rattle.merging.specs.Optimized.{Settled, Onward, Resolved, Finished}
-use Rattle.merging.proofs.SlotLaws.{laid-kept}
+use Rattle.slots.proofs.SlotLaws.{laid-kept}
 
 -- ---- the first i of n places, at p, are one more than the words at o
 

@@ -17,12 +17,12 @@ use Rattle.queue.specs.declared.Waiting.{Waiting}
 use Rattle.queue.specs.Queue.{Has, Popped}
 use Rattle.queue.proofs.QueueContent.{take-best, take-keeps, take-only}
 use Rattle.queue.proofs.QueueOrder.{carry}
-use Rattle.merging.specs.declared.tables.Tables.{Tables}
-use Rattle.merging.specs.Lent.{room, Laid}
-use Rattle.merging.specs.Waits.{placeOf, groupOf, alive, pairOf, heapOf, Reached, Fair}
+use Rattle.slots.specs.declared.tables.Tables.{Tables}
+use Rattle.slots.specs.Lent.{room, Laid}
+use Rattle.waits.specs.Waits.{placeOf, groupOf, alive, pairOf, heapOf, Reached, Fair}
 use Rattle.merging.specs.Held.{Lives, Reaches, Held, Standing, Chosen}
 use Rattle.merging.specs.Held.Reaches.{here, onto}
-use Rattle.merging.proofs.WaitLaws.{heap-kept, heap-groups, heap-place, heap-sound, heap-placed, group-of-kept, pair-kept, fair-kept, alive-same}
+use Rattle.waits.proofs.WaitLaws.{heap-kept, heap-groups, heap-place, heap-sound, heap-placed, group-of-kept, pair-kept, fair-kept, alive-same}
 
 -- ---- only the queue changed
 

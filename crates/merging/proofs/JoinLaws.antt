@@ -11,13 +11,13 @@ use Rattle.laws.proofs.RangeLaws.{only-trans, only-weaken, only-seg, apart-part
 use Rattle.shapes.specs.Group.{joined}
 use Rattle.shapes.specs.Lent.{Narrow}
 use Rattle.queue.specs.declared.Waiting.{Waiting}
-use Rattle.merging.specs.declared.tables.Tables.{Tables}
-use Rattle.merging.specs.Lent.{room, Laid, groupIn, Sound, JoinedIn}
-use Rattle.merging.specs.Waits.{placeOf, groupOf, heapOf}
+use Rattle.slots.specs.declared.tables.Tables.{Tables}
+use Rattle.slots.specs.Lent.{room, Laid, groupIn, Sound, JoinedIn}
+use Rattle.waits.specs.Waits.{placeOf, groupOf, heapOf}
 use Rattle.merging.specs.Held.{written, Retired, Noted, Joinable, PairJoined}
-use Rattle.merging.proofs.TableLaws.{slot-end}
-use Rattle.merging.proofs.SlotLaws.{shape-kept, laid-kept, slots-apart}
-use Rattle.merging.proofs.WaitLaws.{group-kept}
+use Rattle.slots.proofs.TableLaws.{slot-end}
+use Rattle.slots.proofs.SlotLaws.{shape-kept, laid-kept, slots-apart}
+use Rattle.waits.proofs.WaitLaws.{group-kept}
 
 -- ---- tables that did not change
 

@@ -1,6 +1,3 @@
-pub mod TableLaws
-pub mod SlotLaws
-pub mod WaitLaws
 pub mod StoreLaws
 pub mod JoinLaws
 pub mod HeldLaws

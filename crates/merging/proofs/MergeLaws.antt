@@ -22,13 +22,13 @@ use Rattle.rule.proofs.Theorems.{run-sets, run-count, weighed-most, merge-total
 use Rattle.rule.proofs.Bridge.{Rising, run-numbered, has, pair-of, pairs-has, choice-is, without, without-all, without-mem, two-intro, step-is, run-step}
 use Rattle.queue.specs.declared.Waiting.{Waiting}
 use Rattle.queue.specs.Queue.{HeapOrdered, Has}
-use Rattle.merging.specs.declared.tables.Tables.{Tables}
-use Rattle.merging.specs.Lent.{room, groupIn}
-use Rattle.merging.specs.Waits.{placeOf, groupOf, alive, pairOf, heapOf, Placed, Reached, Waits, Asked, OfferedAll}
+use Rattle.slots.specs.declared.tables.Tables.{Tables}
+use Rattle.slots.specs.Lent.{room, groupIn}
+use Rattle.waits.specs.Waits.{placeOf, groupOf, alive, pairOf, heapOf, Placed, Reached, Waits, Asked, OfferedAll}
 use Rattle.merging.specs.Held.{Lives, Reaches, Held, Standing, Chosen, Joinable, PairJoined}
 use Rattle.merging.specs.Held.Reaches.{here, onto}
-use Rattle.merging.proofs.TableLaws.{room-is}
-use Rattle.merging.proofs.WaitLaws.{alive-none, alive-one, alive-same, sum-next, waits-next}
+use Rattle.slots.proofs.TableLaws.{room-is}
+use Rattle.waits.proofs.WaitLaws.{alive-none, alive-one, alive-same, sum-next, waits-next}
 use Rattle.merging.proofs.HeldLaws.{held-kept, merges-few}
 
 module _ (t : Tables) (xs : List Group) (n m j z : ℕ) (p : Waiting) (w : List ℕ) (c : Chosen t xs n m j z p w)

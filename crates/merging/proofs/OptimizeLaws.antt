@@ -18,14 +18,14 @@ use Rattle.shapes.specs.Group.{Group, groupCost}
 use Rattle.rule.specs.Model.{Living, State, number, start, run, merged, total}
 use Rattle.rule.specs.Told.{Among, words}
 use Rattle.rule.proofs.Theorems.{pairs-count, number-length}
-use Rattle.merging.specs.declared.tables.Tables.{Tables}
-use Rattle.merging.specs.Lent.{Laid, Sound, Dealt, MeasuredAll, groupIn, starting}
-use Rattle.merging.specs.Waits.{placeOf, groupOf, alive, Opening, Opened}
+use Rattle.slots.specs.declared.tables.Tables.{Tables}
+use Rattle.slots.specs.Lent.{Laid, Sound, Dealt, MeasuredAll, groupIn, starting}
+use Rattle.waits.specs.Waits.{placeOf, groupOf, alive, Opening, Opened}
 use Rattle.merging.specs.Held.{Lives, Held, Standing, Ran}
 use Rattle.merging.specs.Held.Reaches.{here}
 use Rattle.merging.specs.Optimized.{Ready, Optimized, Settled, Onward, Finished}
-use Rattle.merging.proofs.SlotLaws.{laid-kept}
-use Rattle.merging.proofs.WaitLaws.{heap-groups, heap-place, heap-sound, group-of-kept, alive-one, sum-ones}
+use Rattle.slots.proofs.SlotLaws.{laid-kept}
+use Rattle.waits.proofs.WaitLaws.{heap-groups, heap-place, heap-sound, group-of-kept, alive-one, sum-ones}
 use Rattle.merging.proofs.JoinLaws.{frame-sound, frame-groups}
 use Rattle.merging.proofs.HeldLaws.{merges-less, merges-few}
 use Rattle.merging.proofs.RunLaws.{only-heap, standing-done}

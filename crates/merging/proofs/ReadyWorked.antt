@@ -9,8 +9,8 @@ use Rattle.laws.specs.Bounded.{tabulate}
 use Rattle.laws.specs.Range.{seg}
 use Rattle.shapes.specs.Lent.{Narrow}
 use Rattle.rule.proofs.Worked.{of}
-use Rattle.merging.specs.declared.tables.Tables.{Tables}
-use Rattle.merging.specs.Lent.{room, shapeIn, groupIn, starting}
+use Rattle.slots.specs.declared.tables.Tables.{Tables}
+use Rattle.slots.specs.Lent.{room, shapeIn, groupIn, starting}
 use Rattle.merging.specs.Optimized.{Ready}
 
 abbrev tables : Tables

@@ -17,11 +17,11 @@ use Rattle.queue.specs.declared.Taken.{Taken}
 use Rattle.queue.specs.declared.Taken.the-variants.{Best, Nothing}
 use Rattle.queue.specs.Queue.{HeapOrdered, Popped}
 use Rattle.queue.proofs.QueueContent.{taken-best, taken-nothing}
-use Rattle.merging.specs.declared.tables.Tables.{Tables}
-use Rattle.merging.specs.Lent.{room, Laid}
-use Rattle.merging.specs.Waits.{placeOf, groupOf, heapOf, Reached, OfferedAll, Took}
+use Rattle.slots.specs.declared.tables.Tables.{Tables}
+use Rattle.slots.specs.Lent.{room, Laid}
+use Rattle.waits.specs.Waits.{placeOf, groupOf, heapOf, Reached, OfferedAll, Took}
 use Rattle.merging.specs.Held.{written, Lives, Standing, SomeStanding, SomeChosen, PairJoined, Decided, Turned, Ran}
-use Rattle.merging.proofs.TableLaws.{room-is}
+use Rattle.slots.proofs.TableLaws.{room-is}
 use Rattle.merging.proofs.HeldLaws.{merges-few, chosen-taken, chosen-dead}
 use Rattle.merging.proofs.MergeLaws.{joined-stands, joined-less}
 

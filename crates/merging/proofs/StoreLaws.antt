@@ -9,9 +9,9 @@ use lib.Seq.{getD-set-same, getD-set-other}
 use Rattle.laws.specs.Range.{Only}
 use Rattle.laws.proofs.RangeLaws.{only-trans, only-set, seg-cons, seg-none}
 use Rattle.queue.specs.declared.Waiting.{Waiting}
-use Rattle.merging.specs.declared.tables.Tables.{Tables}
-use Rattle.merging.specs.Lent.{Laid}
-use Rattle.merging.specs.Waits.{placeOf}
+use Rattle.slots.specs.declared.tables.Tables.{Tables}
+use Rattle.slots.specs.Lent.{Laid}
+use Rattle.waits.specs.Waits.{placeOf}
 use Rattle.merging.specs.Held.{Retired, Noted}
 
 -- five stores, at places that differ

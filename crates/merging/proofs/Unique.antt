@@ -11,9 +11,9 @@ use Rattle.laws.proofs.EveryLaws.{all-imp, all-and}
 use Rattle.rule.specs.Model.{Living, merged}
 use Rattle.rule.proofs.Origins.{Home, home}
 use Rattle.rule.proofs.Bridge.{has}
-use Rattle.merging.specs.declared.tables.Tables.{Tables}
-use Rattle.merging.specs.Lent.{groupIn, starting}
-use Rattle.merging.specs.Waits.{groupOf}
+use Rattle.slots.specs.declared.tables.Tables.{Tables}
+use Rattle.slots.specs.Lent.{groupIn, starting}
+use Rattle.waits.specs.Waits.{groupOf}
 use Rattle.merging.specs.Held.{Lives}
 use Rattle.merging.specs.Optimized.{Optimized}
 

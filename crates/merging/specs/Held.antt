@@ -13,9 +13,9 @@ use Rattle.rule.specs.Model.{Living, State, start, run, total}
 use Rattle.rule.specs.Told.{Among, words}
 use Rattle.queue.specs.declared.Waiting.{Waiting}
 use Rattle.queue.specs.Queue.{AtLeast, HeapOrdered, Has}
-use Rattle.merging.specs.declared.tables.Tables.{Tables}
-use Rattle.merging.specs.Lent.{room, Sound, groupIn}
-use Rattle.merging.specs.Waits.{placeOf, groupOf, alive, pairOf, heapOf, Placed, Reached, Fair, Waits}
+use Rattle.slots.specs.declared.tables.Tables.{Tables}
+use Rattle.slots.specs.Lent.{room, Sound, groupIn}
+use Rattle.waits.specs.Waits.{placeOf, groupOf, alive, pairOf, heapOf, Placed, Reached, Fair, Waits}
 
 -- the group lies in the slot of its number
 pub record Lives (t : Tables) (w : List ℕ) (g : Living) : Type 0 where

@@ -1,4 +1,2 @@
-pub mod Lent
-pub mod Waits
 pub mod Held
 pub mod Optimized

@@ -9,9 +9,9 @@ use Rattle.laws.specs.Every.{All}
 use Rattle.laws.specs.Range.{Only, seg}
 use Rattle.rule.specs.Model.{start, merged, total}
 use Rattle.rule.specs.Told.{Among, words}
-use Rattle.merging.specs.declared.tables.Tables.{Tables}
-use Rattle.merging.specs.Lent.{Laid, Shaped, Sound, Dealt, starting}
-use Rattle.merging.specs.Waits.{placeOf}
+use Rattle.slots.specs.declared.tables.Tables.{Tables}
+use Rattle.slots.specs.Lent.{Laid, Shaped, Sound, Dealt, starting}
+use Rattle.waits.specs.Waits.{placeOf}
 use Rattle.merging.specs.Held.{Lives, Reaches, written}
 
 -- The starting groups lie in slots of their own, in narrow shapes, and their sets together fit a word.

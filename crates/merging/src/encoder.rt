@@ -1,14 +1,12 @@
 // Merging, from the starting groups to the living ones.
-use crate::groups;
 use crate::run;
 use crate::run::Progress;
-use crate::tables::Tables;
-use crate::waits;
+use slots::Tables;
 ghost use mathlib.Core.Path.{_≡_};
 ghost use Prim.Native.Nat.{_+_, _*_, _<_};
 ghost use lib.ListN.{length, getD};
-ghost use Rattle.merging.specs.Lent.{Laid, Dealt};
-ghost use Rattle.merging.specs.Waits.{placeOf};
+ghost use Rattle.slots.specs.Lent.{Laid, Dealt};
+ghost use Rattle.waits.specs.Waits.{placeOf};
 ghost use Rattle.merging.specs.Optimized.{Ready, Optimized, Settled, Onward, Resolved, Finished};
 
 // How many merges there were and pairs were weighed, and the modelled size before and after.
@@ -69,8 +67,8 @@ pub fn optimize(work: &mut [u32], t: Tables) -> Merged
     requires { ⌜ Ready t (now work) ⌝ }
     ensures { λ r. ⌜ Optimized t (r .merges) (r .weighed) (r .before) (r .after) (now (work .entry)) (now (work .exit)) ⌝ }
 {
-    groups::measure_all(work, t);
-    let before = groups::size(work, t);
+    slots::measure_all(work, t);
+    let before = slots::size(work, t);
     settle(work, t);
     let tally = waits::weigh_each(work, t);
     let start = Progress {

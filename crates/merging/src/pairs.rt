@@ -1,10 +1,9 @@
 // What happens to the best pair: its two groups die, and what they become takes the next number.
-use crate::groups;
-use crate::tables::Tables;
 use queue::Waiting;
+use slots::Tables;
 ghost use Prim.Native.Nat.{_+_, _*_, _<_};
 ghost use lib.ListN.{length};
-ghost use Rattle.merging.specs.Lent.{Laid};
+ghost use Rattle.slots.specs.Lent.{Laid};
 ghost use Rattle.merging.specs.Held.{Retired, Noted, Joinable, PairJoined};
 
 // Numbers a and b die; number k lives at their place v.
@@ -46,7 +45,7 @@ pub fn join_pair(work: &mut [u32], t: Tables, j: usize, p: Waiting)
     let b = p.second as usize;
     let x = work[place + a];
     let y = work[place + b];
-    groups::join_slots(work, t, x as usize - 1, y as usize - 1);
+    slots::join_slots(work, t, x as usize - 1, y as usize - 1);
     let k = t.groups + j;
     retire(work, t, a, b, k, x);
     note(work, t, j, p);

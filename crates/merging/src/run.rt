@@ -1,14 +1,13 @@
 // The run: the best pair is taken, and joined where both of its groups live, until none waits.
 use crate::pairs;
-use crate::tables::Tables;
-use crate::waits;
-use crate::waits::Tally;
 use queue::Taken;
 use queue::Waiting;
+use slots::Tables;
+use waits::Tally;
 ghost use Prim.Native.Nat.{_*_, _<_};
 ghost use lib.ListN.{length};
-ghost use Rattle.merging.specs.Lent.{Laid};
-ghost use Rattle.merging.specs.Waits.{placeOf};
+ghost use Rattle.slots.specs.Lent.{Laid};
+ghost use Rattle.waits.specs.Waits.{placeOf};
 ghost use Rattle.merging.specs.Held.{BothLive, SomeChosen, Decided, SomeStanding, Turned, Ran};
 
 // How many pairs wait, were weighed and were joined, and what the groups cost together.

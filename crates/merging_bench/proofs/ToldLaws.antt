@@ -4,7 +4,7 @@ use mathlib.Core.List.{List, [], _∷_}
 use Prim.Native.Nat.{ℕ, _<_}
 use lib.ListN.{length, getD, set, length-set}
 use native.Mathlib.Omega.{arith}
-use Rattle.merging.specs.declared.tables.Tables.{Tables}
+use Rattle.slots.specs.declared.tables.Tables.{Tables}
 use Rattle.merging.specs.Optimized.{Optimized}
 
 -- there is room for the third after the first two

@@ -1,5 +1,5 @@
 // Merging under a C name, for the benchmark alone (host/bench): no entry point of the product, and nothing depends on it.
-use merging::Tables;
+use slots::Tables;
 ghost use mathlib.Core.Path.{_≡_};
 ghost use lib.ListN.{length, getD};
 ghost use Rattle.merging.specs.Optimized.{Ready, Optimized};

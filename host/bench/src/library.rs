@@ -1,8 +1,8 @@
 //! The proved merging (`crates/merging`), called through `crates/merging_bench`.
 //!
-//! The contract asks for tables in lent words (`Ready`, with `Laid`, in
-//! `crates/merging/specs`); [`optimize`] lays them out anew before each call, so
-//! that it is met.
+//! The contract asks for tables in lent words (`Ready` in `crates/merging/specs`,
+//! with `Laid` in `crates/slots/specs`); [`optimize`] lays them out anew before each
+//! call, so that it is met.
 
 // It calls what is not Rust.
 #![allow(unsafe_code)]

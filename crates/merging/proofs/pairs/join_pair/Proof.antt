@@ -1,5 +1,5 @@
 use Rattle.merging.proofs.JoinLaws.{join-pair-asks, pair-joined}
-use Rattle.merging.proofs.SlotLaws.{laid-kept}
+use Rattle.slots.proofs.SlotLaws.{laid-kept}
 use native.Mathlib.Omega.{arith}
 use borrow.Author.Needs.{needs}
 use Rattle.merging.proofs.pairs.join_pair.Statement.{statement}

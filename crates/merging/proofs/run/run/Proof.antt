@@ -1,5 +1,5 @@
 use Prim.Native.Nat.{_-_, _+_}
-use Rattle.merging.specs.Lent.{room}
+use Rattle.slots.specs.Lent.{room}
 use Rattle.merging.proofs.RunLaws.{Running, running-start, running-more, running-less, running-done}
 use native.Mathlib.Omega.{arith}
 use Rattle.merging.proofs.run.run.Statement.{statement}

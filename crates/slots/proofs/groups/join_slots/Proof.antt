@@ -1,0 +1,75 @@
+use mathlib.Core.Path.{_∙_}
+use lib.ListN.{length-set}
+use Rattle.slots.proofs.SlotLaws.{join-asks, sum-fits, join-shaped, join-done}
+use borrow.Author.Needs.{needs}
+use Rattle.slots.proofs.groups.join_slots.Statement.{statement}
+use Rattle.slots.proofs.groups.join_slots.Tie as tie
+
+slot-requires : tie.Need-slot-requires
+slot-requires c κs = search needs
+
+slot-requires-2 : tie.Need-slot-requires-2
+slot-requires-2 c κs = search needs
+
+join-requires : tie.Need-join-requires
+join-requires c κs = let h = c .before .before .before .before .pre in join-asks _ _ _ _ _ _ (h .0 .shaped .laid) (h .1 .0) (h .1 .1 .0) (h .1 .1 .1 .0) (c .before .before .slot .ensures) (c .before .slot2 .ensures)
+
+add-work : tie.Need-add-work
+add-work c = search needs
+
+mul-work : tie.Need-mul-work
+mul-work c = search needs
+
+slice-read-work : tie.Need-slice-read-work
+slice-read-work c = search needs
+
+add-work-2 : tie.Need-add-work-2
+add-work-2 c = search needs
+
+mul-work-2 : tie.Need-mul-work-2
+mul-work-2 c = search needs
+
+slice-read-work-2 : tie.Need-slice-read-work-2
+slice-read-work-2 c = search needs
+
+add-work-3 : tie.Need-add-work-3
+add-work-3 c = let h = c .before .before .before .before .before .before .before .before .before .pre in record { fits = sum-fits _ _ _ _ _ _ _ (h .0) (h .1 .0) (h .1 .1 .0) (h .1 .1 .1 .0) (c .before .before .before .before .before .before .before .slot .ensures) (c .before .before .before .before .before .before .slot2 .ensures) (c .before .before .before .before .join .ensures) (h .1 .1 .1 .1) }
+
+add-work-4 : tie.Need-add-work-4
+add-work-4 c = search needs
+
+mul-work-3 : tie.Need-mul-work-3
+mul-work-3 c = search needs
+
+slice-write-work : tie.Need-slice-write-work
+slice-write-work c = search needs
+
+measure-requires : tie.Need-measure-requires
+measure-requires c κs = let h = c .before .before .before .before .before .before .before .before .before .before .pre in (join-shaped _ _ _ _ _ _ _ (h .0) (h .1 .0) (h .1 .1 .0) (h .1 .1 .1 .0) (c .before .before .before .before .before .before .before .before .slot .ensures) (c .before .before .before .before .before .before .before .slot2 .ensures) (c .before .before .before .before .before .join .ensures), h .1 .0)
+
+same-length : tie.Need-same-length
+same-length c = let m = c .before .before .measure .kept .0 in let j = c .before .before .before .before .before .before .before .before .join .kept .0 in m ∙ simp length-set j
+
+returns : tie.Need-returns
+returns c = let h = c .before .before .before .before .before .before .before .before .before .before .before .before .before .pre in join-done _ _ _ _ _ _ _ (h .0) (h .1 .0) (h .1 .1 .0) (h .1 .1 .1 .0) (c .before .before .before .before .before .before .before .before .before .before .before .slot .ensures) (c .before .before .before .before .before .before .before .before .before .before .slot2 .ensures) (c .before .before .before .before .before .before .before .before .join .ensures) _ (c .before .before .measure .ensures)
+
+pub join-slots-spec : {M : Type 1} → statement M
+join-slots-spec =
+    tie.close
+    (tie.spec
+    slot-requires
+    slot-requires-2
+    join-requires
+    add-work
+    mul-work
+    slice-read-work
+    add-work-2
+    mul-work-2
+    slice-read-work-2
+    add-work-3
+    add-work-4
+    mul-work-3
+    slice-write-work
+    measure-requires
+    same-length
+    returns)

@@ -1,0 +1,115 @@
+// Groups in their slots: what two gain, and joining them.
+use crate::tables::Tables;
+use shapes::Encoding;
+use shapes::RowShape;
+ghost use mathlib.Core.Path.{_≡_};
+ghost use mathlib.Core.Logic.{_≢_};
+ghost use Prim.Native.Nat.{_+_, _<_};
+ghost use lib.ListN.{length};
+ghost use Rattle.laws.specs.Bag.{weigh};
+ghost use Rattle.shapes.specs.Group.{gain, groupCost};
+ghost use Rattle.slots.specs.Lent.{Laid, Shaped, Sound, Dealt, groupIn, starting, CostsAs, MeasuredIn, MeasuredAll, JoinedIn};
+
+// What the group in slot s costs, from its numbers.
+fn costs(work: &[u32], t: Tables, s: usize) -> Encoding
+    requires { ⌜ Laid t (length (now work)) ⌝ }
+    requires { ⌜ s < t .groups ⌝ }
+    ensures { λ r. ⌜ CostsAs t (now (work .entry)) s (r .shape .«row_cost») (r .shape .columns) (r .sets) ⌝ }
+{
+    let rows = t.rows;
+    let columns = t.columns;
+    let counts = t.counts;
+    let shape = RowShape {
+        row_cost: work[rows + s],
+        columns: work[columns + s],
+    };
+    Encoding {
+        shape,
+        sets: work[counts + s],
+    }
+}
+
+// What joining the groups in slots a and b saves: one pass over their shapes.
+pub fn weigh(work: &[u32], t: Tables, a: usize, b: usize) -> u32
+    requires { ⌜ Sound t (now work) ⌝ }
+    requires { ⌜ a < t .groups ⌝ }
+    requires { ⌜ b < t .groups ⌝ }
+    ensures { λ r. ⌜ r ≡ gain (groupIn t (now (work .entry)) a) (groupIn t (now (work .entry)) b) ⌝ }
+{
+    let regions = t.regions;
+    let x = t.slot(a);
+    let y = t.slot(b);
+    let x_end = x + regions;
+    let y_end = y + regions;
+    let joined = RowShape::joined(&work[x..x_end], &work[y..y_end]);
+    let first = costs(work, t, a);
+    let second = costs(work, t, b);
+    let saved = first.gain(second, joined);
+    saved as u32
+}
+
+// Notes what the shape in slot s costs.
+fn measure(work: &mut [u32], t: Tables, s: usize)
+    requires { ⌜ Shaped t (now work) ⌝ }
+    requires { ⌜ s < t .groups ⌝ }
+    ensures { λ _. ⌜ MeasuredIn t s (now (work .entry)) (now (work .exit)) ⌝ }
+{
+    let regions = t.regions;
+    let x = t.slot(s);
+    let x_end = x + regions;
+    let shape = RowShape::of(&work[x..x_end]);
+    let rows = t.rows;
+    let columns = t.columns;
+    work[rows + s] = shape.row_cost;
+    work[columns + s] = shape.columns;
+}
+
+// Of every slot.
+pub fn measure_all(work: &mut [u32], t: Tables)
+    requires { ⌜ Shaped t (now work) ⌝ }
+    ensures { λ _. ⌜ MeasuredAll t (now (work .entry)) (now (work .exit)) ⌝ }
+{
+    let groups = t.groups;
+    let mut s = 0;
+    while s < groups {
+        measure(work, t, s);
+        s += 1;
+    }
+}
+
+// Makes the group in slot a be that of slots a and b joined.
+pub fn join_slots(work: &mut [u32], t: Tables, a: usize, b: usize)
+    requires { ⌜ Sound t (now work) ⌝ }
+    requires { ⌜ a < t .groups ⌝ }
+    requires { ⌜ b < t .groups ⌝ }
+    requires { ⌜ a ≢ b ⌝ }
+    requires { ⌜ groupIn t (now work) a .sets + groupIn t (now work) b .sets < 4294967296 ⌝ }
+    ensures { λ _. ⌜ JoinedIn t a b (now (work .entry)) (now (work .exit)) ⌝ }
+{
+    let regions = t.regions;
+    let counts = t.counts;
+    let x = t.slot(a);
+    let y = t.slot(b);
+    RowShape::join(work, x, y, regions);
+    work[counts + a] = work[counts + a] + work[counts + b];
+    measure(work, t, a);
+}
+
+// What the starting groups cost together.
+pub fn size(work: &[u32], t: Tables) -> u64
+    requires { ⌜ Sound t (now work) ⌝ }
+    requires { ⌜ Dealt t (now work) ⌝ }
+    ensures { λ r. ⌜ r ≡ weigh groupCost (starting t (now (work .entry))) ⌝ }
+{
+    let groups = t.groups;
+    let order = t.order;
+    let mut total: u64 = 0;
+    let mut i = 0;
+    while i < groups {
+        let s = work[order + i] as usize;
+        let group = costs(work, t, s);
+        total = total + group.cost();
+        i += 1;
+    }
+    total
+}
