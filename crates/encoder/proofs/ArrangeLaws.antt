@@ -15,11 +15,11 @@ use Rattle.laws.proofs.BagLaws.{sum-same}
 use Rattle.laws.proofs.SortLaws.{keep-same}
 use Rattle.laws.proofs.SortMap.{length-sorted}
 use Rattle.laws.proofs.Pigeon.{onto}
-use Rattle.finals.specs.declared.homes.HomeTables.{HomeTables}
-use Rattle.finals.specs.declared.dealing.DealTables.{DealTables}
+use Rattle.dealing.specs.declared.homes.HomeTables.{HomeTables}
+use Rattle.finals.specs.declared.DealTables.{DealTables}
 use Rattle.finals.proofs.RowLaws.{rows-all}
-use Rattle.finals.specs.Living.{noLater, livingIn, LivingSorted}
-use Rattle.finals.specs.Homes.{SpotsFit, SpotsAt, HomesFit, HomesAt, HeadsFit, HeadsAt}
+use Rattle.ordering.specs.Living.{noLater, livingIn, LivingSorted}
+use Rattle.dealing.specs.Homes.{SpotsFit, SpotsAt, HomesFit, HomesAt, HeadsFit, HeadsAt}
 use Rattle.finals.specs.Lent.{isFirst, homeIn, goesTo, rowsOf, lineIn, DealFit, Dealt}
 use Rattle.encoder.specs.declared.places.Places.{Places}
 use Rattle.encoder.specs.Places.{Laid}

@@ -30,7 +30,7 @@ use Rattle.merging.specs.Optimized.{Optimized}
 use Rattle.rule.proofs.Theorems.{Proper, shapes-distinct, run-next, run-count}
 use Rattle.rule.proofs.Bridge.{Rising, Numbered, run-numbered, has}
 use Rattle.merging.proofs.Unique.{starting-length}
-use Rattle.finals.specs.Living.{noLater, livingFrom, livingIn, Unlike, Slot, LivingFit}
+use Rattle.ordering.specs.Living.{noLater, livingFrom, livingIn, Unlike, Slot, LivingFit}
 use Rattle.encoder.specs.Packed.{isAhead}
 
 -- the slot of a living group

@@ -18,7 +18,7 @@ use Rattle.table.specs.declared.Shapes.{Shapes}
 use Rattle.slots.specs.declared.tables.Tables.{Tables}
 use Rattle.merging.specs.declared.encoder.Merged.{Merged}
 use Rattle.merging.specs.Optimized.{Optimized}
-use Rattle.finals.specs.Living.{noLater, livingIn, LivingFit}
+use Rattle.ordering.specs.Living.{noLater, livingIn, LivingFit}
 use Rattle.encoder.specs.Packed.{shared}
 use Rattle.encoder.specs.Places.{Laid}
 use Rattle.encoder.specs.Lent.{groupAt, PackedAt}

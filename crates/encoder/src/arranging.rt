@@ -1,12 +1,12 @@
 // The final groups: the living ones in their order, and each one's sets in the order of rows.
 use crate::places::Places;
+use dealing::HomeTables;
+use dealing::deal;
+use dealing::find_homes;
+use dealing::heads;
+use dealing::spots;
 use finals::DealTables;
-use finals::HomeTables;
-use finals::deal;
-use finals::find_homes;
-use finals::heads;
-use finals::order_living;
-use finals::spots;
+use ordering::order_living;
 use table::Shapes;
 ghost use Rattle.encoder.specs.Arranged.{LineFit, LinedUp, ArrangeFit, Arranged};
 

@@ -1,6 +1,2 @@
 pub mod RowLaws
-pub mod CountSteps
-pub mod DealSteps
-pub mod DealAll
-pub mod LivingSteps
-pub mod HomeSteps
+pub mod StartSteps

@@ -1,3 +1,1 @@
 pub mod Lent
-pub mod Living
-pub mod Homes

@@ -1,15 +1,66 @@
-// An item variation store: what it will be (`draft`), how it is written (`write_store`), what is forecast of it, and the map from ids to rows.
-mod groups;
-mod ids;
-mod list;
-mod outline;
-mod outlook;
-mod regions;
-mod size;
-mod store;
+// An item variation store as a definition, with its laws; and what is done for one of its parts: the regions that one shape names, the
+// size and the offset of one subtable, the map words of one run.
+ghost use mathlib.Core.Path.{_≡_};
+ghost use Prim.Native.Nat.{_+_, _≤_, _<_};
+ghost use lib.ListN.{length};
+ghost use Rattle.laws.specs.Range.{seg};
+ghost use Rattle.laws.specs.Every.{All};
+ghost use Rattle.store.specs.Placing.{inRun};
+ghost use Rattle.store.specs.Lent.{Named, spotOf, stored, tableSize};
 
-pub use ids::write_map;
-pub use outline::Plan;
-pub use outline::draft;
-pub use outlook::forecast;
-pub use store::write_store;
+// Marks each region that has a width in the shape.
+pub fn mark_shape(shape: &[u32], marks: &mut [u32])
+    requires { ⌜ length (now shape) ≤ length (now marks) ⌝ }
+    ensures { λ _. ⌜ Named (now (shape .entry)) (now (marks .entry)) (now (marks .exit)) ⌝ }
+{
+    let mut r: usize = 0;
+    while r < shape.len() {
+        if shape[r] != 0 {
+            marks[r] = 1;
+            r += 1;
+        } else {
+            r += 1;
+        }
+    }
+}
+
+// The bytes of a subtable of n columns and rows of so many bytes; one of no rows has none.
+pub fn table_size(n: usize, row: usize, items: usize) -> usize
+    requires { ⌜ n < 65536 ⌝ }
+    requires { ⌜ row < 262144 ⌝ }
+    requires { ⌜ items ≤ 65535 ⌝ }
+    ensures { λ r. ⌜ r ≡ tableSize n row items ⌝ }
+    ensures { λ r. ⌜ r ≤ 34359738368 ⌝ }
+{
+    if items == 0 {
+        return 0;
+    }
+    6 + 2 * n + items * row
+}
+
+// The offset to write for a subtable of a size.
+pub fn offset(at: usize, size: usize) -> u32
+    requires { ⌜ at < 4294967296 ⌝ }
+    ensures { λ r. ⌜ r ≡ spotOf at size ⌝ }
+{
+    if size == 0 {
+        return 0;
+    }
+    at as u32
+}
+
+// The rows of one run.
+pub fn map_run(work: &[u32], ids: usize, items: usize, outer: usize, map: &mut [u32])
+    requires { ⌜ ids + items ≤ length (now work) ⌝ }
+    requires { ⌜ items ≤ 65535 ⌝ }
+    requires { ⌜ outer < 65536 ⌝ }
+    requires { ⌜ All (λ x. x < length (now map)) (seg ids items (now work)) ⌝ }
+    ensures { λ _. ⌜ now (map .exit) ≡ stored (inRun outer 0 (seg ids items (now (work .entry)))) (now (map .entry)) ⌝ }
+{
+    let mut i: usize = 0;
+    while i < items {
+        let x = work[ids + i] as usize;
+        map[x] = (outer * 65536 + i) as u32;
+        i += 1;
+    }
+}

@@ -9,7 +9,7 @@ use Rattle.build.proofs.finishing.report.Reads as report-reads
 use Rattle.build.proofs.finishing.short_no.Reads as short-no-reads
 use Rattle.build.proofs.finishing.write_out.Reads as write-out-reads
 use Rattle.build.proofs.finishing.write_words.Reads as write-words-reads
-use Rattle.store.proofs.draft.Reads as draft-reads
+use Rattle.planning.proofs.draft.Reads as draft-reads
 
 slice-aggregate-draft : tie.Need-slice-aggregate-draft
 slice-aggregate-draft c = search needs

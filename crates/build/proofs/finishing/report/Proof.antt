@@ -4,7 +4,7 @@ use Rattle.build.proofs.finishing.report.Statement.{statement}
 use Rattle.build.proofs.finishing.report.Tie as tie
 use Rattle.build.proofs.finishing.report.Reads as reads
 use Rattle.build.proofs.finishing.report.Lts as lts
-use Rattle.store.proofs.forecast.Reads as forecast-reads
+use Rattle.planning.proofs.forecast.Reads as forecast-reads
 
 forecast-requires : tie.Need-forecast-requires
 forecast-requires c κs =

@@ -4,7 +4,7 @@ use Rattle.build.proofs.finishing.write_out.Statement.{statement}
 use Rattle.build.proofs.finishing.write_out.Tie as tie
 use Rattle.build.proofs.finishing.write_out.Reads as reads
 use Rattle.build.proofs.finishing.write_out.Lts as lts
-use Rattle.store.proofs.write_store.Reads as write-store-reads
+use Rattle.writing.proofs.write_store.Reads as write-store-reads
 
 write-store-requires : tie.Need-write-store-requires
 write-store-requires c κs = let q = c .before .before .before .before .before .before .pre in (ready (q .0), (q .1 .0, q .1 .1))

@@ -7,7 +7,7 @@ use Rattle.build.proofs.finishing.write_words.Reads as reads
 use Rattle.build.proofs.finishing.write_words.Lts as lts
 use Rattle.build.proofs.finishing.copy_words.Reads as copy-words-reads
 use Rattle.build.proofs.finishing.name_rows.Reads as name-rows-reads
-use Rattle.store.proofs.write_map.Reads as write-map-reads
+use Rattle.writing.proofs.write_map.Reads as write-map-reads
 
 copy-words-requires : tie.Need-copy-words-requires
 copy-words-requires c κs = let q = c .before .before .before .before .before .before .pre in let k = q .0 .packed in (omega (arith, k .ids-to, k .finals-to, k .rows-to), q .1 .0)

@@ -6,9 +6,9 @@ use Rattle.encoder.proofs.arranging.arrange.Tie as tie
 use Rattle.encoder.proofs.arranging.arrange.Reads as reads
 use Rattle.encoder.proofs.arranging.arrange.Lts as lts
 use Rattle.encoder.proofs.arranging.line_up.Reads as line-up-reads
-use Rattle.finals.proofs.deal.Reads as deal-reads
-use Rattle.finals.proofs.find_homes.Reads as find-homes-reads
-use Rattle.finals.proofs.heads.Reads as heads-reads
+use Rattle.dealing.proofs.deal.Reads as deal-reads
+use Rattle.dealing.proofs.find_homes.Reads as find-homes-reads
+use Rattle.dealing.proofs.heads.Reads as heads-reads
 
 line-up-requires : tie.Need-line-up-requires
 line-up-requires c κs = c .before .before .pre .line

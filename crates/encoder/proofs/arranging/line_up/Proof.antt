@@ -5,8 +5,8 @@ use Rattle.encoder.proofs.arranging.line_up.Statement.{statement}
 use Rattle.encoder.proofs.arranging.line_up.Tie as tie
 use Rattle.encoder.proofs.arranging.line_up.Reads as reads
 use Rattle.encoder.proofs.arranging.line_up.Lts as lts
-use Rattle.finals.proofs.spots.Reads as spots-reads
-use Rattle.finals.proofs.order_living.Reads as order-living-reads
+use Rattle.dealing.proofs.spots.Reads as spots-reads
+use Rattle.ordering.proofs.order_living.Reads as order-living-reads
 
 order-living-requires : tie.Need-order-living-requires
 order-living-requires c κs = c .before .before .pre .living

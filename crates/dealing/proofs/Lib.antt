@@ -1,0 +1,4 @@
+pub mod CountSteps
+pub mod DealSteps
+pub mod DealAll
+pub mod HomeSteps

@@ -1,0 +1,90 @@
+use mathlib.Core.Path.{_≡_, sym, ap, _∙_}
+use mathlib.Core.List.{List}
+use Prim.Native.Nat.{ℕ, _*_, _≤_}
+use denote.Ref.{now}
+use lib.ListN.{length, getD, replicate}
+use Rattle.laws.proofs.Products.{product}
+use Rattle.store.specs.Lent.{markedIn}
+use Rattle.reader.proofs.StoreLaws.{zeros-at}
+use Rattle.store.proofs.RegionLaws.{marks-none, kept-most}
+use native.Mathlib.Omega.{arith}
+use borrow.Author.Needs.{needs}
+use Rattle.planning.proofs.outline.draft.Statement.{statement}
+use Rattle.planning.proofs.outline.draft.Tie as tie
+use Rattle.planning.proofs.outline.draft.Reads as reads
+use Rattle.planning.proofs.outline.draft.Lts as lts
+use Rattle.rows.proofs.clear.Reads as clear-reads
+use Rattle.planning.proofs.regions.mark_groups.Reads as mark-groups-reads
+use Rattle.planning.proofs.regions.number.Reads as number-reads
+use Rattle.planning.proofs.size.size_groups.Reads as size-groups-reads
+
+-- the regions kept, and the bytes of their coordinates
+few : (c : tie.After-size-groups) → c .before .before .before .number .result ≤ 256
+few c = omega (arith, c .before .before .before .number .ensures .all, kept-most (markedIn (c .before .before .before .before .before .before .before .before .mark-groups .last .1 .1 .1 .1 .1 .0)) (c .before .before .before .before .before .before .before .before .before .before .before .before .before .before .before .before .before .args .regions), c .before .before .before .before .before .before .before .before .before .before .before .before .before .before .before .before .before .pre .1 .0)
+
+bytes : (c : tie.After-size-groups) → 6 * c .before .before .before .before .before .before .before .before .before .before .before .before .before .before .before .before .before .args .axes * c .before .before .before .number .result ≤ 98304
+bytes c = product 384 256 {a = 6 * c .before .before .before .before .before .before .before .before .before .before .before .before .before .before .before .before .before .args .axes} {b = c .before .before .before .number .result} (omega (arith, c .before .before .before .before .before .before .before .before .before .before .before .before .before .before .before .before .before .pre .0)) (few c)
+
+clear-requires : tie.Need-clear-requires
+clear-requires c κs = search needs
+
+mark-groups-requires : tie.Need-mark-groups-requires
+mark-groups-requires c κs =
+    let a = c .before .before .before .before .before .before .before .before .args in
+    let e = c .before .before .before .clear .ensures in
+    (c .before .before .before .before .before .before .before .before .pre .1 .1 .1 .0, (c .before .before .before .before .before .before .before .before .pre .1 .1 .1 .1 .0, (omega (arith, c .before .before .before .clear .kept .0, c .before .before .before .before .before .before .before .before .pre .1 .1 .1 .1 .1 .1 .0), marks-none (a .regions) (a .groups) (now (a .work)) _ (λ r. ap (λ (l : List ℕ). getD l r 0) e ∙ zeros-at (length (now (a .marks))) r))))
+
+number-requires : tie.Need-number-requires
+number-requires c κs = search needs
+
+size-groups-requires : tie.Need-size-groups-requires
+size-groups-requires c κs = (c .before .before .before .before .before .before .before .before .before .before .before .before .before .before .before .before .pre .1 .0, (c .before .before .before .before .before .before .before .before .before .before .before .before .before .before .before .before .pre .1 .1 .0, (c .before .before .before .before .before .before .before .before .before .before .before .before .before .before .before .before .pre .1 .1 .1 .0, (c .before .before .before .before .before .before .before .before .before .before .before .before .before .before .before .before .pre .1 .1 .1 .1 .0, c .before .before .before .before .before .before .before .before .before .before .before .before .before .before .before .before .pre .1 .1 .1 .1 .1 .0))))
+
+mul-t21 : tie.Need-mul-t21
+mul-t21 c = search needs
+
+add-t22 : tie.Need-add-t22
+add-t22 c = search needs
+
+mul-t23 : tie.Need-mul-t23
+mul-t23 c = search needs
+
+mul-t24 : tie.Need-mul-t24
+mul-t24 c = omega (arith, bytes c)
+
+add-t25 : tie.Need-add-t25
+add-t25 c = omega (arith, bytes c)
+
+add-t26 : tie.Need-add-t26
+add-t26 c = omega (arith, bytes c, c .size-groups .ensures .1)
+
+add-t27 : tie.Need-add-t27
+add-t27 c = omega (arith, bytes (c .before), c .before .size-groups .ensures .1)
+
+same-length : tie.Need-same-length
+same-length c = search needs
+
+same-length-2 : tie.Need-same-length-2
+same-length-2 c = search needs
+
+returns : tie.Need-returns
+returns c = search needs
+
+pub draft-spec : {M : Type 1} → statement M
+draft-spec =
+    tie.close
+    (tie.spec
+    clear-requires
+    mark-groups-requires
+    number-requires
+    size-groups-requires
+    mul-t21
+    add-t22
+    mul-t23
+    mul-t24
+    add-t25
+    add-t26
+    add-t27
+    same-length
+    same-length-2
+    returns)

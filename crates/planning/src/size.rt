@@ -1,0 +1,86 @@
+// How many bytes the subtables take, worked out without writing.
+use reader::column_at;
+use rows::Form;
+use rows::columns;
+use rows::run_count;
+use rows::run_items;
+use store::table_size;
+ghost use mathlib.Core.Path.{_≡_};
+ghost use Prim.Native.Nat.{ℕ, _+_, _*_, _≤_, _<_};
+ghost use lib.ListN.{length};
+ghost use Rattle.store.specs.Lent.{FormOf, Handed, Small, Summed, finalAt, groupSizes, runSizes, sizesAt};
+
+// The most regions of a store.
+const REGIONS: usize = 256;
+
+// How many bytes, and in how many subtables.
+pub struct Sum {
+    pub bytes: usize,
+    pub runs: usize,
+}
+
+// Of a group of count sets.
+fn size_runs(n: usize, row: usize, count: usize) -> Sum
+    requires { ⌜ n < 65536 ⌝ }
+    requires { ⌜ row < 262144 ⌝ }
+    requires { ⌜ count ≤ 1048576 ⌝ }
+    ensures { λ r. ⌜ Summed (runSizes n row count) (r .bytes) (r .runs) ⌝ }
+    ensures { λ r. ⌜ (r .bytes ≤ 584115552256) × (r .runs ≤ 17) ⌝ }
+{
+    let runs = run_count(count);
+    let mut bytes: usize = 0;
+    let mut k: usize = 0;
+    while k < runs {
+        bytes = bytes + table_size(n, row, run_items(count, k));
+        k += 1;
+    }
+    Sum { bytes, runs }
+}
+
+// The form of a group's rows.
+pub fn form_of(work: &[u32], regions: usize, group: usize, index: usize) -> Form
+    requires { ⌜ regions ≤ 256 ⌝ }
+    requires { ⌜ Handed regions index (now work) group ⌝ }
+    ensures { λ r. ⌜ FormOf (finalAt regions (now (work .entry)) group) (r .word) (r .count) ⌝ }
+{
+    let shape = work[group] as usize;
+    let mut cols = [0u32; REGIONS];
+    columns(&work[shape..shape + regions], &mut cols)
+}
+
+// Of one group.
+fn size_group(work: &[u32], regions: usize, group: usize, index: usize) -> Sum
+    requires { ⌜ regions ≤ 256 ⌝ }
+    requires { ⌜ Handed regions index (now work) group ⌝ }
+    requires { ⌜ Small (now work) group ⌝ }
+    ensures { λ r. ⌜ Summed (groupSizes (finalAt regions (now (work .entry)) group)) (r .bytes) (r .runs) ⌝ }
+    ensures { λ r. ⌜ (r .bytes ≤ 584115552256) × (r .runs ≤ 17) ⌝ }
+{
+    let form = form_of(work, regions, group, index);
+    let n = form.count;
+    let row = column_at(form.word, n);
+    let count = work[group + 2] as usize;
+    size_runs(n, row, count)
+}
+
+// Of count groups.
+pub fn size_groups(work: &[u32], regions: usize, groups: usize, count: usize, index: usize) -> Sum
+    requires { ⌜ regions ≤ 256 ⌝ }
+    requires { ⌜ count ≤ 1024 ⌝ }
+    requires { ⌜ groups + 3 * count ≤ length (now work) ⌝ }
+    requires { ⌜ ((g : ℕ) → g < count → Handed regions index (now work) (groups + 3 * g)) ⌝ }
+    requires { ⌜ ((g : ℕ) → g < count → Small (now work) (groups + 3 * g)) ⌝ }
+    ensures { λ r. ⌜ Summed (sizesAt regions groups count (now (work .entry))) (r .bytes) (r .runs) ⌝ }
+    ensures { λ r. ⌜ (r .bytes ≤ 598134325510144) × (r .runs ≤ 17408) ⌝ }
+{
+    let mut bytes: usize = 0;
+    let mut runs: usize = 0;
+    let mut g: usize = 0;
+    while g < count {
+        let s = size_group(work, regions, groups + 3 * g, index);
+        bytes = bytes + s.bytes;
+        runs = runs + s.runs;
+        g += 1;
+    }
+    Sum { bytes, runs }
+}

@@ -1,0 +1,88 @@
+use mathlib.Core.Path.{_≡_, refl, sym, ap, _∙_}
+use mathlib.Core.List.{List}
+use Prim.Native.Nat.{ℕ, _+_, _-_, _*_, _≤_, _<_}
+use denote.Ref.{now}
+use lib.ListN.{length}
+use Rattle.laws.specs.Bounded.{tabulate}
+use Rattle.rows.specs.Subtable.{joinAll}
+use Rattle.store.specs.Placing.{Final, allRuns, idWords, runsOf}
+use Rattle.store.specs.Lent.{finalAt, finalsAt, stored}
+use Rattle.store.proofs.MapLaws.{groups-all, groups-more, groups-done}
+use borrow.Author.Needs.{needs}
+use native.Mathlib.Omega.{arith}
+use Rattle.writing.proofs.ids.write_map.Statement.{statement}
+use Rattle.writing.proofs.ids.write_map.Tie as tie
+use Rattle.writing.proofs.ids.write_map.Reads as reads
+use Rattle.writing.proofs.ids.write_map.Lts as lts
+use Rattle.writing.proofs.ids.map_group.Reads as map-group-reads
+
+abbrev Inv-loop : tie.InvT-loop
+Inv-loop work regions groups count index map₀ first₀ g₀ map first g =
+    (g ≤ count)
+    × (first ≤ 17 * g)
+    × (length map ≡ length map₀)
+    × (stored (idWords first (joinAll (tabulate g (count - g) (λ i. runsOf (finalAt regions work (groups + 3 * i)))))) map ≡ stored (idWords 0 (allRuns (finalsAt regions groups count work))) map₀)
+
+abbrev μ-loop : tie.MeasureT-loop
+μ-loop work regions groups count index map₀ first₀ g₀ map first g = count - g
+
+abbrev finals : List ℕ → ℕ → ℕ → ℕ → Final
+finals work regions groups g = finalAt regions work (groups + 3 * g)
+
+loop-holds : tie.Need-loop-holds Inv-loop μ-loop
+unfolding finalsAt
+loop-holds c =
+    let a = c .before .before .args in
+    (omega arith, omega arith, refl, ap (λ (l : List (ℕ × ℕ)). stored l (now (a .map))) (groups-all (finals (now (a .work)) (a .regions) (a .groups)) (a .count)))
+
+mul-map-group : tie.Need-mul-map-group Inv-loop μ-loop
+mul-map-group c = omega arith
+
+add-map-group : tie.Need-add-map-group Inv-loop μ-loop
+add-map-group c = omega arith
+
+map-group-requires : tie.Need-map-group-requires Inv-loop μ-loop
+map-group-requires c κs =
+    let l = c .before .before .loop in
+    (c .before .before .before .before .before .pre .1 .1 .0 (l .g) (c .before .loop-test .taken), (c .before .before .before .before .before .pre .1 .1 .1 .0 (l .g) (c .before .loop-test .taken), (rw (l .inv .2) (c .before .before .before .before .before .pre .1 .1 .1 .1 (l .g) (c .before .loop-test .taken)), omega (arith, l .inv .0, l .inv .1, c .before .before .before .before .before .pre .0, c .before .loop-test))))
+
+add-g : tie.Need-add-g Inv-loop μ-loop
+add-g c = omega arith
+
+loop-less : tie.Need-loop-less Inv-loop μ-loop
+loop-less c = omega arith
+
+loop-again : tie.Need-loop-again Inv-loop μ-loop
+loop-again c =
+    let a = c .before .before .before .before .before .before .before .before .args in
+    let l = c .before .before .before .before .before .loop in (
+      omega (arith, c .before .before .before .before .loop-test),
+      omega (arith, l .inv .1, c .before .before .map-group .ensures .1),
+      c .before .before .map-group .kept .1 .1 .1 .1 .1 .0 ∙ l .inv .2,
+      groups-more (finals (now (a .work)) (a .regions) (a .groups)) (a .count) _ (l .map) _ (l .first) (l .g) _ (l .inv .3) (c .before .before .before .before .loop-test .taken) (c .before .before .map-group .ensures .0),
+    )
+
+same-length : tie.Need-same-length Inv-loop μ-loop
+same-length c = c .before .loop .inv .2
+
+returns : tie.Need-returns Inv-loop μ-loop
+returns c =
+    let a = c .before .before .before .before .args in
+    let l = c .before .loop in
+    groups-done (finals (now (a .work)) (a .regions) (a .groups)) (a .count) _ (l .map) (l .first) (l .g) (l .inv .3) (omega arith)
+
+pub write-map-spec : {M : Type 1} → statement M
+write-map-spec =
+    tie.close
+    (tie.spec
+    Inv-loop
+    μ-loop
+    loop-holds
+    mul-map-group
+    add-map-group
+    map-group-requires
+    add-g
+    loop-less
+    loop-again
+    same-length
+    returns)

@@ -1,0 +1,97 @@
+// Writes the region list: axis count, region count, then the coordinates of each region that is kept, as they stand in a source.
+use rows::put;
+ghost use mathlib.Core.Path.{_≡_};
+ghost use mathlib.Core.List.{map};
+ghost use Prim.Native.Nat.{ℕ, _+_, _*_, _≤_, _<_};
+ghost use lib.ListN.{length, getD};
+ghost use Rattle.laws.specs.Range.{seg};
+ghost use Rattle.laws.specs.Bytes.{over};
+ghost use Rattle.laws.specs.Bounded.{upTo};
+ghost use Rattle.laws.specs.Sorting.{keep};
+ghost use Rattle.rows.specs.Lent.{Put};
+ghost use Rattle.store.specs.Lent.{Sourced, chain, coordsAt, keptBytes, listBytes, markedIn};
+
+fn copy(out: &mut [u8], at: usize, src: &[u8], from: usize, n: usize) -> usize
+    requires { ⌜ at + n ≤ length (now out) ⌝ }
+    requires { ⌜ from + n ≤ length (now src) ⌝ }
+    ensures { λ r. ⌜ Put at (seg from n (now (src .entry))) (now (out .entry)) (now (out .exit)) r ⌝ }
+{
+    let mut i: usize = 0;
+    while i < n {
+        out[at + i] = src[from + i];
+        i += 1;
+    }
+    at + i
+}
+
+// The coordinates of one region: six bytes for each axis, 12 bytes apart in the source.
+fn write_region(out: &mut [u8], at: usize, src: &[u8], from: usize, axes: usize) -> usize
+    requires { ⌜ axes < 65536 ⌝ }
+    requires { ⌜ Sourced axes (now src) from ⌝ }
+    requires { ⌜ at + length (coordsAt (now src) axes from) ≤ length (now out) ⌝ }
+    ensures { λ r. ⌜ Put at (coordsAt (now (src .entry)) axes from) (now (out .entry)) (now (out .exit)) r ⌝ }
+{
+    let mut p = at;
+    let mut a: usize = 0;
+    while a < axes {
+        p = copy(out, p, src, from + 12 * a, 6);
+        a += 1;
+    }
+    p
+}
+
+// The coordinates of each marked region, which start in the source where the words from starts on say.
+fn write_kept(
+    out: &mut [u8],
+    at: usize,
+    src: &[u8],
+    work: &[u32],
+    starts: usize,
+    axes: usize,
+    marks: &[u32],
+    regions: usize,
+) -> usize
+    requires { ⌜ axes < 65536 ⌝ }
+    requires { ⌜ regions ≤ length (now marks) ⌝ }
+    requires { ⌜ starts + regions ≤ length (now work) ⌝ }
+    requires { ⌜ ((r : ℕ) → r < regions → Sourced axes (now src) (getD (now work) (starts + r) 0)) ⌝ }
+    requires { ⌜ at + length (keptBytes (now src) axes (now work) starts (keep (markedIn (now marks)) (upTo regions))) ≤ length (now out) ⌝ }
+    ensures { λ r. ⌜ Put at (keptBytes (now (src .entry)) axes (now (work .entry)) starts (keep (markedIn (now (marks .entry))) (upTo regions))) (now (out .entry)) (now (out .exit)) r ⌝ }
+{
+    let mut p = at;
+    let mut r: usize = 0;
+    while r < regions {
+        if marks[r] != 0 {
+            let from = work[starts + r] as usize;
+            p = write_region(out, p, src, from, axes);
+            r += 1;
+        } else {
+            r += 1;
+        }
+    }
+    p
+}
+
+pub fn write_list(
+    out: &mut [u8],
+    at: usize,
+    src: &[u8],
+    work: &[u32],
+    starts: usize,
+    axes: usize,
+    marks: &[u32],
+    regions: usize,
+    kept: usize,
+) -> usize
+    requires { ⌜ axes < 65536 ⌝ }
+    requires { ⌜ kept < 65536 ⌝ }
+    requires { ⌜ regions ≤ length (now marks) ⌝ }
+    requires { ⌜ starts + regions ≤ length (now work) ⌝ }
+    requires { ⌜ ((r : ℕ) → r < regions → Sourced axes (now src) (getD (now work) (starts + r) 0)) ⌝ }
+    requires { ⌜ at + length (listBytes axes kept (keptBytes (now src) axes (now work) starts (keep (markedIn (now marks)) (upTo regions)))) ≤ length (now out) ⌝ }
+    ensures { λ r. ⌜ Put at (listBytes axes kept (keptBytes (now (src .entry)) axes (now (work .entry)) starts (keep (markedIn (now (marks .entry))) (upTo regions)))) (now (out .entry)) (now (out .exit)) r ⌝ }
+{
+    put(out, at, 2, axes as u32);
+    put(out, at + 2, 2, kept as u32);
+    write_kept(out, at + 4, src, work, starts, axes, marks, regions)
+}

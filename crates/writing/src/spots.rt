@@ -1,0 +1,102 @@
+// Writes where each subtable begins.
+use planning::form_of;
+use reader::column_at;
+use rows::put;
+use rows::run_count;
+use rows::run_items;
+use store::offset;
+use store::table_size;
+ghost use Prim.Native.Nat.{ℕ, _+_, _*_, _≤_, _<_};
+ghost use lib.ListN.{length};
+ghost use Rattle.store.specs.Lent.{Handed, Small, Spotted, finalAt, groupSizes, runSizes, sizesAt, spotsOf, total};
+
+// Where the offsets end, and where the next subtable begins.
+pub struct Spot {
+    pub at: usize,
+    pub next: usize,
+}
+
+// The offsets of a group's subtables.
+fn write_run_spots(
+    out: &mut [u8],
+    at: usize,
+    first: usize,
+    n: usize,
+    row: usize,
+    count: usize,
+) -> Spot
+    requires { ⌜ n < 65536 ⌝ }
+    requires { ⌜ row < 262144 ⌝ }
+    requires { ⌜ count ≤ 1048576 ⌝ }
+    requires { ⌜ at + length (spotsOf first (runSizes n row count)) ≤ length (now out) ⌝ }
+    requires { ⌜ first + total (runSizes n row count) < 4294967296 ⌝ }
+    ensures { λ r. ⌜ Spotted at first (runSizes n row count) (now (out .entry)) (now (out .exit)) (r .at) (r .next) ⌝ }
+{
+    let runs = run_count(count);
+    let mut p = at;
+    let mut next = first;
+    let mut k: usize = 0;
+    while k < runs {
+        let size = table_size(n, row, run_items(count, k));
+        put(out, p, 4, offset(next, size));
+        p += 4;
+        next += size;
+        k += 1;
+    }
+    Spot { at: p, next }
+}
+
+// Of one group.
+fn write_group_spots(
+    out: &mut [u8],
+    at: usize,
+    first: usize,
+    work: &[u32],
+    regions: usize,
+    group: usize,
+    index: usize,
+) -> Spot
+    requires { ⌜ regions ≤ 256 ⌝ }
+    requires { ⌜ Handed regions index (now work) group ⌝ }
+    requires { ⌜ Small (now work) group ⌝ }
+    requires { ⌜ at + length (spotsOf first (groupSizes (finalAt regions (now work) group))) ≤ length (now out) ⌝ }
+    requires { ⌜ first + total (groupSizes (finalAt regions (now work) group)) < 4294967296 ⌝ }
+    ensures { λ r. ⌜ Spotted at first (groupSizes (finalAt regions (now (work .entry)) group)) (now (out .entry)) (now (out .exit)) (r .at) (r .next) ⌝ }
+{
+    let form = form_of(work, regions, group, index);
+    let n = form.count;
+    let row = column_at(form.word, n);
+    let count = work[group + 2] as usize;
+    write_run_spots(out, at, first, n, row, count)
+}
+
+// Of count groups.
+pub fn write_spots(
+    out: &mut [u8],
+    at: usize,
+    first: usize,
+    work: &[u32],
+    regions: usize,
+    groups: usize,
+    count: usize,
+    index: usize,
+) -> Spot
+    requires { ⌜ regions ≤ 256 ⌝ }
+    requires { ⌜ groups + 3 * count ≤ length (now work) ⌝ }
+    requires { ⌜ ((g : ℕ) → g < count → Handed regions index (now work) (groups + 3 * g)) ⌝ }
+    requires { ⌜ ((g : ℕ) → g < count → Small (now work) (groups + 3 * g)) ⌝ }
+    requires { ⌜ at + length (spotsOf first (sizesAt regions groups count (now work))) ≤ length (now out) ⌝ }
+    requires { ⌜ first + total (sizesAt regions groups count (now work)) < 4294967296 ⌝ }
+    ensures { λ r. ⌜ Spotted at first (sizesAt regions groups count (now (work .entry))) (now (out .entry)) (now (out .exit)) (r .at) (r .next) ⌝ }
+{
+    let mut p = at;
+    let mut next = first;
+    let mut g: usize = 0;
+    while g < count {
+        let s = write_group_spots(out, p, next, work, regions, groups + 3 * g, index);
+        p = s.at;
+        next = s.next;
+        g += 1;
+    }
+    Spot { at: p, next }
+}
