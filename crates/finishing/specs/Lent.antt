@@ -1,4 +1,4 @@
--- What the private functions of a build ask and leave. Assumes nothing.
+-- What the functions that finish a build ask and leave. Assumes nothing.
 use mathlib.Core.Path.{_≡_}
 use mathlib.Core.List.{List, [], _∷_}
 use Prim.Native.Nat.{ℕ, _+_, _-_, _*_, _≤_, _<_}
