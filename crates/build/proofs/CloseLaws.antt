@@ -17,11 +17,11 @@ use Rattle.encoder.specs.Lent.{Fit, PackedAt, OwnAt}
 use Rattle.encoder.specs.Arranged.{tablesOf, JoinFit, RegroupFit, JoinedGroups}
 use Rattle.encoder.proofs.ReadyLaws.{idle}
 use Rattle.store.specs.Lent as store
-use Rattle.build.specs.declared.answers.Built.{Built}
-use Rattle.build.specs.declared.answers.Built.the-variants.{Refused}
+use Rattle.finishing.specs.declared.answers.Built.{Built}
+use Rattle.finishing.specs.declared.answers.Built.the-variants.{Refused}
 use Rattle.build.specs.declared.opening.Stage.{Stage}
 use Rattle.build.specs.Build.{coordsOf, packedOf}
-use Rattle.build.specs.Lent.{FinishFit, Finished, lengths}
+use Rattle.finishing.specs.Lent.{FinishFit, Finished, lengths}
 use Rattle.build.specs.Collected.{Collected, RecordsBuilt}
 use Rattle.build.specs.Opened.{Grouped, Read, OpenedAt, Joined, SettleFit, CloseFit, Whole, Closed}
 use Rattle.build.proofs.PackLaws.{pack-full, shared-fit, shared-done, own-fit, own-done, none-own}

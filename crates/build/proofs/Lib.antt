@@ -1,8 +1,4 @@
-pub mod StoreLaws
 pub mod CoordLaws
-pub mod LoopLaws
-pub mod WordsLaws
-pub mod FinishLaws
 pub mod StartLaws
 pub mod NoneLaws
 pub mod PackLaws

@@ -21,7 +21,7 @@ use Rattle.store.specs.Placing.{Final, allRuns, names, keptOf, newIndex, listOf
 use Rattle.store.proofs.RegionLaws.{kept-most}
 use Rattle.readback.proofs.StoreBack.{list-is, from-list, axis-count, regions-are, header-good}
 use Rattle.encoder.specs.Packed.{Packed}
-use Rattle.build.specs.Late.{storeFor}
+use Rattle.finishing.specs.Late.{storeFor}
 use Rattle.build.proofs.RowsBack.{coords-long}
 
 pub record ListBack (axes regions : ℕ) (coords : List (List ℕ)) (k : Packed) : Type 0 where

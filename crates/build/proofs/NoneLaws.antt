@@ -16,9 +16,9 @@ use Rattle.encoder.specs.declared.places.Places.{Places}
 use Rattle.encoder.specs.declared.encoded.Encoded.{Encoded}
 use Rattle.encoder.specs.Packed.{Packed, own, oneCost}
 use Rattle.encoder.specs.Lent.{relabel, groupAt, FinalIn, PackedAt}
-use Rattle.build.specs.declared.answers.Built.{Built}
-use Rattle.build.specs.Late as late
-use Rattle.build.specs.Lent.{FinishFit, Finished}
+use Rattle.finishing.specs.declared.answers.Built.{Built}
+use Rattle.finishing.specs.Late as late
+use Rattle.finishing.specs.Lent.{FinishFit, Finished}
 use Rattle.build.specs.Opened.{noPlaces}
 
 abbrev one-null : Encoded

@@ -35,11 +35,11 @@ use Rattle.encoder.specs.Places.{Laid}
 use Rattle.encoder.specs.Lent.{Fit, PackedAt, OwnAt}
 use Rattle.encoder.specs.Arranged.{JoinedGroups}
 use Rattle.encoder.proofs.DenseIds.{ids-length, ids-below}
-use Rattle.build.specs.declared.answers.Built.{Built}
-use Rattle.build.specs.declared.answers.Built.the-variants.{Refused}
-use Rattle.build.specs.Late.{Lengths, lateNo, lateAnswer, ifDone, outLeft, idsLeft, mapLeft, logLeft}
+use Rattle.finishing.specs.declared.answers.Built.{Built}
+use Rattle.finishing.specs.declared.answers.Built.the-variants.{Refused}
+use Rattle.finishing.specs.Late.{Lengths, lateNo, lateAnswer, ifDone, outLeft, idsLeft, mapLeft, logLeft}
 use Rattle.build.specs.Build.{coordsOf, packedOf}
-use Rattle.build.specs.Lent.{FinishFit, Finished}
+use Rattle.finishing.specs.Lent.{FinishFit, Finished}
 use Rattle.build.specs.Collected.{Collected}
 
 -- ---- fewer merges than groups, and ids below their count

@@ -22,11 +22,11 @@ use Rattle.said.proofs.SaidLaws.{Counts, counts, room-of, no-use}
 use Rattle.encoder.specs.declared.places.Places.{Places}
 use Rattle.encoder.specs.Places.{PlacesAt}
 use Rattle.encoder.proofs.PlacesLaws.{laid}
-use Rattle.build.specs.declared.answers.Built.{Built}
-use Rattle.build.specs.declared.answers.Built.the-variants.{Refused}
-use Rattle.build.specs.Late.{Lengths}
+use Rattle.finishing.specs.declared.answers.Built.{Built}
+use Rattle.finishing.specs.declared.answers.Built.the-variants.{Refused}
+use Rattle.finishing.specs.Late.{Lengths}
 use Rattle.build.specs.Build.{regionBytes, coordsOf, packedOf, answerFrom, answerOf, leftFrom, outAfter, idsAfter, mapAfter, logAfter}
-use Rattle.build.specs.Lent.{Finished, lengths}
+use Rattle.finishing.specs.Lent.{Finished, lengths}
 use Rattle.build.specs.Collected.{StartsAt, Collected, RecordsBuilt}
 use Rattle.build.specs.Opened.{Whole}
 use Rattle.build.proofs.CoordLaws.{coords-are}

@@ -36,7 +36,7 @@ use Rattle.store.specs.Lent.{stored}
 use Rattle.readback.proofs.MapBack.{map-at}
 use Rattle.readback.proofs.StoreBack.{Sound, index-less, store-none, store-value, store-back}
 use Rattle.encoder.specs.Packed.{Packed}
-use Rattle.build.specs.Late.{storeFor}
+use Rattle.finishing.specs.Late.{storeFor}
 use Rattle.build.proofs.PackedLaws.{Good, word-same}
 use Rattle.build.proofs.RunSound.{Spot, runs-sound, id-spot, ids-once}
 

@@ -23,8 +23,8 @@ use Rattle.store.proofs.PlacedLaws.{sub-length}
 use Rattle.store.proofs.SizeLaws.{runs-few}
 use Rattle.readback.proofs.StoreBack.{store-long}
 use Rattle.encoder.specs.Packed.{Packed}
-use Rattle.build.specs.Late.{storeFor}
-use Rattle.build.proofs.StoreLaws.{row-most, table-most}
+use Rattle.finishing.specs.Late.{storeFor}
+use Rattle.finishing.proofs.StoreLaws.{row-most, table-most}
 use Rattle.build.proofs.PackedLaws.{rowIds, Good, rows-most}
 use Rattle.build.proofs.RunSound.{runs-rows, runs-sound}
 use Rattle.build.proofs.RowsBack.{coords-long, RowsBack, rows-back}

@@ -8,9 +8,9 @@ use Rattle.laws.specs.Bytes.{bytesOf}
 use Rattle.said.specs.Sets.{Region}
 use Rattle.said.specs.Job.{Said, Outcome, refused, fine, outcome}
 use Rattle.encoder.specs.Packed.{Packed, shared, own}
-use Rattle.build.specs.declared.answers.Built.{Built}
-use Rattle.build.specs.declared.answers.Built.the-variants.{Refused}
-use Rattle.build.specs.Late.{Lengths, lateAnswer, outLeft, idsLeft, mapLeft, logLeft}
+use Rattle.finishing.specs.declared.answers.Built.{Built}
+use Rattle.finishing.specs.declared.answers.Built.the-variants.{Refused}
+use Rattle.finishing.specs.Late.{Lengths, lateAnswer, outLeft, idsLeft, mapLeft, logLeft}
 
 -- "then start, peak, end per axis": two bytes each
 unfoldable pub regionBytes : Region → List ℕ

@@ -9,9 +9,9 @@ use Rattle.store.specs.Lent as store
 use Rattle.said.specs.Job.{Said, Outcome}
 use Rattle.encoder.specs.Lent.{Fit}
 use Rattle.encoder.specs.declared.places.Places.{Places}
-use Rattle.build.specs.declared.answers.Built.{Built}
-use Rattle.build.specs.Late.{outLeft, idsLeft, mapLeft, logLeft}
-use Rattle.build.specs.Lent.{lengths}
+use Rattle.finishing.specs.declared.answers.Built.{Built}
+use Rattle.finishing.specs.Late.{outLeft, idsLeft, mapLeft, logLeft}
+use Rattle.finishing.specs.Lent.{lengths}
 use Rattle.build.specs.Build.{coordsOf, packedOf, answerFrom, leftFrom}
 
 -- n words from `at` on were numbers of regions, and are where in the job the coordinates of these start

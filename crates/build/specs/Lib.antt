@@ -1,5 +1,3 @@
-pub mod Late
 pub mod Build
-pub mod Lent
 pub mod Collected
 pub mod Opened

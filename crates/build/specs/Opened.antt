@@ -12,10 +12,10 @@ use Rattle.said.specs.Job.{Said, Outcome, refused, fine, inAxes, walk}
 use Rattle.job.specs.Check.{workLeft}
 use Rattle.encoder.specs.declared.places.Places.{Places}
 use Rattle.encoder.specs.Arranged.{tablesOf, JoinFit}
-use Rattle.build.specs.declared.answers.Built.{Built}
+use Rattle.finishing.specs.declared.answers.Built.{Built}
 use Rattle.build.specs.declared.opening.Stage.{Stage}
 use Rattle.build.specs.Build.{answerOf, outAfter, idsAfter, mapAfter, logAfter}
-use Rattle.build.specs.Lent.{lengths}
+use Rattle.finishing.specs.Lent.{lengths}
 use Rattle.build.specs.Collected.{Collected}
 
 -- no tables

@@ -1,14 +1,14 @@
 // One build call: it checks a job, refuses it or builds, with lent memory only.
-use crate::answers::Built;
 use crate::closing::close;
 use crate::opening::open;
 use encoder::tables;
+use finishing::Built;
 use merging::optimize;
 ghost use mathlib.Core.Path.{_≡_};
 ghost use lib.ListN.{length};
 ghost use Rattle.job.specs.Check.{workLeft};
 ghost use Rattle.build.specs.Build.{answerOf, outAfter, idsAfter, mapAfter, logAfter};
-ghost use Rattle.build.specs.Lent.{lengths};
+ghost use Rattle.finishing.specs.Lent.{lengths};
 
 // Takes every job, sound or not.
 pub fn build(

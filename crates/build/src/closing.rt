@@ -1,11 +1,11 @@
 // The last part of a build, once merging is over: what is left of the groups arranged, and everything written or refused.
-use crate::answers::Built;
-use crate::finishing::finish;
 use crate::opening::Stage;
 use crate::opening::nowhere;
 use encoder::Encoded;
 use encoder::own;
 use encoder::regroup;
+use finishing::Built;
+use finishing::finish;
 use job::clear;
 use laws::wide;
 use merging::Merged;
@@ -15,7 +15,7 @@ ghost use Prim.Native.Nat.{ℕ, _≤_};
 ghost use lib.ListN.{length};
 ghost use Rattle.said.specs.Job.{Outcome};
 ghost use Rattle.encoder.specs.Packed.{own};
-ghost use Rattle.build.specs.Lent.{Finished, lengths};
+ghost use Rattle.finishing.specs.Lent.{Finished, lengths};
 ghost use Rattle.build.specs.Collected.{RecordsBuilt};
 ghost use Rattle.build.specs.Opened.{Read, OpenedAt, Joined, SettleFit, CloseFit, Closed};
 

@@ -8,23 +8,10 @@ use crate::showing::show;
 use crate::showing::show_bytes;
 use crate::showing::show_words;
 use crate::showing::show_work;
+use lines::Place;
+use lines::more;
+use lines::start;
 ghost use Prim.Native.Nat.{_≤_};
-
-fn nibble(b: u8) -> u8
-    ensures { λ r. ⌜ r ≤ 16 ⌝ }
-{
-    if b >= b'0' {
-        if b <= b'9' {
-            return b - b'0';
-        }
-    }
-    if b >= b'a' {
-        if b <= b'f' {
-            return (b - b'a') + 10;
-        }
-    }
-    16
-}
 
 fn wide(x: u8) -> u32 {
     x as u32
@@ -103,73 +90,13 @@ fn answer(case: &[u8], n: usize) {
     );
 }
 
-// How far the text is read: the bytes of the case so far, the first half of the next one (16 for none), and whether a '#' was seen.
-struct Place {
-    n: usize,
-    half: u8,
-    told: bool,
-}
-
-fn start() -> Place {
-    Place {
-        n: 0,
-        half: 16,
-        told: false,
-    }
-}
-
-// One digit more.
-fn digit(case: &mut [u8; 4096], n: usize, half: u8, x: u8) -> Place
-    requires { ⌜ x ≤ 16 ⌝ }
-{
-    if x == 16 {
-        return Place {
-            n,
-            half,
-            told: false,
-        };
-    }
-    if half >= 16 {
-        return Place {
-            n,
-            half: x,
-            told: false,
-        };
-    }
-    if n < 4096 {
-        case[n] = half * 16 + x;
-        return Place {
-            n: n + 1,
-            half: 16,
-            told: false,
-        };
-    }
-    Place {
-        n,
-        half,
-        told: false,
-    }
-}
-
 fn step(case: &mut [u8; 4096], at: Place, b: u8) -> Place {
     let n = at.n;
     if b == b'\n' {
         answer(case, n);
         return start();
     }
-    let told = at.told;
-    if told {
-        return at;
-    }
-    let half = at.half;
-    if b == b'#' {
-        return Place {
-            n,
-            half,
-            told: true,
-        };
-    }
-    digit(case, n, half, nibble(b))
+    more(case, at, b)
 }
 
 fn main() {

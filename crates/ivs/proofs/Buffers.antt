@@ -12,10 +12,10 @@ use Rattle.laws.specs.Pick.{pick}
 use Rattle.said.specs.Refusals.{earlyNo}
 use Rattle.said.specs.Job.{Said, Outcome, refused, fine, outcome}
 use Rattle.job.specs.Check.{workLeft}
-use Rattle.build.specs.declared.answers.Report.{Report}
-use Rattle.build.specs.declared.answers.Built.{Built}
-use Rattle.build.specs.declared.answers.Built.the-variants.{Refused, Done}
-use Rattle.build.specs.Late.{Lengths, lateNo, ifDone, outLeft, idsLeft, mapLeft, logLeft}
+use Rattle.finishing.specs.declared.answers.Report.{Report}
+use Rattle.finishing.specs.declared.answers.Built.{Built}
+use Rattle.finishing.specs.declared.answers.Built.the-variants.{Refused, Done}
+use Rattle.finishing.specs.Late.{Lengths, lateNo, ifDone, outLeft, idsLeft, mapLeft, logLeft}
 use Rattle.build.specs.Build.{coordsOf, packedOf, answerOf, leftFrom, outAfter, idsAfter, mapAfter, logAfter}
 use Rattle.ivs.proofs.OutcomeRows.{early, outcome-by, outcome-walked, walk-no, early-few, walked-only, job-only, late-many, late, Answers, answers}
 use Rattle.ivs.proofs.OutcomeRows.Answers.{by-job, by-late, done}

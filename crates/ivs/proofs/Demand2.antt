@@ -25,9 +25,9 @@ use Rattle.said.specs.Job.{Said, fine, outcome}
 use Rattle.said.proofs.SoundLaws.{Bytes}
 use Rattle.encoder.specs.Packed.{Packed, shared, own}
 use Rattle.encoder.proofs.DenseIds.{ids-length}
-use Rattle.build.specs.declared.answers.Report.{Report}
-use Rattle.build.specs.declared.answers.Built.the-variants.{Done}
-use Rattle.build.specs.Late.{Lengths, storeFor, reportOf}
+use Rattle.finishing.specs.declared.answers.Report.{Report}
+use Rattle.finishing.specs.declared.answers.Built.the-variants.{Done}
+use Rattle.finishing.specs.Late.{Lengths, storeFor, reportOf}
 use Rattle.build.specs.Build.{coordsOf, packedOf, answerOf, outAfter, idsAfter, mapAfter}
 use Rattle.build.proofs.RowsBack.{RowOf, Listed}
 use Rattle.build.proofs.ReadBack.{Sized, GivesBack, shared-back, own-back}

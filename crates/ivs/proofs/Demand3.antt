@@ -24,9 +24,9 @@ use Rattle.rule.proofs.Origins.{homes, one-home, Made, made}
 use Rattle.store.specs.Placing.{allRuns, storeOf}
 use Rattle.said.specs.Job.{Said, fine, outcome}
 use Rattle.encoder.specs.Packed.{Packed, shared, own, isAhead, finalOf, finalsOf, oneCost}
-use Rattle.build.specs.declared.answers.Report.{Report}
-use Rattle.build.specs.declared.answers.Built.the-variants.{Done}
-use Rattle.build.specs.Late.{Lengths, storeFor, reportOf}
+use Rattle.finishing.specs.declared.answers.Report.{Report}
+use Rattle.finishing.specs.declared.answers.Built.the-variants.{Done}
+use Rattle.finishing.specs.Late.{Lengths, storeFor, reportOf}
 use Rattle.build.specs.Build.{coordsOf, packedOf, answerOf, outAfter, logAfter}
 use Rattle.ivs.proofs.Accepted.{Accepted, accepted, out-done, log-done}
 use Rattle.ivs.proofs.Demand2.{over-front}

@@ -12,8 +12,8 @@ use borrow.Author.Tests.{eq-eqb, ne-eqb}
 use Rattle.laws.specs.Pick.{pick}
 use Rattle.laws.proofs.Cases.{same-or-not}
 use Rattle.said.specs.Job.{Said, State, inAxes, inSets, regionsOnly, Outcome, refused, fine, ended, endedSets, walk, outcome}
-use Rattle.build.specs.declared.answers.Built.the-variants.{Refused}
-use Rattle.build.specs.Late.{Lengths}
+use Rattle.finishing.specs.declared.answers.Built.the-variants.{Refused}
+use Rattle.finishing.specs.Late.{Lengths}
 use Rattle.build.specs.Build.{answerOf}
 use Rattle.ivs.specs.Exactly.{Exactly}
 use Rattle.ivs.specs.Passing.{Passed, EndsAs, saidAt}

@@ -34,11 +34,11 @@ use Rattle.said.specs.Sets as said
 use Rattle.said.specs.Job as job
 use Rattle.job.specs.Check.{workLeft}
 use Rattle.encoder.specs.Packed as packed
-use Rattle.build.specs.declared.answers.Report.{Report}
-use Rattle.build.specs.declared.answers.Built.{Built}
-use Rattle.build.specs.declared.answers.Built.the-variants.{Done}
-use Rattle.build.specs.Late.{storeFor, regionsKept, lateNo, reportOf, lateAnswer, ifDone, outLeft, idsLeft, mapLeft, logLeft}
-use Rattle.build.specs.Lent.{lengths}
+use Rattle.finishing.specs.declared.answers.Report.{Report}
+use Rattle.finishing.specs.declared.answers.Built.{Built}
+use Rattle.finishing.specs.declared.answers.Built.the-variants.{Done}
+use Rattle.finishing.specs.Late.{storeFor, regionsKept, lateNo, reportOf, lateAnswer, ifDone, outLeft, idsLeft, mapLeft, logLeft}
+use Rattle.finishing.specs.Lent.{lengths}
 use Rattle.build.specs.Build.{regionBytes, coordsOf, packedOf, answerFrom, answerOf, leftFrom, outAfter, idsAfter, mapAfter, logAfter}
 
 -- ---- jobs of one axis, with R0 and R1: in each set a region number and a value for each value record

@@ -16,10 +16,10 @@ use Rattle.said.specs.Refusals.{firstFailed}
 use Rattle.said.specs.Job.{Said, outcome, fine}
 use Rattle.encoder.specs.Packed.{Packed, shared, own}
 use Rattle.encoder.proofs.DenseIds.{ids-length}
-use Rattle.build.specs.declared.answers.Report.{Report}
-use Rattle.build.specs.declared.answers.Built.{Built}
-use Rattle.build.specs.declared.answers.Built.the-variants.{Refused, Done}
-use Rattle.build.specs.Late.{Lengths, lateNo, storeFor, reportOf}
+use Rattle.finishing.specs.declared.answers.Report.{Report}
+use Rattle.finishing.specs.declared.answers.Built.{Built}
+use Rattle.finishing.specs.declared.answers.Built.the-variants.{Refused, Done}
+use Rattle.finishing.specs.Late.{Lengths, lateNo, storeFor, reportOf}
 use Rattle.build.specs.Build.{coordsOf, packedOf, answerOf}
 use Rattle.ivs.specs.Exactly.{Exactly}
 use Rattle.ivs.specs.Rooms.{Accepted, shapeCount, endRecords, distinctIds, storeBytes, ShapesFit, IdsFit, MapFit, LogFit, OutFit}

@@ -12,9 +12,9 @@ use Rattle.laws.specs.Pick.{pick}
 use Rattle.laws.proofs.Cases.{same-or-not}
 use Rattle.said.specs.Refusals.{firstFailed, earlyNo}
 use Rattle.said.specs.Job.{Said, State, inAxes, inSets, step, Outcome, refused, fine, ended, endedSets, walk, outcome, outcomeFrom}
-use Rattle.build.specs.declared.answers.Built.{Built}
-use Rattle.build.specs.declared.answers.Built.the-variants.{Refused, Done}
-use Rattle.build.specs.Late.{Lengths, lateNo, lateAnswer, reportOf}
+use Rattle.finishing.specs.declared.answers.Built.{Built}
+use Rattle.finishing.specs.declared.answers.Built.the-variants.{Refused, Done}
+use Rattle.finishing.specs.Late.{Lengths, lateNo, lateAnswer, reportOf}
 use Rattle.build.specs.Build.{coordsOf, packedOf, answerFrom, answerOf}
 use Rattle.ivs.specs.Exactly.{Exactly}
 use Rattle.ivs.specs.Passing.{recordAt, StopsAt, EndsAs}

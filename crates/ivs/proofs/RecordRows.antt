@@ -11,8 +11,8 @@ use Rattle.said.specs.Records.{kind, regionOf, valueZeros}
 use Rattle.said.specs.Refusals.{axisNo}
 use Rattle.said.specs.Sets.{Region, firstLike}
 use Rattle.said.specs.Job.{Said, State, inAxes, stop, valueStep, endStep, step, refused}
-use Rattle.build.specs.declared.answers.Built.the-variants.{Refused}
-use Rattle.build.specs.Late.{Lengths}
+use Rattle.finishing.specs.declared.answers.Built.the-variants.{Refused}
+use Rattle.finishing.specs.Late.{Lengths}
 use Rattle.build.specs.Build.{answerOf}
 use Rattle.ivs.specs.Exactly.{Exactly}
 use Rattle.ivs.specs.Passing.{recordAt, Passed, saidAt, Whole}

@@ -2,7 +2,7 @@
 use mathlib.Core.Path.{_≡_, sym, _∙_}
 use mathlib.Core.List.{List}
 use Prim.Native.Nat.{ℕ}
-use Rattle.build.specs.declared.answers.Built.{Built}
+use Rattle.finishing.specs.declared.answers.Built.{Built}
 use Rattle.ivs.specs.Obeys.{BuildObeys, SameResult}
 
 pub unique : {axes mode : ℕ} {job work out ids map log : List ℕ} {r s : Built} {out₁ ids₁ map₁ log₁ work₁ out₂ ids₂ map₂ log₂ work₂ : List ℕ}

@@ -5,9 +5,9 @@ use lib.ListN.{set}
 use Rattle.laws.specs.Signed.{twos}
 use Rattle.reader.specs.declared.reader.Reading.{Reading}
 use Rattle.reader.specs.declared.reader.Reading.the-variants.{Written, NoColumn, Refused}
-use Rattle.build.specs.declared.answers.Report.{Report}
-use Rattle.build.specs.declared.answers.Built.{Built}
-use Rattle.build.specs.declared.answers.Built.the-variants as built
+use Rattle.finishing.specs.declared.answers.Report.{Report}
+use Rattle.finishing.specs.declared.answers.Built.{Built}
+use Rattle.finishing.specs.declared.answers.Built.the-variants as built
 
 -- of reading one value: the high half is 0 for written, 1 for no column, else the refusal number; the low half is the value's 32 bits
 unfoldable pub readWord : Reading → ℕ

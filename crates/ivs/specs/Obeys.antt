@@ -4,9 +4,9 @@ use mathlib.Core.List.{List}
 use Prim.Native.Nat.{ℕ}
 use lib.ListN.{length}
 use Rattle.job.specs.Check.{workLeft}
-use Rattle.build.specs.declared.answers.Built.{Built}
+use Rattle.finishing.specs.declared.answers.Built.{Built}
 use Rattle.build.specs.Build.{answerOf, outAfter, idsAfter, mapAfter, logAfter}
-use Rattle.build.specs.Lent.{lengths}
+use Rattle.finishing.specs.Lent.{lengths}
 
 -- the answer r; out, ids, map, log and work before, and (with a mark) after
 pub record BuildObeys (axes mode : ℕ) (job work out ids map log : List ℕ) (r : Built) (out′ ids′ map′ log′ work′ : List ℕ) : Type 0 where

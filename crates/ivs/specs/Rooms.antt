@@ -6,7 +6,7 @@ use Prim.Native.Nat.{ℕ, _-_, _*_, _≤_}
 use lib.ListN.{length}
 use Rattle.said.specs.Job.{Said, fine, outcome}
 use Rattle.encoder.specs.Packed.{Packed}
-use Rattle.build.specs.Late.{Lengths, storeFor}
+use Rattle.finishing.specs.Late.{Lengths, storeFor}
 use Rattle.build.specs.Build.{coordsOf, packedOf}
 
 -- the job is sound, and this holds of what it says

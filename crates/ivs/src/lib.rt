@@ -9,7 +9,7 @@ ghost use Rattle.said.specs.Refusals.{workWords};
 ghost use Rattle.reader.specs.Store.{readStore};
 ghost use lib.ListN.{length};
 ghost use Rattle.job.specs.Check.{workLeft};
-ghost use Rattle.build.specs.Lent.{lengths};
+ghost use Rattle.finishing.specs.Lent.{lengths};
 ghost use Rattle.build.specs.Build.{answerOf, outAfter, idsAfter, mapAfter, logAfter};
 ghost use Rattle.ivs.specs.Answers.{readWord, numberOf, reportWords, filled};
 

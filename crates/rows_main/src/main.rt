@@ -1,23 +1,9 @@
 // Reads a list of stores from standard input, damaged ones among them, and writes what the reader answers for each. A case is a line of
 // hexadecimal bytes: outer, inner, region, then the store. Blanks are skipped, and so is the rest of a line from a '#' on.
+use lines::Place;
+use lines::more;
+use lines::start;
 use reader::Reading;
-ghost use Prim.Native.Nat.{_≤_};
-
-fn nibble(b: u8) -> u8
-    ensures { λ r. ⌜ r ≤ 16 ⌝ }
-{
-    if b >= b'0' {
-        if b <= b'9' {
-            return b - b'0';
-        }
-    }
-    if b >= b'a' {
-        if b <= b'f' {
-            return (b - b'a') + 10;
-        }
-    }
-    16
-}
 
 // How far a number is from zero.
 fn size(v: i32) -> u64 {
@@ -64,73 +50,13 @@ fn answer(case: &[u8], n: usize) {
     show(reader::read(&case[3..n], wide(case[0]), wide(case[1]), wide(case[2])));
 }
 
-// How far the text is read: the bytes of the case so far, the first half of the next one (16 for none), and whether a '#' was seen.
-struct Place {
-    n: usize,
-    half: u8,
-    told: bool,
-}
-
-fn start() -> Place {
-    Place {
-        n: 0,
-        half: 16,
-        told: false,
-    }
-}
-
-// One digit more.
-fn digit(case: &mut [u8; 4096], n: usize, half: u8, x: u8) -> Place
-    requires { ⌜ x ≤ 16 ⌝ }
-{
-    if x == 16 {
-        return Place {
-            n,
-            half,
-            told: false,
-        };
-    }
-    if half >= 16 {
-        return Place {
-            n,
-            half: x,
-            told: false,
-        };
-    }
-    if n < 4096 {
-        case[n] = half * 16 + x;
-        return Place {
-            n: n + 1,
-            half: 16,
-            told: false,
-        };
-    }
-    Place {
-        n,
-        half,
-        told: false,
-    }
-}
-
 fn step(case: &mut [u8; 4096], at: Place, b: u8) -> Place {
     let n = at.n;
     if b == b'\n' {
         answer(case, n);
         return start();
     }
-    let told = at.told;
-    if told {
-        return at;
-    }
-    let half = at.half;
-    if b == b'#' {
-        return Place {
-            n,
-            half,
-            told: true,
-        };
-    }
-    digit(case, n, half, nibble(b))
+    more(case, at, b)
 }
 
 fn main() {

@@ -5,7 +5,7 @@ use Rattle.build.proofs.closing.finish_none.Statement.{statement}
 use Rattle.build.proofs.closing.finish_none.Tie as tie
 use Rattle.build.proofs.closing.finish_none.Reads as reads
 use Rattle.build.proofs.closing.finish_none.Lts as lts
-use Rattle.build.proofs.finishing.finish.Reads as finish-reads
+use Rattle.finishing.proofs.finish.Reads as finish-reads
 use Rattle.build.proofs.opening.nowhere.Reads as nowhere-reads
 
 array-write-null : tie.Need-array-write-null

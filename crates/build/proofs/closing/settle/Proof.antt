@@ -6,7 +6,7 @@ use Rattle.build.proofs.closing.settle.Tie as tie
 use Rattle.build.proofs.closing.settle.Reads as reads
 use Rattle.build.proofs.closing.settle.Lts as lts
 use Rattle.build.proofs.closing.finish_none.Reads as finish-none-reads
-use Rattle.build.proofs.finishing.finish.Reads as finish-reads
+use Rattle.finishing.proofs.finish.Reads as finish-reads
 use Rattle.encoder.proofs.own.Reads as own-reads
 use Rattle.encoder.proofs.regroup.Reads as regroup-reads
 

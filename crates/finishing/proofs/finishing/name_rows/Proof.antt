@@ -1,10 +1,10 @@
 use Prim.Native.Nat.{_+_, _-_, _≤_}
-use Rattle.build.proofs.LoopLaws.{Naming, naming-start, naming-some, naming-none, naming-done}
+use Rattle.finishing.proofs.LoopLaws.{Naming, naming-start, naming-some, naming-none, naming-done}
 use native.Mathlib.Omega.{arith}
-use Rattle.build.proofs.finishing.name_rows.Statement.{statement}
-use Rattle.build.proofs.finishing.name_rows.Tie as tie
-use Rattle.build.proofs.finishing.name_rows.Reads as reads
-use Rattle.build.proofs.finishing.name_rows.Lts as lts
+use Rattle.finishing.proofs.finishing.name_rows.Statement.{statement}
+use Rattle.finishing.proofs.finishing.name_rows.Tie as tie
+use Rattle.finishing.proofs.finishing.name_rows.Reads as reads
+use Rattle.finishing.proofs.finishing.name_rows.Lts as lts
 
 abbrev Inv-loop : tie.InvT-loop
 Inv-loop work₀ rows n ids q₀ work q = (q ≤ n) × Naming rows n ids q work₀ work

@@ -4,12 +4,12 @@ use denote.Ref.{now}
 use lib.ListN.{length}
 use Rattle.laws.specs.Bytes.{over}
 use Rattle.laws.specs.Range.{seg}
-use Rattle.build.proofs.LoopLaws.{copy-start, copy-long, copy-more, copy-done}
+use Rattle.finishing.proofs.LoopLaws.{copy-start, copy-long, copy-more, copy-done}
 use native.Mathlib.Omega.{arith}
-use Rattle.build.proofs.finishing.copy_words.Statement.{statement}
-use Rattle.build.proofs.finishing.copy_words.Tie as tie
-use Rattle.build.proofs.finishing.copy_words.Reads as reads
-use Rattle.build.proofs.finishing.copy_words.Lts as lts
+use Rattle.finishing.proofs.finishing.copy_words.Statement.{statement}
+use Rattle.finishing.proofs.finishing.copy_words.Tie as tie
+use Rattle.finishing.proofs.finishing.copy_words.Reads as reads
+use Rattle.finishing.proofs.finishing.copy_words.Lts as lts
 
 abbrev Inv-loop : tie.InvT-loop
 Inv-loop work from n to₀ i₀ to i = (i ≤ n) × (length to ≡ length to₀) × (to ≡ over to₀ 0 i (seg from i work))

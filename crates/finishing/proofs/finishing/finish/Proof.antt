@@ -1,14 +1,14 @@
-use Rattle.build.proofs.WordsLaws.{groups-to, handed, small}
-use Rattle.build.proofs.FinishLaws.{words-fit, log-fits, kept-few, plan, room, refused-as, done-as}
+use Rattle.finishing.proofs.WordsLaws.{groups-to, handed, small}
+use Rattle.finishing.proofs.FinishLaws.{words-fit, log-fits, kept-few, plan, room, refused-as, done-as}
 use borrow.Author.Needs.{needs}
-use Rattle.build.proofs.finishing.finish.Statement.{statement}
-use Rattle.build.proofs.finishing.finish.Tie as tie
-use Rattle.build.proofs.finishing.finish.Reads as reads
-use Rattle.build.proofs.finishing.finish.Lts as lts
-use Rattle.build.proofs.finishing.report.Reads as report-reads
-use Rattle.build.proofs.finishing.short_no.Reads as short-no-reads
-use Rattle.build.proofs.finishing.write_out.Reads as write-out-reads
-use Rattle.build.proofs.finishing.write_words.Reads as write-words-reads
+use Rattle.finishing.proofs.finishing.finish.Statement.{statement}
+use Rattle.finishing.proofs.finishing.finish.Tie as tie
+use Rattle.finishing.proofs.finishing.finish.Reads as reads
+use Rattle.finishing.proofs.finishing.finish.Lts as lts
+use Rattle.finishing.proofs.finishing.report.Reads as report-reads
+use Rattle.finishing.proofs.finishing.short_no.Reads as short-no-reads
+use Rattle.finishing.proofs.finishing.write_out.Reads as write-out-reads
+use Rattle.finishing.proofs.finishing.write_words.Reads as write-words-reads
 use Rattle.planning.proofs.draft.Reads as draft-reads
 
 slice-aggregate-draft : tie.Need-slice-aggregate-draft

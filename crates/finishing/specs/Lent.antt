@@ -1,4 +1,4 @@
--- What the private functions of a build ask and leave. Assumes nothing.
+-- What the functions that finish a build ask and leave. Assumes nothing.
 use mathlib.Core.Path.{_≡_}
 use mathlib.Core.List.{List, [], _∷_}
 use Prim.Native.Nat.{ℕ, _+_, _-_, _*_, _≤_, _<_}
@@ -14,9 +14,9 @@ use Rattle.encoder.specs.Packed.{Packed}
 use Rattle.encoder.specs.Lent.{PackedAt, relabel}
 use Rattle.encoder.specs.declared.places.Places.{Places}
 use Rattle.encoder.specs.declared.encoded.Encoded.{Encoded}
-use Rattle.build.specs.declared.answers.Report.{Report}
-use Rattle.build.specs.declared.answers.Built.{Built}
-use Rattle.build.specs.Late.{Lengths, lateAnswer, outLeft, idsLeft, mapLeft, logLeft}
+use Rattle.finishing.specs.declared.answers.Report.{Report}
+use Rattle.finishing.specs.declared.answers.Built.{Built}
+use Rattle.finishing.specs.Late.{Lengths, lateAnswer, outLeft, idsLeft, mapLeft, logLeft}
 
 -- sets are packed in work, and from `starts` on stands for each region where in the job its coordinates start
 pub record FinishFit (axes starts : ℕ) (job : List ℕ) (p : Places) (e : Encoded) (w : List ℕ) : Type 0 where

@@ -1,12 +1,12 @@
-use Rattle.build.proofs.WordsLaws.{groups-to, long-named, handed-named, small-named, below-named, words-done}
+use Rattle.finishing.proofs.WordsLaws.{groups-to, long-named, handed-named, small-named, below-named, words-done}
 use native.Mathlib.Omega.{arith}
 use borrow.Author.Needs.{needs}
-use Rattle.build.proofs.finishing.write_words.Statement.{statement}
-use Rattle.build.proofs.finishing.write_words.Tie as tie
-use Rattle.build.proofs.finishing.write_words.Reads as reads
-use Rattle.build.proofs.finishing.write_words.Lts as lts
-use Rattle.build.proofs.finishing.copy_words.Reads as copy-words-reads
-use Rattle.build.proofs.finishing.name_rows.Reads as name-rows-reads
+use Rattle.finishing.proofs.finishing.write_words.Statement.{statement}
+use Rattle.finishing.proofs.finishing.write_words.Tie as tie
+use Rattle.finishing.proofs.finishing.write_words.Reads as reads
+use Rattle.finishing.proofs.finishing.write_words.Lts as lts
+use Rattle.finishing.proofs.finishing.copy_words.Reads as copy-words-reads
+use Rattle.finishing.proofs.finishing.name_rows.Reads as name-rows-reads
 use Rattle.writing.proofs.write_map.Reads as write-map-reads
 
 copy-words-requires : tie.Need-copy-words-requires

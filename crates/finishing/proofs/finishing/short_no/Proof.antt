@@ -1,10 +1,10 @@
-use Rattle.build.proofs.LoopLaws.{ids-short, map-short, log-short, out-short, none-short}
+use Rattle.finishing.proofs.LoopLaws.{ids-short, map-short, log-short, out-short, none-short}
 use native.Mathlib.Omega.{arith}
 use borrow.Author.Needs.{needs}
-use Rattle.build.proofs.finishing.short_no.Statement.{statement}
-use Rattle.build.proofs.finishing.short_no.Tie as tie
-use Rattle.build.proofs.finishing.short_no.Reads as reads
-use Rattle.build.proofs.finishing.short_no.Lts as lts
+use Rattle.finishing.proofs.finishing.short_no.Statement.{statement}
+use Rattle.finishing.proofs.finishing.short_no.Tie as tie
+use Rattle.finishing.proofs.finishing.short_no.Reads as reads
+use Rattle.finishing.proofs.finishing.short_no.Lts as lts
 use Rattle.encoder.proofs.log_words.Reads as log-words-reads
 
 returns : tie.Need-returns

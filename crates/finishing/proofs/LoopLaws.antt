@@ -14,7 +14,7 @@ use Rattle.laws.proofs.Cases.{lt-or-ge}
 use Rattle.laws.proofs.RangeLaws.{length-seg, seg-none, seg-snoc}
 use Rattle.rows.proofs.OverLaws.{over-none, over-join, set-over}
 use Rattle.said.specs.Refusals.{firstFailed}
-use Rattle.build.specs.Lent.{RowsNamed, RoomFor, shortNo}
+use Rattle.finishing.specs.Lent.{RowsNamed, RoomFor, shortNo}
 
 -- ---- naming rows: those before q are named
 

@@ -16,8 +16,8 @@ use Rattle.store.specs.Lent.{Handed, IdsBelow, Small, finalAt, finalsAt, stored
 use Rattle.encoder.specs.declared.places.Places.{Places}
 use Rattle.encoder.specs.declared.encoded.Encoded.{Encoded}
 use Rattle.encoder.specs.Lent.{relabel}
-use Rattle.build.specs.Lent.{RowsNamed, WordsFit, WordsWritten, reportIn}
-use Rattle.build.proofs.StoreLaws.{finals-named}
+use Rattle.finishing.specs.Lent.{RowsNamed, WordsFit, WordsWritten, reportIn}
+use Rattle.finishing.proofs.StoreLaws.{finals-named}
 
 module _ {p : Places} {e : Encoded} {w : List ℕ} (fit : WordsFit p e w) where
   set-in : (x : ℕ) → x < p .sets → Stored 0 w x

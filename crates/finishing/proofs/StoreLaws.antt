@@ -43,7 +43,7 @@ use Rattle.encoder.specs.declared.places.Places.{Places}
 use Rattle.encoder.specs.declared.encoded.Encoded.{Encoded}
 use Rattle.encoder.specs.Packed.{Packed}
 use Rattle.encoder.specs.Lent.{relabel, groupAt, FinalIn, PackedAt}
-use Rattle.build.specs.Lent.{RowsNamed}
+use Rattle.finishing.specs.Lent.{RowsNamed}
 
 -- ---- sets in work, by either definition
 

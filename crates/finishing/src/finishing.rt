@@ -17,7 +17,7 @@ ghost use Rattle.laws.specs.Bytes.{over};
 ghost use Rattle.store.specs.Lent.{Planned, coordsOf};
 ghost use Rattle.encoder.specs.Packed.{Packed};
 ghost use Rattle.encoder.specs.Lent.{PackedAt};
-ghost use Rattle.build.specs.Lent.{FinishFit, Finished, RowsNamed, WordsFit, WordsWritten, lengths, reportIn, shortNo, storeIn};
+ghost use Rattle.finishing.specs.Lent.{FinishFit, Finished, RowsNamed, WordsFit, WordsWritten, lengths, reportIn, shortNo, storeIn};
 
 // The most regions of a store.
 const REGIONS: usize = 256;

@@ -29,13 +29,13 @@ use Rattle.encoder.specs.declared.places.Places.{Places}
 use Rattle.encoder.specs.declared.encoded.Encoded.{Encoded}
 use Rattle.encoder.specs.Packed.{Packed}
 use Rattle.encoder.specs.Lent.{relabel, PackedAt}
-use Rattle.build.specs.declared.answers.Report.{Report}
-use Rattle.build.specs.declared.answers.Built.the-variants.{Refused, Done}
-use Rattle.build.specs.Late.{Lengths, storeFor, regionsKept, lateNo, reportOf, lateAnswer, ifDone, outLeft, idsLeft, mapLeft, logLeft}
-use Rattle.build.specs.Lent.{FinishFit, Finished, RoomFor, WordsFit, WordsWritten, lengths, reportIn, shortNo, storeIn}
-use Rattle.build.proofs.LoopLaws.{room-for}
-use Rattle.build.proofs.WordsLaws.{groups-to, handed, small}
-use Rattle.build.proofs.StoreLaws.{set-same, runs-count, kept-relabel, forecast-relabel, store-relabel, store-small}
+use Rattle.finishing.specs.declared.answers.Report.{Report}
+use Rattle.finishing.specs.declared.answers.Built.the-variants.{Refused, Done}
+use Rattle.finishing.specs.Late.{Lengths, storeFor, regionsKept, lateNo, reportOf, lateAnswer, ifDone, outLeft, idsLeft, mapLeft, logLeft}
+use Rattle.finishing.specs.Lent.{FinishFit, Finished, RoomFor, WordsFit, WordsWritten, lengths, reportIn, shortNo, storeIn}
+use Rattle.finishing.proofs.LoopLaws.{room-for}
+use Rattle.finishing.proofs.WordsLaws.{groups-to, handed, small}
+use Rattle.finishing.proofs.StoreLaws.{set-same, runs-count, kept-relabel, forecast-relabel, store-relabel, store-small}
 
 all-tabulate : {A : Type 0} (P : A → Type 0) (a n : ℕ) (f : ℕ → A) → ((k : ℕ) → a ≤ k → k < a + n → P (f k)) → All P (tabulate a n f)
 unfolding tabulate

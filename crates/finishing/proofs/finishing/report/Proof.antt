@@ -1,9 +1,9 @@
 use denote.Ref.{now}
-use Rattle.build.proofs.WordsLaws.{groups-to, handed, small, narrow, report-done}
-use Rattle.build.proofs.finishing.report.Statement.{statement}
-use Rattle.build.proofs.finishing.report.Tie as tie
-use Rattle.build.proofs.finishing.report.Reads as reads
-use Rattle.build.proofs.finishing.report.Lts as lts
+use Rattle.finishing.proofs.WordsLaws.{groups-to, handed, small, narrow, report-done}
+use Rattle.finishing.proofs.finishing.report.Statement.{statement}
+use Rattle.finishing.proofs.finishing.report.Tie as tie
+use Rattle.finishing.proofs.finishing.report.Reads as reads
+use Rattle.finishing.proofs.finishing.report.Lts as lts
 use Rattle.planning.proofs.forecast.Reads as forecast-reads
 
 forecast-requires : tie.Need-forecast-requires

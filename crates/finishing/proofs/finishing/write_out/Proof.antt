@@ -1,9 +1,9 @@
-use Rattle.build.proofs.FinishLaws.{ready}
+use Rattle.finishing.proofs.FinishLaws.{ready}
 use borrow.Author.Needs.{needs}
-use Rattle.build.proofs.finishing.write_out.Statement.{statement}
-use Rattle.build.proofs.finishing.write_out.Tie as tie
-use Rattle.build.proofs.finishing.write_out.Reads as reads
-use Rattle.build.proofs.finishing.write_out.Lts as lts
+use Rattle.finishing.proofs.finishing.write_out.Statement.{statement}
+use Rattle.finishing.proofs.finishing.write_out.Tie as tie
+use Rattle.finishing.proofs.finishing.write_out.Reads as reads
+use Rattle.finishing.proofs.finishing.write_out.Lts as lts
 use Rattle.writing.proofs.write_store.Reads as write-store-reads
 
 write-store-requires : tie.Need-write-store-requires

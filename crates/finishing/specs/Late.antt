@@ -12,9 +12,9 @@ use Rattle.store.specs.Placing.{storeOf, allRuns, idWords, keptOf, forecastOf}
 use Rattle.store.specs.Lent.{stored}
 use Rattle.said.specs.Refusals.{firstFailed, shapesFull, idsShort, mapShort, logShort, outShort}
 use Rattle.encoder.specs.Packed.{Packed}
-use Rattle.build.specs.declared.answers.Report.{Report}
-use Rattle.build.specs.declared.answers.Built.{Built}
-use Rattle.build.specs.declared.answers.Built.the-variants.{Refused, Done}
+use Rattle.finishing.specs.declared.answers.Report.{Report}
+use Rattle.finishing.specs.declared.answers.Built.{Built}
+use Rattle.finishing.specs.declared.answers.Built.the-variants.{Refused, Done}
 
 -- below, `coords` are the coordinates of the regions by region index, as bytes
 

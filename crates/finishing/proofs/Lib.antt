@@ -1,0 +1,4 @@
+pub mod StoreLaws
+pub mod LoopLaws
+pub mod WordsLaws
+pub mod FinishLaws
