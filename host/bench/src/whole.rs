@@ -2,6 +2,7 @@
 
 use std::time::{Duration, Instant};
 
+use differential::known::Source;
 use ivs::{Done, Lent, Packed};
 
 use crate::clearing::split;
@@ -67,30 +68,15 @@ pub fn measure(workload: &Workload) -> Measured {
 /// Store, ids, map, log, N and sizes are the source's.
 fn same(workload: &Workload, packed: Packed) {
     let done = plain::Done {
-        counts: counts(&packed.done),
+        counts: differential::proved::counts(&packed.done),
         store: packed.store,
         ids: packed.ids,
         map: packed.map,
         log: packed.log,
     };
-    let held = differential::check::source(&workload.job, workload.mode, &done);
+    let source = Source::of(&workload.job, workload.mode);
+    let held = differential::check::source(workload.mode, &done, source.as_ref());
     held.unwrap_or_else(|what| panic!("{}: {what}", workload.name));
-}
-
-/// The library's counts, by the plain reading's names.
-fn counts(done: &Done) -> plain::Counts {
-    plain::Counts {
-        store_bytes: done.store_bytes,
-        subtables: done.subtables,
-        regions_kept: done.regions_kept,
-        distinct_ids: done.distinct_ids,
-        shapes: done.shapes,
-        merges: done.merges,
-        pairs: done.pairs,
-        size_before: done.size_before,
-        size_after: done.size_after,
-        forecast: done.forecast,
-    }
 }
 
 /// What is lent beside work.

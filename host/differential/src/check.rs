@@ -28,7 +28,7 @@ fn answer(case: &Case<'_>, known: &Known) -> Result<(), String> {
 
 /// The source's store, ids and map are the same, and so is what it tells of its
 /// merging.
-fn source(mode: u32, done: &Done, source: Option<&Source>) -> Result<(), String> {
+pub fn source(mode: u32, done: &Done, source: Option<&Source>) -> Result<(), String> {
     let Some(source) = source else {
         return Ok(());
     };

@@ -40,7 +40,8 @@ impl Known {
 }
 
 impl Source {
-    fn of(job: &Job, mode: u32) -> Option<Source> {
+    /// Asks the source, where it is there.
+    pub fn of(job: &Job, mode: u32) -> Option<Source> {
         let asked = oracle::build_traced(job.axes as u16, mode, &job.regions, &job.sets);
         let (built, trace) = asked?;
         Some(Source {

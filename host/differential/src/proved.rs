@@ -253,7 +253,7 @@ fn report_of(said: &Said) -> [u64; 16] {
 }
 
 /// The library's counts, by the plain reading's names.
-fn counts(done: &ivs::Done) -> plain::Counts {
+pub fn counts(done: &ivs::Done) -> plain::Counts {
     plain::Counts {
         store_bytes: done.store_bytes,
         subtables: done.subtables,
