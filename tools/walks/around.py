@@ -20,7 +20,7 @@ base.Logic: SProp ent sep ex guard emp
 base.Fml: Lft GName Share ftrue fat froom fdies flft
 prog.Memory: Memory
 prog.Routine: Routine
-prog.Wp: Heap Out Env Calls Loops Wp WpFn Tables afterSeq afterBlock afterTurn atReturn
+prog.Wp: Heap Out Env Calls Loops Wp WpFn Tables|AllCalls afterSeq afterBlock afterTurn atReturn
 ghost.Atoms: Atoms sem
 contract.Monad: Fun fact factI
 contract.Running: givenOf tables tablesOf
@@ -198,7 +198,7 @@ module _ {GIVEN}{params} where
       qed W ({''.join(f'{x.held} {out_list(x)} ∷ ' for x in S)}[]) ∵ suffices ! _ (ends-at 𝓤 H A {d}.ended stayed ({d}.clauses 𝓤 H A mem run) W bound ({R.val('r')}) r {lasts} {longs}) $
       {' '.join(e.out)}
 
-  module _ (𝓣 : Tables 𝓤 H){''.join(f' (known-{g.d} : Triple 𝓤 (𝓣 .C {g.key()}) ({g.contract} 𝓤 H A mem run))' for g in callees)}{''.join(f' ({x.room} : Room {x.row} {x.n})' for x in S if not x.array)}{''.join(f' ({n} : {t})' for n, t in f.requires)} where
+  module _ (𝓣 : AllCalls 𝓤 H){''.join(f' (known-{g.d} : Triple 𝓤 (𝓣 .C {g.key()}) ({g.contract} 𝓤 H A mem run))' for g in callees)}{''.join(f' ({x.room} : Room {x.row} {x.n})' for x in S if not x.array)}{''.join(f' ({n} : {t})' for n, t in f.requires)} where
     abbrev C : Calls 𝓤 H
     C = 𝓣 .C
 
@@ -209,7 +209,7 @@ module _ {GIVEN}{params} where
     fm = fmOf 𝓤 H (W .laws) 𝓣
 
     small : (k : ℕ) → k ≤ ν → k < 2 ^ 64
-    small k l = let r = room .0 in omega arith
+    small k l = let r = sized .0 in omega arith
 {f.walk.get('helpers', '')}
     module _ ({ls} : ℕ) where
       abbrev En : Env 𝓤 H
@@ -232,24 +232,24 @@ module _ {GIVEN}{params} where
       Less-wf : WellFounded Less
       Less-wf = InvImage·wf (λ (t : {now}). {L['measure'].format(t='t')}) (Nat·lt-wfRel .wf)
 
-      abbrev Turned : {now} → Out → SProp 𝓤
-      Turned t = afterTurn 𝓤 H (Below 𝓤 H A Less At t) (afterBlock 𝓤 H (afterSeq 𝓤 H (Wp 𝓤 H C Λ En code-mir.t-{w.after} (atReturn 𝓤 H En Post)) (atReturn 𝓤 H En Post)))
+      abbrev AfterTurn : {now} → Out → SProp 𝓤
+      AfterTurn t = afterTurn 𝓤 H (Below 𝓤 H A Less At t) (afterBlock 𝓤 H (afterSeq 𝓤 H (Wp 𝓤 H C Λ En code-mir.t-{w.after} (atReturn 𝓤 H En Post)) (atReturn 𝓤 H En Post)))
 
       -- the turn that leaves the loop, and the rest of the body
-      ends : (t : {now}) → T (not ({w.test})) → Sq W (At t) (runs C Λ En code-mir.turn-1 (anyQ (Turned t)))
+      ends : (t : {now}) → T (not ({w.test})) → Sq W (At t) (runs C Λ En code-mir.turn-1 (anyQ (AfterTurn t)))
       unfolding afterTurn
       ends t over =
 {ind(w.ends.out)}
 
       -- a turn that goes on
-      more : (t : {now}) → T ({w.test}) → Sq W (At t) (runs C Λ En code-mir.turn-1 (anyQ (Turned t)))
+      more : (t : {now}) → T ({w.test}) → Sq W (At t) (runs C Λ En code-mir.turn-1 (anyQ (AfterTurn t)))
       unfolding afterTurn
       more t inside =
 {ind(w.more.out)}
         where
 {L['where'].strip(chr(10))}
 
-      turns : (t : {now}) → Sq W (At t) (runs C Λ En code-mir.turn-1 (anyQ (Turned t)))
+      turns : (t : {now}) → Sq W (At t) (runs C Λ En code-mir.turn-1 (anyQ (AfterTurn t)))
       turns t = ⊎-elim (λ (h : T ({w.test})). more t h) (λ (h : T (not ({w.test}))). ends t h) (test ({w.test}))
 
 """
@@ -283,10 +283,10 @@ module _ {GIVEN}{params} where
   abbrev Entry : SProp 𝓤
   Entry = onEntry 𝓤 H A {d}.signature {lfts} {shares} (bound .0 .3) (bound .0 .4)
 
-  starts : (𝓣 : Tables 𝓤 H) → {known}{''.join(f'Room {x.row} {x.n} → ' for x in S if not x.array)}ent 𝓤 (sep 𝓤 Entry ({sep(asks) if asks else 'emp 𝓤'})) (WpFn 𝓤 H (𝓣 .C) (𝓣 .Λ) code.function ({machine}) Post)
+  starts : (𝓣 : AllCalls 𝓤 H) → {known}{''.join(f'Room {x.row} {x.n} → ' for x in S if not x.array)}ent 𝓤 (sep 𝓤 Entry ({sep(asks) if asks else 'emp 𝓤'})) (WpFn 𝓤 H (𝓣 .C) (𝓣 .Λ) code.function ({machine}) Post)
   starts 𝓣{ks}{''.join(' ' + x.room for x in S if not x.array)} = {begins}
 
-module _ {GIVEN} (𝓣 : Tables 𝓤 H) where
+module _ {GIVEN} (𝓣 : AllCalls 𝓤 H) where
   {d}-walks : {known}Walks 𝓤 H A {d}.ended stayed {wp} {spec}
   {d}-walks{ks} = walked 𝓤 H A {d}.ended stayed {spec} {wp} (λ κs. {nest([vals_of(p) for p in f.params])}) (λ κs. {nest([tells(p) for p in f.params])})
       (λ κs qs bounds a g are. starts 𝓤 H A W mem run{given} 𝓣{ks}{rooms})

@@ -84,6 +84,7 @@ class Uint(Kind):
 class Record(Kind):
     """A struct by value. `a` is what its modules are called in a walk: a.the-row, a′.the-laws; m the name of its machine value."""
     known = {}
+    parts = {}  # of a literal, its fields
 
     laws_of, few = "LL", ""
 
@@ -124,11 +125,14 @@ class Record(Kind):
 
     def field(s, k, v):  # field k of (value, proof)
         x, g = v
+        if x in Record.parts:
+            return Record.parts[x][k]
         name, kind = s.fields[k]
         return (f"{atom(x)} .{name}", kind.part(f"LL.owed {s.of} {atom(x)} _ {g}{path(k)}") if g else None)
 
     def build(s, vs):
         x = "record { " + "; ".join(f"{f} = {v[0]}" for (f, _), v in zip(s.fields, vs)) + " }"
+        Record.parts[x] = vs
         return (x, f"(LL.owes {s.of} ({x}) {nest([k.owes(v[1]) for (_, k), v in zip(s.fields, vs)])})")
 
     def machine(s):
@@ -212,7 +216,7 @@ class Slice:
         s.vars = f"κ{n} θ{n} γ{n} β{n} ι{n}"  # its lifetime, share, name, block and offset
         s.kappa, s.share, s.gamma = f"κ{n}", f"θ{n}", f"γ{n}"
         s.ptr = f"(β{n}, ι{n})"
-        s.room, s.long = f"room{n}", f"long{n}"
+        s.room, s.long = f"sized{n}", f"long{n}"
         s.names = f"(κ{n} : Lft) (θ{n} : Share) (γ{n} : GName) (β{n} ι{n} : ℕ)"
         s.of = f"{s.row} {s.vars}"
         s.value = f"vptr β{n} ι{n}" if s.array else f"sliceVal {s.ptr} {s.n}"
@@ -227,8 +231,9 @@ class Slice:
 class Fn:
     """requires: (name, clause), each a part of one clause, or each a clause where `apart`. ensures: a clause, or a list of clauses."""
 
-    def __init__(s, name, params, result, ensures, requires=(), crate=None, contract=None, apart=False, **walk):
+    def __init__(s, name, params, result, ensures, requires=(), crate=None, contract=None, apart=False, module="", **walk):
         s.path, s.crate, s.result, s.apart, s.walk = name, crate, result, apart, walk  # the path: `waits.offer` of a module
+        s.code = module + name  # where the code has it: another crate's function is cited by the name that is exported, and called by its module's
         s.name = name.split(".")[-1]
         s.clauses = [ensures] if isinstance(ensures, str) else ensures
         s.ensures = " × ".join(f"({c})" for c in s.clauses) if len(s.clauses) > 1 else s.clauses[0]
@@ -249,7 +254,7 @@ class Fn:
         return f"#{s.crate}·{s.d}"
 
     def mir(s):
-        return f"{s.crate}::{s.path.replace('.', '::')}"
+        return f"{s.crate}::{s.code.replace('.', '::')}"
 
     def asks(s):  # the clauses `requires`
         return [t for _, t in s.requires] if s.apart else [s.req()] if s.requires else []

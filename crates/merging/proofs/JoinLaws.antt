@@ -10,10 +10,10 @@ use Rattle.laws.proofs.Products.{row-fits}
 use Rattle.laws.proofs.RangeLaws.{only-trans, only-weaken, only-seg, apart-part, outside-at}
 use Rattle.shapes.specs.Group.{joined}
 use Rattle.shapes.specs.Lent.{Narrow}
-use Rattle.queue.specs.declared.Waiting.{Waiting}
+use Rattle.pairs.specs.declared.Pair.{Pair}
 use Rattle.slots.specs.declared.tables.Tables.{Tables}
-use Rattle.slots.specs.Lent.{room, Laid, groupIn, Sound, JoinedIn}
-use Rattle.waits.specs.Waits.{placeOf, groupOf, heapOf}
+use Rattle.slots.specs.Lent.{Laid, groupIn, Sound, JoinedIn}
+use Rattle.waits.specs.Waits.{placeOf, groupOf}
 use Rattle.merging.specs.Held.{written, Retired, Noted, Joinable, PairJoined}
 use Rattle.slots.proofs.TableLaws.{slot-end}
 use Rattle.slots.proofs.SlotLaws.{shape-kept, laid-kept, slots-apart}
@@ -44,13 +44,9 @@ module _ {rs : List (ℕ × ℕ)} (t : Tables) (w w′ : List ℕ) (h : Laid t (
   pub frame-groups : Untouched rs (t .slots) (t .groups * t .regions) → Untouched rs (t .counts) (t .groups) → (s : ℕ) → s < t .groups → groupIn t w′ s ≡ groupIn t w s
   frame-groups u c s l = group-kept t w w′ s h l o (slot-out u s l) (c (t .counts + s) (omega arith) (omega arith))
 
-  pub frame-heap : Untouched rs (t .heap) (3 * room (t .groups)) → heapOf t w′ ≡ heapOf t w
-  unfolding heapOf
-  frame-heap u = only-seg o (t .heap) (3 * room (t .groups)) (h .heap-end) u
-
 -- ---- joining
 
-pub join-pair-asks : (t : Tables) (j : ℕ) (p : Waiting) (w : List ℕ) → Joinable t j p w
+pub join-pair-asks : (t : Tables) (j : ℕ) (p : Pair) (w : List ℕ) → Joinable t j p w
     → Sound t w × ((placeOf t w (p .first) - 1 < t .groups) × ((placeOf t w (p .second) - 1 < t .groups) × ((placeOf t w (p .first) - 1 ≢ placeOf t w (p .second) - 1)
     × (groupIn t w (placeOf t w (p .first) - 1) .sets + groupIn t w (placeOf t w (p .second) - 1) .sets < 4294967296))))
 unfolding groupOf
@@ -59,7 +55,7 @@ join-pair-asks t j p w h = (
   (omega (arith, h .first-lives, h .first-slot), (omega (arith, h .second-lives, h .second-slot), (λ e. h .apart (omega (arith, h .first-lives, h .second-lives)), h .sets-few))),
 )
 
-module _ (t : Tables) (j : ℕ) (p : Waiting) (w w₁ w₂ w₃ : List ℕ) (h : Joinable t j p w)
+module _ (t : Tables) (j : ℕ) (p : Pair) (w w₁ w₂ w₃ : List ℕ) (h : Joinable t j p w)
     (x : JoinedIn t (placeOf t w (p .first) - 1) (placeOf t w (p .second) - 1) w w₁)
     (y : Retired t (p .first) (p .second) (t .groups + j) (placeOf t w (p .first)) w₁ w₂)
     (z : Noted t j p w₂ w₃) where
@@ -137,12 +133,6 @@ module _ (t : Tables) (j : ℕ) (p : Waiting) (w w₁ w₂ w₃ : List ℕ) (h :
       let e : placeOf t w₃ (t .groups + j) ≡ placeOf t w (p .first) = place₃ (t .groups + j) (omega (arith, h .room)) ∙ y .new in
       ap (λ (s : ℕ). groupIn t w₃ (s - 1)) e ∙ groups₃ slot within ∙ x .is
 
-  heap₃ : heapOf t w₃ ≡ heapOf t w
-  heap₃ =
-      frame-heap t w₂ w₃ lies₂ (z .only) (λ k a b. omega (arith, lies, h .room))
-      ∙ frame-heap t w₁ w₂ lies₁ (y .only) (λ k a b. omega (arith, lies))
-      ∙ frame-heap t w w₁ lies (x .only) (λ k a b. far k (omega (arith, lies)))
-
   log₃ : seg (t .log) (3 * j) w₃ ≡ seg (t .log) (3 * j) w
   log₃ =
       only-seg (z .only) (t .log) (3 * j) (omega (arith, lies₂, h .room)) (λ k a b. omega arith)
@@ -152,7 +142,6 @@ module _ (t : Tables) (j : ℕ) (p : Waiting) (w w₁ w₂ w₃ : List ℕ) (h :
   pub pair-joined : PairJoined t j p w w₃
   pair-joined = record {
     only = all-only;
-    heap-same = heap₃;
     sound = sound₃;
     first-dead = place₃ (p .first) (omega (arith, h .room, h .order, h .below)) ∙ y .first-dead;
     second-dead = place₃ (p .second) (omega (arith, h .room, h .below)) ∙ y .second-dead;

@@ -8,3 +8,5 @@ pub mod OptimizeLaws
 pub mod Unique
 pub mod Demand
 pub mod ReadyWorked
+-- For walks: the calls.
+pub mod Calls

@@ -20,18 +20,17 @@ use Rattle.rule.specs.Told.{Among, words}
 use Rattle.rule.proofs.PairLaws.{pairs-sum, pairs-length}
 use Rattle.rule.proofs.Theorems.{run-sets, run-count, weighed-most, merge-total}
 use Rattle.rule.proofs.Bridge.{Rising, run-numbered, has, pair-of, pairs-has, choice-is, without, without-all, without-mem, two-intro, step-is, run-step}
-use Rattle.queue.specs.declared.Waiting.{Waiting}
-use Rattle.queue.specs.Queue.{HeapOrdered, Has}
+use Rattle.pairs.specs.declared.Pair.{Pair as Waiting}
+use Rattle.pairs.specs.Queue.{Has}
 use Rattle.slots.specs.declared.tables.Tables.{Tables}
-use Rattle.slots.specs.Lent.{room, groupIn}
-use Rattle.waits.specs.Waits.{placeOf, groupOf, alive, pairOf, heapOf, Placed, Reached, Waits, Asked, OfferedAll}
+use Rattle.slots.specs.Lent.{groupIn}
+use Rattle.waits.specs.Waits.{room, placeOf, groupOf, alive, pairOf, Placed, Reached, Waits, Asked, OfferedAll}
 use Rattle.merging.specs.Held.{Lives, Reaches, Held, Standing, Chosen, Joinable, PairJoined}
 use Rattle.merging.specs.Held.Reaches.{here, onto}
-use Rattle.slots.proofs.TableLaws.{room-is}
-use Rattle.waits.proofs.WaitLaws.{alive-none, alive-one, alive-same, sum-next, waits-next}
-use Rattle.merging.proofs.HeldLaws.{held-kept, merges-few}
+use Rattle.waits.proofs.WaitLaws.{room-is, alive-none, alive-one, alive-same, sum-next, waits-next}
+use Rattle.merging.proofs.HeldLaws.{merges-few}
 
-module _ (t : Tables) (xs : List Group) (n m j z : ℕ) (p : Waiting) (w : List ℕ) (c : Chosen t xs n m j z p w)
+module _ (t : Tables) (xs : List Group) (n m j z : ℕ) (p : Waiting) (w : List ℕ) (ps : List Waiting) (c : Chosen t xs n m j z p w ps)
     (x : 0 < placeOf t w (p .first)) (y : 0 < placeOf t w (p .second)) where
   abbrev k : ℕ
   k = t .groups + j
@@ -146,6 +145,13 @@ module _ (t : Tables) (xs : List Group) (n m j z : ℕ) (p : Waiting) (w : List 
         omega (arith, a, b, c .sets-few, ap (λ (i : Group). i .sets) first-is, ap (λ (i : Group). i .sets) second-is);
   }
 
+  pub gain-fits : p .gain ≤ z
+  gain-fits =
+      let e = merge-total s chosen (choice-is (s .living) rising chosen member gains (two-intro (Ahead g h) (s .living) rising ahead-of)) in
+      let u = c .size-is in
+      let v = gain-is in
+      omega arith
+
   module _ (w₃ : List ℕ) (r : PairJoined t j p w w₃) where
     not-first : (i : ℕ) → 0 < placeOf t w₃ i → i ≢ p .first
     not-first i a e = omega (arith, r .first-dead, ap (placeOf t w₃) e)
@@ -180,9 +186,9 @@ module _ (t : Tables) (xs : List Group) (n m j z : ℕ) (p : Waiting) (w : List 
         let gb = group-stays b lb (not-first b v) (not-second b v) (omega arith) in
         λ i. record { gain = gain (ga i) (gb i); first = a; second = b }
 
-    waits₃ : Waits t k 0 n w₃
+    waits₃ : Waits t k 0 n w₃ ps
     waits₃ = record {
-      ordered = subst (λ (l : List ℕ). HeapOrdered l n) (sym (r .heap-same)) (c .ordered);
+      ordered = c .ordered;
       all = λ a b q u v f.
           let lb = below-of a b q in
           let la : a < k = omega (arith, q .order) in
@@ -190,11 +196,10 @@ module _ (t : Tables) (xs : List Group) (n m j z : ℕ) (p : Waiting) (w : List 
           let u′ : 0 < placeOf t w a = omega (arith, stays a la (not-first a u) (not-second a u)) in
           let v′ : 0 < placeOf t w b = omega (arith, stays b lb (not-first b v) (not-second b v)) in
           let f′ : 0 < gain (groupOf t w a) (groupOf t w b) = omega (arith, ap (λ (i : Waiting). i .gain) e) in
-          subst (λ (l : List ℕ). Has l n (pairOf t w₃ a b)) (sym (r .heap-same))
-          (subst (Has (heapOf t w) n) (sym e)
-          (⊎-elim (λ (i : pairOf t w a b ≡ p). absurd (not-first a u (ap (λ (o : Waiting). o .first) i))) (λ i. i) (c .rest a b q u′ v′ f′)));
+          subst (Has ps n) (sym e)
+          (⊎-elim (λ (i : pairOf t w a b ≡ p). absurd (not-first a u (ap (λ (o : Waiting). o .first) i))) (λ i. i) (c .rest a b q u′ v′ f′));
       fair = λ q u.
-          let f = c .fair q (subst (λ (l : List ℕ). Has l n q) (r .heap-same) u) in
+          let f = c .fair q u in
           let lb = below-of (q .first) (q .second) (f .reached) in
           let la : q .first < k = omega (arith, f .reached .order) in
           record {
@@ -227,7 +232,7 @@ module _ (t : Tables) (xs : List Group) (n m j z : ℕ) (p : Waiting) (w : List 
           (same-or-not i k);
     }
 
-    pub joined-asked : Asked t k 0 n w₃
+    pub joined-asked : Asked t k 0 n w₃ ps
     joined-asked = record { weighable = record { sound = r .sound; placed = placed₃; living = new-lives; known = omega (arith, merge-room) }; waits = waits₃ }
 
     -- as many are weighed as are left
@@ -420,29 +425,20 @@ module _ (t : Tables) (xs : List Group) (n m j z : ℕ) (p : Waiting) (w : List 
         let v = gain-is in
         omega arith
 
-    pub gain-fits : p .gain ≤ z
-    gain-fits =
-        let e = merge-total s chosen (choice-is (s .living) rising chosen member gains (two-intro (Ahead g h) (s .living) rising ahead-of)) in
-        let u = c .size-is in
-        let v = gain-is in
-        omega arith
-
-    pub joined-stands : (w₄ : List ℕ) (n′ m′ : ℕ) → OfferedAll t k n m n′ m′ w₃ w₄ → Standing t xs n′ m′ (j + 1) (z - p .gain) w₄
-    joined-stands w₄ n′ m′ o =
+    pub joined-stands : (ps′ : List Waiting) (n′ m′ : ℕ) → OfferedAll t k n m n′ m′ w₃ ps ps′ → Standing t xs n′ m′ (j + 1) (z - p .gain) w₃ ps′
+    joined-stands ps′ n′ m′ o =
         let e = left-count in
         let u = weighed-next in
         record {
           many = c .many;
           sets-few = c .sets-few;
-          held =
-              subst (λ (i : State). Held t i (j + 1) w₄) (sym stepped)
-              (held-kept t w₃ w₄ (r .sound .shaped .laid) (o .only) (merge s chosen) (j + 1) (omega (arith, merge-room)) held₃);
-          waits = rw next-one at (waits-next t w₄ k n′ (o .waits));
+          held = subst (λ (i : State). Held t i (j + 1) w₃) (sym stepped) held₃;
+          waits = rw next-one at (waits-next t w₃ ps′ k n′ (o .waits));
           weighed = omega (arith, o .weighed);
           few = omega (arith, o .weighed, o .few, c .few);
           size-is = sym size-next;
         }
 
     -- and the queue and the pairs to come are fewer
-    pub joined-less : (n′ m′ : ℕ) (w₄ : List ℕ) → OfferedAll t k n m n′ m′ w₃ w₄ → (m′ ≤ room (t .groups)) × (n′ + m ≤ n + m′)
-    joined-less n′ m′ w₄ o = (omega (arith, o .weighed, joined-room .1), omega (arith, o .weighed, o .few))
+    pub joined-less : (ps′ : List Waiting) (n′ m′ : ℕ) → OfferedAll t k n m n′ m′ w₃ ps ps′ → (m′ ≤ room (t .groups)) × (n′ + m ≤ n + m′)
+    joined-less ps′ n′ m′ o = (omega (arith, o .weighed, joined-room .1), omega (arith, o .weighed, o .few))

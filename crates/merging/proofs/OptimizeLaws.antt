@@ -20,15 +20,17 @@ use Rattle.rule.specs.Told.{Among, words}
 use Rattle.rule.proofs.Theorems.{pairs-count, number-length}
 use Rattle.slots.specs.declared.tables.Tables.{Tables}
 use Rattle.slots.specs.Lent.{Laid, Sound, Dealt, MeasuredAll, groupIn, starting}
-use Rattle.waits.specs.Waits.{placeOf, groupOf, alive, Opening, Opened}
+use Rattle.pairs.specs.declared.Pair.{Pair}
+use Rattle.pairs.specs.Queue.{SameFrom}
+use Rattle.waits.specs.Waits.{room, placeOf, groupOf, alive, Opening, Opened}
 use Rattle.merging.specs.Held.{Lives, Held, Standing, Ran}
 use Rattle.merging.specs.Held.Reaches.{here}
 use Rattle.merging.specs.Optimized.{Ready, Optimized, Settled, Onward, Finished}
 use Rattle.slots.proofs.SlotLaws.{laid-kept}
-use Rattle.waits.proofs.WaitLaws.{heap-groups, heap-place, heap-sound, group-of-kept, alive-one, sum-ones}
+use Rattle.waits.proofs.WaitLaws.{group-of-kept, alive-one, sum-ones}
 use Rattle.merging.proofs.JoinLaws.{frame-sound, frame-groups}
 use Rattle.merging.proofs.HeldLaws.{merges-less, merges-few}
-use Rattle.merging.proofs.RunLaws.{only-heap, standing-done}
+use Rattle.merging.proofs.RunLaws.{standing-done}
 
 -- ---- the starting groups, numbered
 
@@ -101,23 +103,20 @@ module _ (t : Tables) (w w₁ : List ℕ) (h : Ready t w) (q : MeasuredAll t w w
       living = λ c l. let a = h .dealt .within c l in let b = place₂ c l in (omega arith, omega arith);
     }
 
-    module _ (n m : ℕ) (w₃ : List ℕ) (o : Opened t n m w₂ w₃) where
-      place₃ : (i : ℕ) → i < t .groups → placeOf t w₃ i ≡ getD w (t .order + i) 0 + 1
-      place₃ i l = heap-place t w₂ w₃ lies₂ (o .only) i (omega arith) ∙ place₂ i l
+    group₂ : (i : ℕ) → i < t .groups → groupOf t w₂ i ≡ groupIn t w (getD w (t .order + i) 0)
+    unfolding groupOf
+    group₂ i l =
+        let v = getD w (t .order + i) 0 in
+        let e : placeOf t w₂ i - 1 ≡ v = omega (arith, place₂ i l) in
+        ap (groupIn t w₂) e ∙ groups₂ v (h .dealt .within i l)
 
-      group₃ : (i : ℕ) → i < t .groups → groupOf t w₃ i ≡ groupIn t w (getD w (t .order + i) 0)
-      unfolding groupOf
-      group₃ i l =
-          let v = getD w (t .order + i) 0 in
-          let e : placeOf t w₃ i - 1 ≡ v = omega (arith, place₃ i l) in
-          ap (groupIn t w₃) e ∙ heap-groups t w₂ w₃ lies₂ (o .only) v (h .dealt .within i l) ∙ groups₂ v (h .dealt .within i l)
-
-      lives : (c : ℕ) → c < t .groups → Lives t w₃ (one (λ i. groupIn t w (getD w (t .order + i) 0)) c)
+    module _ (n m : ℕ) (ps ps′ : List Pair) (o : Opened t n m w₂ ps ps′) where
+      lives : (c : ℕ) → c < t .groups → Lives t w₂ (one (λ i. groupIn t w (getD w (t .order + i) 0)) c)
       lives c l = record {
         known = omega arith;
-        alive = omega (arith, place₃ c l);
-        slot = omega (arith, place₃ c l, h .dealt .within c l);
-        is = group₃ c l;
+        alive = omega (arith, place₂ c l);
+        slot = omega (arith, place₂ c l, h .dealt .within c l);
+        is = group₂ c l;
       }
 
       abbrev xs : List Group
@@ -127,23 +126,23 @@ module _ (t : Tables) (w w₁ : List ℕ) (h : Ready t w) (q : MeasuredAll t w w
       unfolding starting
       many = length-tabulate 0 (t .groups) (λ i. groupIn t w (getD w (t .order + i) 0))
 
-      held : Held t (start xs) 0 w₃
+      held : Held t (start xs) 0 w₂
       unfolding start starting words
       held = record {
-        sound = heap-sound t w₂ w₃ lies₂ (o .only) sound₂;
+        sound = sound₂;
         next-is = many ∙ sym (add-zero (t .groups));
         log-long = refl;
-        placed = record { within = λ c l. let i : c < t .groups = omega arith in omega (arith, place₃ c i, h .dealt .within c i) };
+        placed = record { within = λ c l. let i : c < t .groups = omega arith in omega (arith, place₂ c i, h .dealt .within c i) };
         apart = λ c d l k a e.
             let i : d < t .groups = omega arith in
-            h .dealt .apart c d l i (omega (arith, place₃ c (omega arith), place₃ d i));
-        lives = number-all (Lives t w₃) (λ i. groupIn t w (getD w (t .order + i) 0)) 0 (t .groups) (λ c a b. lives c (omega arith));
+            h .dealt .apart c d l i (omega (arith, place₂ c (omega arith), place₂ d i));
+        lives = number-all (Lives t w₂) (λ i. groupIn t w (getD w (t .order + i) 0)) 0 (t .groups) (λ c a b. lives c (omega arith));
         found = λ c l a. number-among (λ i. groupIn t w (getD w (t .order + i) 0)) 0 (t .groups) c (omega arith) (omega arith);
         counted =
-            sum-ones (alive t w₃) (t .groups + 0) (λ c l. let i : c < t .groups = omega arith in alive-one t w₃ c (λ z. omega (arith, place₃ c i)))
+            sum-ones (alive t w₂) (t .groups + 0) (λ c l. let i : c < t .groups = omega arith in alive-one t w₂ c (λ z. omega (arith, place₂ c i)))
             ∙ add-zero (t .groups) ∙ sym (number-length 0 xs ∙ many);
-        log-is = seg-none (t .log) w₃;
-        onward = λ c l e. let i : c < t .groups = omega arith in absurd (omega (arith, place₃ c i));
+        log-is = seg-none (t .log) w₂;
+        onward = λ c l e. let i : c < t .groups = omega arith in absurd (omega (arith, place₂ c i));
         homes = number-all _ (λ i. groupIn t w (getD w (t .order + i) 0)) 0 (t .groups) (λ c a b. (here c (omega arith) (lives c (omega arith) .alive), tt));
       }
 
@@ -156,7 +155,7 @@ module _ (t : Tables) (w w₁ : List ℕ) (h : Ready t w) (q : MeasuredAll t w w
           let d = o .weighed in
           omega arith
 
-      pub begun : (z : ℕ) → z ≡ weigh groupCost (starting t w₁) → Standing t (starting t w) n m 0 z w₃
+      pub begun : (z : ℕ) → z ≡ weigh groupCost (starting t w₁) → Standing t (starting t w) n m 0 z w₂ ps′
       unfolding run
       begun z e = record {
         many = many;
@@ -173,7 +172,7 @@ module _ (t : Tables) (w w₁ : List ℕ) (h : Ready t w) (q : MeasuredAll t w w
 
 -- ---- the end
 
-module _ (t : Tables) (xs : List Group) (n m j z : ℕ) (w : List ℕ) (s : Standing t xs n m j z w) where
+module _ {t : Tables} {xs : List Group} {n m j z : ℕ} {w : List ℕ} {ps : List Pair} (s : Standing t xs n m j z w ps) where
   pub onward : Onward t (t .groups + j) w
   onward = record { laid = s .held .sound .shaped .laid; most = merges-few t xs j w (s .many) (s .held); later = s .held .onward }
 
@@ -221,27 +220,44 @@ module _ (t : Tables) (xs : List Group) (n m j z : ℕ) (w : List ℕ) (s : Stan
     end-homes : All (λ g. All (λ i. getD w′ (t .into + i) 0 ≡ g .num) (g .origins)) (run j (start xs) .living)
     end-homes = all-imp (λ g. all-imp (λ i r. f .is i (g .num) r) (g .origins)) (run j (start xs) .living) (s .held .homes)
 
-pub optimized : (t : Tables) (w w₁ w₂ w₃ w₄ w₅ : List ℕ) (z n m n′ m′ j z′ : ℕ) (h : Ready t w) (q : MeasuredAll t w w₁) → z ≡ weigh groupCost (starting t w₁) → (s : Settled t w₁ w₂)
-    → (o : Opened t n m w₂ w₃) → (r : Ran t n m 0 z n′ m′ j z′ w₃ w₄) → Finished t (t .groups + j) w₄ w₅ → Optimized t j m′ z z′ w w₅
-unfolding run
-optimized t w w₁ w₂ w₃ w₄ w₅ z n m n′ m′ j z′ h q e s o r f =
-    let xs = starting t w in
-    let a = begun t w w₁ h q w₂ s n m w₃ o z e in
-    let b = r .stands xs a in
-    let c : Standing t xs 0 m′ j z′ w₄ = rw (r .done) at b in
-    let d : run j (start xs) ≡ merged xs = standing-done t xs m′ j z′ w₄ c in
-    record {
-      only = only-trans (only-weaken (λ k u. (u .1 .1 .1 .0, (u .1 .1 .1 .1 .0, tt))) (q .only))
-          (only-trans (only-weaken (λ k u. (apart-part (u .1 .1 .0) (omega arith) (omega arith), tt)) (s .only))
-          (only-trans (only-heap t (o .only)) (only-trans (r .only) (only-weaken (λ k u. (u .1 .1 .1 .1 .1 .0, tt)) (f .only)))));
-      merges-are = sym (b .held .log-long) ∙ ap (λ (i : State). length (i .log)) d;
-      weighed-are = b .weighed ∙ ap (λ (i : State). i .weighed) d;
-      before-is = a .size-is;
-      after-is = b .size-is ∙ ap (λ (i : State). total (i .living)) d;
-      log-is = end-log t xs n′ m′ j z′ w₄ b w₅ f ∙ ap (λ (i : State). words (i .log)) d;
-      lives = subst (λ (i : State). All (Lives t w₅) (i .living)) d (end-lives t xs n′ m′ j z′ w₄ b w₅ f);
-      others-dead = subst (λ (i : State). (c : ℕ) → c < t .groups + j → 0 < placeOf t w₅ c → Among (i .living) c) d (end-dead t xs n′ m′ j z′ w₄ b w₅ f);
-      apart = end-apart t xs n′ m′ j z′ w₄ b w₅ f;
-      sound = end-sound t xs n′ m′ j z′ w₄ b w₅ f;
-      homes = subst (λ (i : State). All (λ g. All (λ i. getD w₅ (t .into + i) 0 ≡ g .num) (g .origins)) (i .living)) d (end-homes t xs n′ m′ j z′ w₄ b w₅ f);
-    }
+module _ {t : Tables} {w w₁ w₂ : List ℕ} {ps ps₁ : List Pair} {z n m : ℕ} (h : Ready t w) (q : MeasuredAll t w w₁) (e : z ≡ weigh groupCost (starting t w₁))
+    (s : Settled t w₁ w₂) (o : Opened t n m w₂ ps ps₁) where
+  pub optimize-begun : Standing t (starting t w) n m 0 z w₂ ps₁
+  optimize-begun = begun t w w₁ h q w₂ s n m ps ps₁ o z e
+
+  module _ {w₄ : List ℕ} {ps₂ : List Pair} {n′ m′ j z′ : ℕ} (r : Ran t n m 0 z n′ m′ j z′ w₂ w₄ ps₁ ps₂) where
+    ended : Standing t (starting t w) n′ m′ j z′ w₄ ps₂
+    ended = r .stands (starting t w) optimize-begun
+
+    pub optimize-onward : Onward t (t .groups + j) w₄
+    optimize-onward = onward ended
+
+    pub optimize-few : t .groups + j ≤ 2 * t .groups
+    optimize-few = merges-few t (starting t w) j w₄ (ended .many) (ended .held)
+
+    pub optimize-rest : SameFrom ps (room (t .groups)) ps₂
+    optimize-rest i l = r .rest i l ∙ o .rest i l
+
+    pub optimized : {w₅ : List ℕ} → Finished t (t .groups + j) w₄ w₅ → Optimized t j m′ z z′ w w₅
+    unfolding run
+    optimized {w₅} f =
+        let xs = starting t w in
+        let a = optimize-begun in
+        let b = ended in
+        let c : Standing t xs 0 m′ j z′ w₄ ps₂ = rw (r .done) at b in
+        let d : run j (start xs) ≡ merged xs = standing-done t xs m′ j z′ w₄ ps₂ c in
+        record {
+          only = only-trans (only-weaken (λ k u. (u .1 .1 .1 .0, (u .1 .1 .1 .1 .0, tt))) (q .only))
+              (only-trans (only-weaken (λ k u. (apart-part (u .1 .1 .0) (omega arith) (omega arith), tt)) (s .only))
+              (only-trans (r .only) (only-weaken (λ k u. (u .1 .1 .1 .1 .1 .0, tt)) (f .only))));
+          merges-are = sym (b .held .log-long) ∙ ap (λ (i : State). length (i .log)) d;
+          weighed-are = b .weighed ∙ ap (λ (i : State). i .weighed) d;
+          before-is = a .size-is;
+          after-is = b .size-is ∙ ap (λ (i : State). total (i .living)) d;
+          log-is = end-log b w₅ f ∙ ap (λ (i : State). words (i .log)) d;
+          lives = subst (λ (i : State). All (Lives t w₅) (i .living)) d (end-lives b w₅ f);
+          others-dead = subst (λ (i : State). (c : ℕ) → c < t .groups + j → 0 < placeOf t w₅ c → Among (i .living) c) d (end-dead b w₅ f);
+          apart = end-apart b w₅ f;
+          sound = end-sound b w₅ f;
+          homes = subst (λ (i : State). All (λ g. All (λ i. getD w₅ (t .into + i) 0 ≡ g .num) (g .origins)) (i .living)) d (end-homes b w₅ f);
+        }

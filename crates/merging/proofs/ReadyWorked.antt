@@ -10,11 +10,11 @@ use Rattle.laws.specs.Range.{seg}
 use Rattle.shapes.specs.Lent.{Narrow}
 use Rattle.rule.proofs.Worked.{of}
 use Rattle.slots.specs.declared.tables.Tables.{Tables}
-use Rattle.slots.specs.Lent.{room, shapeIn, groupIn, starting}
+use Rattle.slots.specs.Lent.{shapeIn, groupIn, starting}
 use Rattle.merging.specs.Optimized.{Ready}
 
 abbrev tables : Tables
-tables = record { regions = 2; groups = 2; slots = 0; order = 4; counts = 6; place = 8; rows = 12; columns = 14; into = 16; log = 20; heap = 26 }
+tables = record { regions = 2; groups = 2; slots = 0; order = 4; counts = 6; place = 8; rows = 12; columns = 14; into = 16; log = 20 }
 
 -- two shapes, their order, their counts, and room for the rest
 abbrev lent : List ℕ
@@ -56,7 +56,7 @@ unfolding starting tabulate groupIn shapeIn seg
 starting-p8 = refl
 
 pub ready-p8 : Ready tables lent
-unfolding room starting tabulate groupIn shapeIn seg weigh
+unfolding starting tabulate groupIn shapeIn seg weigh
 ready-p8 = record {
   shaped = record {
     laid = record {
@@ -70,7 +70,6 @@ ready-p8 = record {
       columns-end = omega arith;
       into-end = omega arith;
       log-end = omega arith;
-      heap-end = omega arith;
     };
     narrow = narrow-slots;
   };

@@ -1,123 +1,148 @@
 -- The turns of the run, and its end. Assumes nothing.
-use mathlib.Core.Path.{_≡_, ap₂}
+use mathlib.Core.Path.{_≡_, refl, ap₂, subst, _∙_}
+use mathlib.Core.Bool.{Bool, true, false}
 use mathlib.Core.Logic.{_⊎_, ⊎-elim}
 use mathlib.Core.List.{List, [], _∷_, List·Memᴰ}
 use Prim.Native.Nat.{ℕ, _+_, _-_, _*_, _≤_, _<_}
 use native.Mathlib.Omega.{arith}
+use lib.Dec.{T}
 use lib.ListN.{length}
+use Rattle.laws.specs.Bag.{sum}
 use Rattle.laws.specs.Range.{Only}
 use Rattle.laws.proofs.Cases.{same-or-not}
-use Rattle.laws.proofs.RangeLaws.{only-refl, only-trans, only-weaken}
+use Rattle.laws.proofs.RangeLaws.{only-refl, only-trans}
 use Rattle.shapes.specs.Group.{Group, gain}
 use Rattle.rule.specs.Model.{Living, gainOf, start, run, merged}
 use Rattle.rule.proofs.Theorems.{weighed-few}
 use Rattle.rule.proofs.Bridge.{has, run-numbered, two-intro, merged-is}
-use Rattle.queue.specs.declared.Waiting.{Waiting}
-use Rattle.queue.specs.declared.Taken.{Taken}
-use Rattle.queue.specs.declared.Taken.the-variants.{Best, Nothing}
-use Rattle.queue.specs.Queue.{HeapOrdered, Popped}
-use Rattle.queue.proofs.QueueContent.{taken-best, taken-nothing}
+use Rattle.pairs.specs.declared.Pair.{Pair}
+use Rattle.pairs.specs.Queue.{HeapOrdered, SameFrom, Popped}
 use Rattle.slots.specs.declared.tables.Tables.{Tables}
-use Rattle.slots.specs.Lent.{room, Laid}
-use Rattle.waits.specs.Waits.{placeOf, groupOf, heapOf, Reached, OfferedAll, Took}
-use Rattle.merging.specs.Held.{written, Lives, Standing, SomeStanding, SomeChosen, PairJoined, Decided, Turned, Ran}
-use Rattle.slots.proofs.TableLaws.{room-is}
-use Rattle.merging.proofs.HeldLaws.{merges-few, chosen-taken, chosen-dead}
-use Rattle.merging.proofs.MergeLaws.{joined-stands, joined-less}
+use Rattle.slots.specs.Lent.{Laid}
+use Rattle.waits.specs.Waits.{room, placeOf, groupOf, alive, Reached, Asked, OfferedAll}
+use Rattle.merging.specs.Held.{written, Lives, Standing, Chosen, BothLive, Joinable, JoinedAt, SomeStanding, Turned, Ran}
+use Rattle.waits.proofs.WaitLaws.{room-is, room-most}
+use Rattle.merging.proofs.HeldLaws.{merges-few, merges-less, chosen-taken, chosen-dead}
+use Rattle.merging.proofs.MergeLaws.{joinable, joined-asked, joined-room, joined-stands, joined-less, gain-fits}
 
-pub only-heap : (t : Tables) {w w′ : List ℕ} → Only ((t .heap, 3 * room (t .groups)) ∷ []) w w′ → Only (written t) w w′
-only-heap t = only-weaken (λ k o. (o .1 .1 .1 .1 .1 .1 .1 .0, tt))
+-- ---- what a test of the code says
 
--- ---- a pair is joined, or passed over
+holds : (b : Bool) → T b → b ≡ true
+holds true _ = refl
+holds false a = absurd a
 
--- its numbers are known
-pub chosen-known : (t : Tables) (n m j z : ℕ) (p : Waiting) (w : List ℕ) → SomeChosen t n m j z p w → (p .first < 2 * t .groups) × (p .second < 2 * t .groups)
-chosen-known t n m j z p w s =
-    let c = s .chosen in
-    let f = merges-few t (s .groups) j w (c .many) (c .held) in
-    let r = c .own .reached in
-    let l : p .second < t .groups + j = ⊎-elim (λ (e : p .second ≡ t .groups + j). absurd (omega (arith, r .last e))) (λ d. omega (arith, r .below)) (same-or-not (p .second) (t .groups + j)) in
-    (omega (arith, r .order), omega arith)
+module _ {t : Tables} {p : Pair} {w : List ℕ} {b : Bool} (l : BothLive t p b w) (h : T b) where
+  pub first-lives : 0 < placeOf t w (p .first)
+  first-lives = l .yes-live (holds b h) .0
 
-pub decided-dead : (t : Tables) (n m j z : ℕ) (p : Waiting) (w : List ℕ) → (placeOf t w (p .first) ≡ 0) ⊎ (placeOf t w (p .second) ≡ 0) → Decided t n m j z p n m j z w w
-decided-dead t n m j z p w d = record {
-  only = only-refl (written t) w;
-  stands = λ xs c. chosen-dead t xs n m j z p w c d;
-  less = omega arith;
-}
-
-pub decided-joined : (t : Tables) (n m j z : ℕ) (p : Waiting) (w w₃ w₄ : List ℕ) (n′ m′ : ℕ) → SomeChosen t n m j z p w → 0 < placeOf t w (p .first) → 0 < placeOf t w (p .second)
-    → PairJoined t j p w w₃ → OfferedAll t (t .groups + j) n m n′ m′ w₃ w₄ → Decided t n m j z p n′ m′ (j + 1) (z - p .gain) w w₄
-decided-joined t n m j z p w w₃ w₄ n′ m′ s x y r o = record {
-  only = only-trans (r .only) (only-heap t (o .only));
-  stands = λ xs c. joined-stands t xs n m j z p w c x y w₃ r w₄ n′ m′ o;
-  less = joined-less t (s .groups) n m j z p w (s .chosen) x y w₃ r n′ m′ w₄ o .1;
-}
+  pub second-lives : 0 < placeOf t w (p .second)
+  second-lives = l .yes-live (holds b h) .1
 
 -- ---- a turn
 
 -- no more pairs were weighed than there is room for
-pub weighed-room : (t : Tables) (xs : List Group) (n m j z : ℕ) (w : List ℕ) → Standing t xs n m j z w → m ≤ room (t .groups)
-weighed-room t xs n m j z w s =
+pub weighed-room : (t : Tables) (xs : List Group) (n m j z : ℕ) (w : List ℕ) (ps : List Pair) → Standing t xs n m j z w ps → m ≤ room (t .groups)
+weighed-room t xs n m j z w ps s =
     let b = rw (s .many) at (weighed-few j xs) in
     omega (arith, s .weighed, room-is (t .groups))
 
-pub standing-asks : (t : Tables) (n m j z : ℕ) (w : List ℕ) → SomeStanding t n m j z w → Laid t (length w) × ((n ≤ room (t .groups)) × HeapOrdered (heapOf t w) n)
-standing-asks t n m j z w s =
-    let q = s .standing in
-    (q .held .sound .shaped .laid, (omega (arith, q .few, weighed-room t (s .groups) n m j z w q), q .waits .ordered))
+module _ {t : Tables} {n m j z : ℕ} {w : List ℕ} {ps : List Pair} (s : SomeStanding t n m j z w ps) where
+  pub turn-laid : Laid t (length w)
+  turn-laid = s .standing .held .sound .shaped .laid
 
-module _ (t : Tables) (n m j z : ℕ) (w w₁ : List ℕ) (a : Taken) (o : Took t n a w w₁) where
-  pub turn-none : 0 < n → a ≡ Nothing → ⊥
-  turn-none l e = omega (arith, taken-nothing (heapOf t w) (heapOf t w₁) n a e (o .taken) .0)
+  pub turn-room : n ≤ room (t .groups)
+  turn-room = omega (arith, s .standing .few, weighed-room t (s .groups) n m j z w ps (s .standing))
 
-  module _ (p : Waiting) (e : a ≡ Best p) where
-    took : Popped (heapOf t w) n p (heapOf t w₁)
-    took = taken-best a p e (o .taken)
+  pub turn-merges : t .groups + j ≤ 2 * t .groups
+  turn-merges = merges-few t (s .groups) j w (s .standing .many) (s .standing .held)
 
-    pub turn-chosen : SomeStanding t n m j z w → SomeChosen t (n - 1) m j z p w₁
-    turn-chosen s = record { groups = s .groups; chosen = chosen-taken t (s .groups) n m j z p w w₁ (s .standing) (o .only) took }
+  pub turn-ordered : HeapOrdered ps n
+  turn-ordered = s .standing .waits .ordered
 
-    pub turned : (n′ m′ j′ z′ : ℕ) (w₂ : List ℕ) → 0 < n → Decided t (n - 1) m j z p n′ m′ j′ z′ w₁ w₂ → Turned t n m j z n′ m′ j′ z′ w w₂
-    turned n′ m′ j′ z′ w₂ l d = record {
-      only = only-trans (only-heap t (o .only)) (d .only);
-      stands = λ xs s. d .stands xs (chosen-taken t xs n m j z p w w₁ s (o .only) took);
-      less = omega (arith, d .less);
+  -- the best pair is taken
+  module _ {p : Pair} {ps₁ : List Pair} (o : Popped ps n p ps₁) where
+    chosen : (xs : List Group) → Standing t xs n m j z w ps → Chosen t xs (n - 1) m j z p w ps₁
+    chosen xs q = chosen-taken t xs n m j z p w ps ps₁ q o
+
+    -- its numbers are known
+    pub turn-known : (p .first < 2 * t .groups) × (p .second < 2 * t .groups)
+    turn-known =
+        let c = chosen (s .groups) (s .standing) in
+        let f = merges-few t (s .groups) j w (c .many) (c .held) in
+        let r = c .own .reached in
+        let l : p .second < t .groups + j = ⊎-elim (λ (e : p .second ≡ t .groups + j). absurd (omega (arith, r .last e))) (λ d. omega (arith, r .below)) (same-or-not (p .second) (t .groups + j)) in
+        (omega (arith, r .order), omega arith)
+
+    same-rest : SameFrom ps (room (t .groups)) ps₁
+    same-rest i l = o .rest i (omega (arith, turn-room))
+
+    -- one of its two is dead: it is passed over
+    pub turned-dead : (placeOf t w (p .first) ≡ 0) ⊎ (placeOf t w (p .second) ≡ 0) → Turned t n m j z (n - 1) m j z w w ps ps₁
+    turned-dead d = record {
+      only = only-refl (written t) w;
+      stands = λ xs q. chosen-dead t xs (n - 1) m j z p w ps₁ (chosen xs q) d;
+      less = omega (arith, o .some);
+      rest = same-rest;
     }
+
+    -- both live: it is joined
+    module _ (x : 0 < placeOf t w (p .first)) (y : 0 < placeOf t w (p .second)) where
+      pub turn-joinable : Joinable t j p w
+      turn-joinable = joinable t (s .groups) (n - 1) m j z p w ps₁ (chosen (s .groups) (s .standing)) x y
+
+      pub turn-gain : p .gain ≤ z
+      turn-gain = gain-fits t (s .groups) (n - 1) m j z p w ps₁ (chosen (s .groups) (s .standing)) x y
+
+      module _ {w₁ : List ℕ} {n₁ m₁ j₁ z₁ : ℕ} (r : JoinedAt t p (n - 1) m j z n₁ m₁ j₁ z₁ w w₁) where
+        pub turn-asked : Asked t (t .groups + j) 0 (n - 1) w₁ ps₁
+        turn-asked = joined-asked t (s .groups) (n - 1) m j z p w ps₁ (chosen (s .groups) (s .standing)) x y w₁ (r .pair-joined)
+
+        pub turn-more : (n - 1 + sum (alive t w₁) (t .groups + j) ≤ room (t .groups)) × (m + sum (alive t w₁) (t .groups + j) ≤ room (t .groups))
+        turn-more = joined-room t (s .groups) (n - 1) m j z p w ps₁ (chosen (s .groups) (s .standing)) x y w₁ (r .pair-joined)
+
+        pub turned-joined : {ps₂ : List Pair} {n₂ m₂ : ℕ} → OfferedAll t (t .groups + j) (n - 1) m n₂ m₂ w₁ ps₁ ps₂ → Turned t n m j z n₂ m₂ j₁ z₁ w w₁ ps ps₂
+        turned-joined {ps₂} {n₂} {m₂} q = record {
+          only = r .pair-joined .only;
+          stands = λ xs h. rw (r .one-more, r .falls) (joined-stands t xs (n - 1) m j z p w ps₁ (chosen xs h) x y w₁ (r .pair-joined) ps₂ n₂ m₂ q);
+          less = omega (arith, o .some, joined-less t (s .groups) (n - 1) m j z p w ps₁ (chosen (s .groups) (s .standing)) x y w₁ (r .pair-joined) ps₂ n₂ m₂ q .1);
+          rest = λ i l. q .rest i l ∙ same-rest i l;
+        }
 
 -- ---- the run
 
-pub record Running (t : Tables) (n₀ m₀ j₀ z₀ n m j z : ℕ) (w₀ w : List ℕ) : Type 0 where
+pub record Running (t : Tables) (n₀ m₀ j₀ z₀ n m j z : ℕ) (w₀ w : List ℕ) (ps₀ ps : List Pair) : Type 0 where
   pub only : Only (written t) w₀ w
-  pub some : SomeStanding t n m j z w
-  pub stands : (xs : List Group) → Standing t xs n₀ m₀ j₀ z₀ w₀ → Standing t xs n m j z w
+  pub some : SomeStanding t n m j z w ps
+  pub stands : (xs : List Group) → Standing t xs n₀ m₀ j₀ z₀ w₀ ps₀ → Standing t xs n m j z w ps
+  pub rest : SameFrom ps₀ (room (t .groups)) ps
 
-pub running-start : (t : Tables) (n m j z : ℕ) (w : List ℕ) → SomeStanding t n m j z w → Running t n m j z n m j z w w
-running-start t n m j z w s = record { only = only-refl (written t) w; some = s; stands = λ xs q. q }
+pub running-start : {t : Tables} {n m j z : ℕ} {w : List ℕ} {ps : List Pair} → SomeStanding t n m j z w ps → Running t n m j z n m j z w w ps ps
+running-start {t} {w = w} s = record { only = only-refl (written t) w; some = s; stands = λ xs q. q; rest = λ i _. refl }
 
-pub running-more : (t : Tables) (n₀ m₀ j₀ z₀ n m j z n′ m′ j′ z′ : ℕ) (w₀ w w′ : List ℕ) → Running t n₀ m₀ j₀ z₀ n m j z w₀ w → Turned t n m j z n′ m′ j′ z′ w w′
-    → Running t n₀ m₀ j₀ z₀ n′ m′ j′ z′ w₀ w′
-running-more t n₀ m₀ j₀ z₀ n m j z n′ m′ j′ z′ w₀ w w′ r d = record {
-  only = only-trans (r .only) (d .only);
-  some = record { groups = r .some .groups; standing = d .stands (r .some .groups) (r .some .standing) };
-  stands = λ xs s. d .stands xs (r .stands xs s);
-}
+module _ {t : Tables} {n₀ m₀ j₀ z₀ n m j z : ℕ} {w₀ w : List ℕ} {ps₀ ps : List Pair} (r : Running t n₀ m₀ j₀ z₀ n m j z w₀ w ps₀ ps) where
+  module _ {n′ m′ j′ z′ : ℕ} {w′ : List ℕ} {ps′ : List Pair} (d : Turned t n m j z n′ m′ j′ z′ w w′ ps ps′) where
+    pub running-more : Running t n₀ m₀ j₀ z₀ n′ m′ j′ z′ w₀ w′ ps₀ ps′
+    running-more = record {
+      only = only-trans (r .only) (d .only);
+      some = record { groups = r .some .groups; standing = d .stands (r .some .groups) (r .some .standing) };
+      stands = λ xs s. d .stands xs (r .stands xs s);
+      rest = λ i l. d .rest i l ∙ r .rest i l;
+    }
 
--- each turn there is less to come
-pub running-less : (t : Tables) (n m j z n′ m′ j′ z′ : ℕ) (w w′ : List ℕ) → SomeStanding t n m j z w → Turned t n m j z n′ m′ j′ z′ w w′
-    → room (t .groups) - m′ + n′ < room (t .groups) - m + n
-running-less t n m j z n′ m′ j′ z′ w w′ s d =
-    let a = weighed-room t (s .groups) n m j z w (s .standing) in
-    let b = weighed-room t (s .groups) n′ m′ j′ z′ w′ (d .stands (s .groups) (s .standing)) in
-    omega (arith, d .less)
+    -- each turn there is less to come
+    pub running-less : room (t .groups) - m′ + n′ < room (t .groups) - m + n
+    running-less =
+        let a = weighed-room t (r .some .groups) n m j z w ps (r .some .standing) in
+        let b = weighed-room t (r .some .groups) n′ m′ j′ z′ w′ ps′ (d .stands (r .some .groups) (r .some .standing)) in
+        omega (arith, d .less)
 
-pub running-done : (t : Tables) (n₀ m₀ j₀ z₀ n m j z : ℕ) (w₀ w : List ℕ) → Running t n₀ m₀ j₀ z₀ n m j z w₀ w → n ≤ 0 → Ran t n₀ m₀ j₀ z₀ n m j z w₀ w
-running-done t n₀ m₀ j₀ z₀ n m j z w₀ w r l = record { only = r .only; stands = r .stands; done = omega arith }
+  pub running-done : n ≤ 0 → Ran t n₀ m₀ j₀ z₀ n m j z w₀ w ps₀ ps
+  running-done l = record { only = r .only; stands = r .stands; done = omega arith; rest = r .rest }
 
 -- ---- its end: nothing waits, so no two living groups gain
 
-pub standing-done : (t : Tables) (xs : List Group) (m j z : ℕ) (w : List ℕ) → Standing t xs 0 m j z w → run j (start xs) ≡ merged xs
-standing-done t xs m j z w s = merged-is j xs (two-intro _ (run j (start xs) .living) (run-numbered j xs .1) go)
+pub standing-done : (t : Tables) (xs : List Group) (m j z : ℕ) (w : List ℕ) (ps : List Pair) → Standing t xs 0 m j z w ps → run j (start xs) ≡ merged xs
+standing-done t xs m j z w ps s = merged-is j xs (two-intro _ (run j (start xs) .living) (run-numbered j xs .1) go)
   where
     lives-of : (i : Living) → List·Memᴰ i (run j (start xs) .living) → Lives t w i
     lives-of i e = has (Lives t w) (run j (start xs) .living) (s .held .lives) i e

@@ -8,7 +8,7 @@ use lib.ListN.{length, getD, set, length-set}
 use lib.Seq.{getD-set-same, getD-set-other}
 use Rattle.laws.specs.Range.{Only}
 use Rattle.laws.proofs.RangeLaws.{only-trans, only-set, seg-cons, seg-none}
-use Rattle.queue.specs.declared.Waiting.{Waiting}
+use Rattle.pairs.specs.declared.Pair.{Pair}
 use Rattle.slots.specs.declared.tables.Tables.{Tables}
 use Rattle.slots.specs.Lent.{Laid}
 use Rattle.waits.specs.Waits.{placeOf}
@@ -117,7 +117,7 @@ module _ (t : Tables) (w : List ℕ) (a b k v : ℕ) (h : Laid t (length w)) (p 
       }
 
 -- three stores, one behind the other
-pub noted : (t : Tables) (w : List ℕ) (j : ℕ) (p : Waiting) → Laid t (length w) → j + 1 < t .groups
+pub noted : (t : Tables) (w : List ℕ) (j : ℕ) (p : Pair) → Laid t (length w) → j + 1 < t .groups
     → Noted t j p w (set (set (set w (t .log + 3 * j) (p .first)) (t .log + 3 * j + 1) (p .second)) (t .log + 3 * j + 2) (p .gain))
 noted t w j p h l =
     let a = t .log + 3 * j in

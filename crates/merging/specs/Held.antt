@@ -1,4 +1,4 @@
--- A state of the rule (rule's specs/Model.antt) in lent words. Assumes nothing.
+-- A state of the rule (rule's specs/Model.antt) in lent words and pair records. Assumes nothing.
 use mathlib.Core.Path.{_≡_}
 use mathlib.Core.Bool.{Bool, true, false}
 use mathlib.Core.Logic.{_≢_, _⊎_}
@@ -11,11 +11,11 @@ use Rattle.laws.specs.Range.{Only, seg}
 use Rattle.shapes.specs.Group.{Group, gain, joined}
 use Rattle.rule.specs.Model.{Living, State, start, run, total}
 use Rattle.rule.specs.Told.{Among, words}
-use Rattle.queue.specs.declared.Waiting.{Waiting}
-use Rattle.queue.specs.Queue.{AtLeast, HeapOrdered, Has}
+use Rattle.pairs.specs.declared.Pair.{Pair}
+use Rattle.pairs.specs.Queue.{AtLeast, HeapOrdered, Has, SameFrom}
 use Rattle.slots.specs.declared.tables.Tables.{Tables}
-use Rattle.slots.specs.Lent.{room, Sound, groupIn}
-use Rattle.waits.specs.Waits.{placeOf, groupOf, alive, pairOf, heapOf, Placed, Reached, Fair, Waits}
+use Rattle.slots.specs.Lent.{Sound, groupIn}
+use Rattle.waits.specs.Waits.{room, placeOf, groupOf, alive, pairOf, Placed, Reached, Fair, Waits}
 
 -- the group lies in the slot of its number
 pub record Lives (t : Tables) (w : List ℕ) (g : Living) : Type 0 where
@@ -44,26 +44,26 @@ pub record Held (t : Tables) (s : State) (j : ℕ) (w : List ℕ) : Type 0 where
   pub homes : All (λ g. All (λ i. Reaches t (t .groups + j) w i (g .num)) (g .origins)) (s .living)
 
 -- The run of the groups xs, after j merges: n pairs wait, m were weighed, and the groups cost z together.
-pub record Standing (t : Tables) (xs : List Group) (n m j z : ℕ) (w : List ℕ) : Type 0 where
+pub record Standing (t : Tables) (xs : List Group) (n m j z : ℕ) (w : List ℕ) (ps : List Pair) : Type 0 where
   pub many : length xs ≡ t .groups
   pub sets-few : weigh (λ x. x .sets) xs < 4294967296
   pub held : Held t (run j (start xs)) j w
-  pub waits : Waits t (t .groups + j) 0 n w
+  pub waits : Waits t (t .groups + j) 0 n w ps
   pub weighed : m ≡ run j (start xs) .weighed
   pub few : n ≤ m
   pub size-is : z ≡ total (run j (start xs) .living)
 
 -- the same, when p has just been taken
-pub record Chosen (t : Tables) (xs : List Group) (n m j z : ℕ) (p : Waiting) (w : List ℕ) : Type 0 where
+pub record Chosen (t : Tables) (xs : List Group) (n m j z : ℕ) (p : Pair) (w : List ℕ) (ps : List Pair) : Type 0 where
   pub many : length xs ≡ t .groups
   pub sets-few : weigh (λ x. x .sets) xs < 4294967296
   pub held : Held t (run j (start xs)) j w
-  pub ordered : HeapOrdered (heapOf t w) n
+  pub ordered : HeapOrdered ps n
   pub own : Fair t (t .groups + j) 0 w p
   pub best : (a b : ℕ) → Reached (t .groups + j) 0 a b → 0 < placeOf t w a → 0 < placeOf t w b → 0 < gain (groupOf t w a) (groupOf t w b) → AtLeast p (pairOf t w a b)
   pub rest : (a b : ℕ) → Reached (t .groups + j) 0 a b → 0 < placeOf t w a → 0 < placeOf t w b → 0 < gain (groupOf t w a) (groupOf t w b)
-      → (pairOf t w a b ≡ p) ⊎ Has (heapOf t w) n (pairOf t w a b)
-  pub fair : (q : Waiting) → Has (heapOf t w) n q → Fair t (t .groups + j) 0 w q
+      → (pairOf t w a b ≡ p) ⊎ Has ps n (pairOf t w a b)
+  pub fair : (q : Pair) → Has ps n q → Fair t (t .groups + j) 0 w q
   pub weighed : m ≡ run j (start xs) .weighed
   pub few : n + 1 ≤ m
   pub size-is : z ≡ total (run j (start xs) .living)
@@ -78,7 +78,6 @@ written t =
     ∷ (t .columns, t .groups)
     ∷ (t .into, 2 * t .groups)
     ∷ (t .log, 3 * (t .groups - 1))
-    ∷ (t .heap, 3 * room (t .groups))
     ∷ []
 
 -- numbers a and b died, and number k, in the slot that a had, is what they became
@@ -93,12 +92,12 @@ pub record Retired (t : Tables) (a b k v : ℕ) (w w′ : List ℕ) : Type 0 whe
   pub others-into : (c : ℕ) → c ≢ a → c ≢ b → c < 2 * t .groups → getD w′ (t .into + c) 0 ≡ getD w (t .into + c) 0
 
 -- entry j of the log
-pub record Noted (t : Tables) (j : ℕ) (p : Waiting) (w w′ : List ℕ) : Type 0 where
+pub record Noted (t : Tables) (j : ℕ) (p : Pair) (w w′ : List ℕ) : Type 0 where
   pub only : Only ((t .log + 3 * j, 3) ∷ []) w w′
   pub is : seg (t .log + 3 * j) 3 w′ ≡ p .first ∷ p .second ∷ p .gain ∷ []
 
 -- what joining the pair p as merge j asks
-pub record Joinable (t : Tables) (j : ℕ) (p : Waiting) (w : List ℕ) : Type 0 where
+pub record Joinable (t : Tables) (j : ℕ) (p : Pair) (w : List ℕ) : Type 0 where
   pub sound : Sound t w
   pub room : j + 1 < t .groups
   pub order : p .first < p .second
@@ -111,9 +110,8 @@ pub record Joinable (t : Tables) (j : ℕ) (p : Waiting) (w : List ℕ) : Type 0
   pub sets-few : groupOf t w (p .first) .sets + groupOf t w (p .second) .sets < 4294967296
 
 -- and does: both are dead, the next number is what they became, in the first one's slot, and the log has them
-pub record PairJoined (t : Tables) (j : ℕ) (p : Waiting) (w w′ : List ℕ) : Type 0 where
+pub record PairJoined (t : Tables) (j : ℕ) (p : Pair) (w w′ : List ℕ) : Type 0 where
   pub only : Only (written t) w w′
-  pub heap-same : heapOf t w′ ≡ heapOf t w
   pub sound : Sound t w′
   pub first-dead : placeOf t w′ (p .first) ≡ 0
   pub second-dead : placeOf t w′ (p .second) ≡ 0
@@ -127,36 +125,36 @@ pub record PairJoined (t : Tables) (j : ℕ) (p : Waiting) (w w′ : List ℕ) :
   pub log-new : seg (t .log + 3 * j) 3 w′ ≡ p .first ∷ p .second ∷ p .gain ∷ []
   pub log-old : seg (t .log) (3 * j) w′ ≡ seg (t .log) (3 * j) w
 
--- ---- The groups that a run started from are known to no function below `optimize`: what each asks holds of some groups, and what each does of
--- any that hold.
-
-pub record SomeStanding (t : Tables) (n m j z : ℕ) (w : List ℕ) : Type 0 where
-  pub groups : List Group
-  pub standing : Standing t groups n m j z w
-
-pub record SomeChosen (t : Tables) (n m j z : ℕ) (p : Waiting) (w : List ℕ) : Type 0 where
-  pub groups : List Group
-  pub chosen : Chosen t groups n m j z p w
+-- and the run's numbers: as before, one merge more, and the size less what it gains
+pub record JoinedAt (t : Tables) (p : Pair) (n m j z n′ m′ j′ z′ : ℕ) (w w′ : List ℕ) : Type 0 where
+  pub pair-joined : PairJoined t j p w w′
+  pub waiting-same : n′ ≡ n
+  pub weighed-same : m′ ≡ m
+  pub one-more : j′ ≡ j + 1
+  pub falls : z′ ≡ z - p .gain
 
 -- whether the two of p live
-pub record BothLive (t : Tables) (p : Waiting) (r : Bool) (w : List ℕ) : Type 0 where
+pub record BothLive (t : Tables) (p : Pair) (r : Bool) (w : List ℕ) : Type 0 where
   pub yes-live : r ≡ true → (0 < placeOf t w (p .first)) × (0 < placeOf t w (p .second))
   pub one-dead : r ≡ false → (placeOf t w (p .first) ≡ 0) ⊎ (placeOf t w (p .second) ≡ 0)
 
--- the pair p was joined or passed over
-pub record Decided (t : Tables) (n m j z : ℕ) (p : Waiting) (n′ m′ j′ z′ : ℕ) (w w′ : List ℕ) : Type 0 where
-  pub only : Only (written t) w w′
-  pub stands : (xs : List Group) → Chosen t xs n m j z p w → Standing t xs n′ m′ j′ z′ w′
-  pub less : n′ + m ≤ n + m′
+-- ---- The groups that a run started from are known to no function below `optimize`: what each asks holds of some groups, and what each does of
+-- any that hold.
+
+pub record SomeStanding (t : Tables) (n m j z : ℕ) (w : List ℕ) (ps : List Pair) : Type 0 where
+  pub groups : List Group
+  pub standing : Standing t groups n m j z w ps
 
 -- a turn of the run
-pub record Turned (t : Tables) (n m j z n′ m′ j′ z′ : ℕ) (w w′ : List ℕ) : Type 0 where
+pub record Turned (t : Tables) (n m j z n′ m′ j′ z′ : ℕ) (w w′ : List ℕ) (ps ps′ : List Pair) : Type 0 where
   pub only : Only (written t) w w′
-  pub stands : (xs : List Group) → Standing t xs n m j z w → Standing t xs n′ m′ j′ z′ w′
+  pub stands : (xs : List Group) → Standing t xs n m j z w ps → Standing t xs n′ m′ j′ z′ w′ ps′
   pub less : n′ + m < n + m′
+  pub rest : SameFrom ps (room (t .groups)) ps′
 
 -- the whole run: nothing waits
-pub record Ran (t : Tables) (n m j z n′ m′ j′ z′ : ℕ) (w w′ : List ℕ) : Type 0 where
+pub record Ran (t : Tables) (n m j z n′ m′ j′ z′ : ℕ) (w w′ : List ℕ) (ps ps′ : List Pair) : Type 0 where
   pub only : Only (written t) w w′
-  pub stands : (xs : List Group) → Standing t xs n m j z w → Standing t xs n′ m′ j′ z′ w′
+  pub stands : (xs : List Group) → Standing t xs n m j z w ps → Standing t xs n′ m′ j′ z′ w′ ps′
   pub done : n′ ≡ 0
+  pub rest : SameFrom ps (room (t .groups)) ps′

@@ -1,12 +1,17 @@
-// Merging, from the starting groups to the living ones.
+// Merging, from the starting groups to the living ones. `optimize` holds the pairs, and is walked (docs/PROVING.md).
 use crate::run;
 use crate::run::Progress;
+use pairs::Pair;
 use slots::Tables;
+use slots::measure_all;
+use slots::size;
+use waits::weigh_each;
 ghost use mathlib.Core.Path.{_≡_};
-ghost use Prim.Native.Nat.{_+_, _*_, _<_};
+ghost use Prim.Native.Nat.{_+_, _*_, _≤_, _<_};
 ghost use lib.ListN.{length, getD};
 ghost use Rattle.slots.specs.Lent.{Laid, Dealt};
-ghost use Rattle.waits.specs.Waits.{placeOf};
+ghost use Rattle.pairs.specs.Queue.{SameFrom};
+ghost use Rattle.waits.specs.Waits.{room, placeOf};
 ghost use Rattle.merging.specs.Optimized.{Ready, Optimized, Settled, Onward, Resolved, Finished};
 
 // How many merges there were and pairs were weighed, and the modelled size before and after.
@@ -18,7 +23,7 @@ pub struct Merged {
 }
 
 // Number i lives in the slot of starting group i.
-fn settle(work: &mut [u32], t: Tables)
+pub fn settle(work: &mut [u32], t: Tables)
     requires { ⌜ Laid t (length (now work)) ⌝ }
     requires { ⌜ Dealt t (now work) ⌝ }
     ensures { λ _. ⌜ Settled t (now (work .entry)) (now (work .exit)) ⌝ }
@@ -51,7 +56,7 @@ fn resolve(work: &mut [u32], t: Tables, c: usize)
 }
 
 // The living number that each number below k went into, from the last down to the first.
-fn finish(work: &mut [u32], t: Tables, k: usize)
+pub fn finish(work: &mut [u32], t: Tables, k: usize)
     requires { ⌜ Onward t k (now work) ⌝ }
     ensures { λ _. ⌜ Finished t k (now (work .entry)) (now (work .exit)) ⌝ }
 {
@@ -63,21 +68,23 @@ fn finish(work: &mut [u32], t: Tables, k: usize)
 }
 
 // Joins groups while a pair gains, the best pair first.
-pub fn optimize(work: &mut [u32], t: Tables) -> Merged
+pub fn optimize(pairs: &mut [Pair], work: &mut [u32], t: Tables) -> Merged
     requires { ⌜ Ready t (now work) ⌝ }
+    requires { ⌜ room (t .groups) ≤ length (now pairs) ⌝ }
     ensures { λ r. ⌜ Optimized t (r .merges) (r .weighed) (r .before) (r .after) (now (work .entry)) (now (work .exit)) ⌝ }
+    ensures { λ _. ⌜ SameFrom (now (pairs .entry)) (room (t .groups)) (now (pairs .exit)) ⌝ }
 {
-    slots::measure_all(work, t);
-    let before = slots::size(work, t);
+    measure_all(work, t);
+    let before = size(work, t);
     settle(work, t);
-    let tally = waits::weigh_each(work, t);
+    let tally = weigh_each(pairs, work, t);
     let start = Progress {
         waiting: tally.waiting,
         weighed: tally.weighed,
         merges: 0,
         size: before,
     };
-    let end = run::run(work, t, start);
+    let end = run::join_all(pairs, work, t, start);
     finish(work, t, t.groups + end.merges);
     Merged {
         merges: end.merges,

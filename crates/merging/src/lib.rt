@@ -1,6 +1,6 @@
 // Merging: groups of sets are joined while that saves bytes.
 mod encoder;
-mod pairs;
+mod joining;
 mod run;
 
 pub use encoder::Merged;

@@ -14,19 +14,7 @@ use Rattle.shapes.proofs.ShapeLaws.{overhead-most}
 use Rattle.shapes.proofs.GroupLaws.{gain-measured, gain-most}
 use Rattle.shapes.proofs.LentLaws.{narrow-small, narrow-join}
 use Rattle.slots.specs.declared.tables.Tables.{Tables}
-use Rattle.slots.specs.Lent.{room, Laid, shapeIn, groupIn, Shaped, Sound, CostsAs}
-
-pub room-none : (n : ℕ) → n ≡ 0 → 0 ≡ room n
-unfolding room
-room-none n e = rw e
-
-pub room-is : (n : ℕ) → (n - 1) * (n - 1) ≡ room n
-unfolding room
-room-is n = refl
-
-pub room-most : (n : ℕ) → n ≤ 1024 → room n ≤ 1046529
-unfolding room
-room-most n h = product 1023 1023 {a = n - 1} {b = n - 1} (omega arith) (omega arith)
+use Rattle.slots.specs.Lent.{Laid, shapeIn, groupIn, Shaped, Sound, CostsAs}
 
 -- ---- slots
 

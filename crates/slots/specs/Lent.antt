@@ -9,10 +9,6 @@ use Rattle.shapes.specs.Group.{Group, joined}
 use Rattle.shapes.specs.Lent.{Narrow, Measured}
 use Rattle.slots.specs.declared.tables.Tables.{Tables}
 
--- how many pairs n groups can have waiting: each pair that is ever weighed, and no more
-unfoldable pub room : ℕ → ℕ
-room n = (n - 1) * (n - 1)
-
 -- The tables lie one behind the other in n words.
 pub record Laid (t : Tables) (n : ℕ) : Type 0 where
   pub groups-few : t .groups ≤ 1024
@@ -24,8 +20,7 @@ pub record Laid (t : Tables) (n : ℕ) : Type 0 where
   pub rows-end : t .rows + t .groups ≤ t .columns
   pub columns-end : t .columns + t .groups ≤ t .into
   pub into-end : t .into + 2 * t .groups ≤ t .log
-  pub log-end : t .log + 3 * (t .groups - 1) ≤ t .heap
-  pub heap-end : t .heap + 3 * room (t .groups) ≤ n
+  pub log-end : t .log + 3 * (t .groups - 1) ≤ n
 
 -- the shape and the group in slot s
 unfoldable pub shapeIn : Tables → List ℕ → ℕ → List ℕ

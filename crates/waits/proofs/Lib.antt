@@ -1,1 +1,2 @@
 pub mod WaitLaws
+pub mod Calls

@@ -1,18 +1,20 @@
--- What waits in the queue of a merge, in lent words. Assumes nothing.
+-- What waits to be joined: pairs of numbers of groups in lent words, in a lent slice of pair records. Assumes nothing.
 use mathlib.Core.Path.{_≡_}
-use mathlib.Core.List.{List, [], _∷_}
+use mathlib.Core.List.{List}
 use Prim.Native.Nat.{ℕ, _+_, _-_, _*_, _≤_, _<_}
 use lib.Dec.{eqb}
 use lib.ListN.{getD}
 use Rattle.laws.specs.Pick.{pick}
 use Rattle.laws.specs.Bag.{sum}
-use Rattle.laws.specs.Range.{Only, seg}
 use Rattle.shapes.specs.Group.{Group, gain}
-use Rattle.queue.specs.declared.Waiting.{Waiting}
-use Rattle.queue.specs.declared.Taken.{Taken}
-use Rattle.queue.specs.Queue.{HeapOrdered, Has, Pushed, TakenFrom}
+use Rattle.pairs.specs.declared.Pair.{Pair}
+use Rattle.pairs.specs.Queue.{HeapOrdered, Has, SameFrom}
 use Rattle.slots.specs.declared.tables.Tables.{Tables}
-use Rattle.slots.specs.Lent.{room, groupIn, Sound}
+use Rattle.slots.specs.Lent.{groupIn, Sound}
+
+-- how many pairs n groups can have waiting: each pair that is ever weighed, and no more
+unfoldable pub room : ℕ → ℕ
+room n = (n - 1) * (n - 1)
 
 -- number c lives in a slot, one less than its place; 0 where it is dead
 abbrev pub placeOf : Tables → List ℕ → ℕ → ℕ
@@ -26,12 +28,8 @@ unfoldable pub alive : Tables → List ℕ → ℕ → ℕ
 alive t w c = pick (eqb (placeOf t w c) 0) 0 1
 
 -- the pair of two living numbers, as it waits
-abbrev pub pairOf : Tables → List ℕ → ℕ → ℕ → Waiting
+abbrev pub pairOf : Tables → List ℕ → ℕ → ℕ → Pair
 pairOf t w a b = record { gain = gain (groupOf t w a) (groupOf t w b); first = a; second = b }
-
--- the words of the queue
-unfoldable pub heapOf : Tables → List ℕ → List ℕ
-heapOf t w = seg (t .heap) (3 * room (t .groups)) w
 
 -- each number below k has a slot, or none
 pub record Placed (t : Tables) (k : ℕ) (w : List ℕ) : Type 0 where
@@ -44,16 +42,16 @@ pub record Reached (k c a b : ℕ) : Type 0 where
   pub last : b ≡ k → a < c
 
 -- what waits was weighed, gains, and is a living pair's own or a dead one
-pub record Fair (t : Tables) (k c : ℕ) (w : List ℕ) (q : Waiting) : Type 0 where
+pub record Fair (t : Tables) (k c : ℕ) (w : List ℕ) (q : Pair) : Type 0 where
   pub reached : Reached k c (q .first) (q .second)
   pub some : 0 < q .gain
   pub is : 0 < placeOf t w (q .first) → 0 < placeOf t w (q .second) → q ≡ pairOf t w (q .first) (q .second)
 
--- each living pair that was weighed and gains waits, in a queue of n
-pub record Waits (t : Tables) (k c n : ℕ) (w : List ℕ) : Type 0 where
-  pub ordered : HeapOrdered (heapOf t w) n
-  pub all : (a b : ℕ) → Reached k c a b → 0 < placeOf t w a → 0 < placeOf t w b → 0 < gain (groupOf t w a) (groupOf t w b) → Has (heapOf t w) n (pairOf t w a b)
-  pub fair : (q : Waiting) → Has (heapOf t w) n q → Fair t k c w q
+-- each living pair that was weighed and gains waits, among the first n of ps
+pub record Waits (t : Tables) (k c n : ℕ) (w : List ℕ) (ps : List Pair) : Type 0 where
+  pub ordered : HeapOrdered ps n
+  pub all : (a b : ℕ) → Reached k c a b → 0 < placeOf t w a → 0 < placeOf t w b → 0 < gain (groupOf t w a) (groupOf t w b) → Has ps n (pairOf t w a b)
+  pub fair : (q : Pair) → Has ps n q → Fair t k c w q
 
 -- number k can be weighed with those below it
 pub record Weighable (t : Tables) (k : ℕ) (w : List ℕ) : Type 0 where
@@ -62,48 +60,39 @@ pub record Weighable (t : Tables) (k : ℕ) (w : List ℕ) : Type 0 where
   pub living : 0 < placeOf t w k
   pub known : k < 2 * t .groups
 
--- it was, with number c: a pair was weighed where c lives, and gains g; where c is dead nothing gains
-pub record Considered (t : Tables) (c k v g : ℕ) (w : List ℕ) : Type 0 where
+-- it was, with number c: a pair was weighed where c lives, and gains that much; where c is dead nothing gains
+pub record Considered (t : Tables) (c k v : ℕ) (p : Pair) (w : List ℕ) : Type 0 where
   pub weighed : v ≡ alive t w c
-  pub dead : placeOf t w c ≡ 0 → g ≡ 0
-  pub gain-is : 0 < placeOf t w c → g ≡ gain (groupOf t w c) (groupOf t w k)
-
--- one more pair waits
-pub record PushedIn (t : Tables) (n n′ : ℕ) (p : Waiting) (w w′ : List ℕ) : Type 0 where
-  pub only : Only ((t .heap, 3 * room (t .groups)) ∷ []) w w′
-  pub count : n′ ≡ n + 1
-  pub pushed : Pushed (heapOf t w) n p (heapOf t w′)
+  pub first-is : p .first ≡ c
+  pub second-is : p .second ≡ k
+  pub dead : placeOf t w c ≡ 0 → p .gain ≡ 0
+  pub gain-is : 0 < placeOf t w c → p .gain ≡ gain (groupOf t w c) (groupOf t w k)
 
 -- what weighing number k with number c asks and does: n pairs wait and m were weighed before it, n′ and m′ after it
-pub record Asked (t : Tables) (k c n : ℕ) (w : List ℕ) : Type 0 where
+pub record Asked (t : Tables) (k c n : ℕ) (w : List ℕ) (ps : List Pair) : Type 0 where
   pub weighable : Weighable t k w
-  pub waits : Waits t k c n w
+  pub waits : Waits t k c n w ps
 
-pub record Offered (t : Tables) (k c n m n′ m′ : ℕ) (w w′ : List ℕ) : Type 0 where
-  pub only : Only ((t .heap, 3 * room (t .groups)) ∷ []) w w′
-  pub waits : Waits t k (c + 1) n′ w′
+pub record Offered (t : Tables) (k c n m n′ m′ : ℕ) (w : List ℕ) (ps ps′ : List Pair) : Type 0 where
+  pub waits : Waits t k (c + 1) n′ w ps′
   pub weighed : m′ ≡ m + alive t w c
   pub few : n′ ≤ n + alive t w c
+  pub rest : SameFrom ps (room (t .groups)) ps′
 
 -- and with each number below it
-pub record OfferedAll (t : Tables) (k n m n′ m′ : ℕ) (w w′ : List ℕ) : Type 0 where
-  pub only : Only ((t .heap, 3 * room (t .groups)) ∷ []) w w′
-  pub waits : Waits t k k n′ w′
+pub record OfferedAll (t : Tables) (k n m n′ m′ : ℕ) (w : List ℕ) (ps ps′ : List Pair) : Type 0 where
+  pub waits : Waits t k k n′ w ps′
   pub weighed : m′ ≡ m + sum (alive t w) k
   pub few : n′ ≤ n + sum (alive t w) k
+  pub rest : SameFrom ps (room (t .groups)) ps′
 
 -- each pair of the starting groups: each has a slot, and n pairs wait of m that were weighed
 pub record Opening (t : Tables) (w : List ℕ) : Type 0 where
   pub sound : Sound t w
   pub living : (c : ℕ) → c < t .groups → (0 < placeOf t w c) × (placeOf t w c ≤ t .groups)
 
-pub record Opened (t : Tables) (n m : ℕ) (w w′ : List ℕ) : Type 0 where
-  pub only : Only ((t .heap, 3 * room (t .groups)) ∷ []) w w′
-  pub waits : Waits t (t .groups) 0 n w′
+pub record Opened (t : Tables) (n m : ℕ) (w : List ℕ) (ps ps′ : List Pair) : Type 0 where
+  pub waits : Waits t (t .groups) 0 n w ps′
   pub weighed : 2 * m + t .groups ≡ t .groups * t .groups
   pub few : n ≤ m
-
--- a take from the queue
-pub record Took (t : Tables) (n : ℕ) (r : Taken) (w w′ : List ℕ) : Type 0 where
-  pub only : Only ((t .heap, 3 * room (t .groups)) ∷ []) w w′
-  pub taken : TakenFrom (heapOf t w) n r (heapOf t w′)
+  pub rest : SameFrom ps (room (t .groups)) ps′

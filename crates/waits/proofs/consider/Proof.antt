@@ -4,6 +4,12 @@ use borrow.Author.Needs.{needs}
 use Rattle.waits.proofs.consider.Statement.{statement}
 use Rattle.waits.proofs.consider.Tie as tie
 
+cast-first : tie.Need-cast-first
+cast-first c = omega (arith, c .before .pre .0 .known, c .before .pre .0 .sound .shaped .laid .groups-few)
+
+cast-second : tie.Need-cast-second
+cast-second c = omega (arith, c .before .pre .0 .known, c .before .pre .0 .sound .shaped .laid .groups-few)
+
 add-x : tie.Need-add-x
 add-x c = search needs
 
@@ -47,6 +53,8 @@ pub consider-spec : {M : Type 1} → statement M
 consider-spec =
     tie.close
     (tie.spec
+    cast-first
+    cast-second
     add-x
     mul-x
     shared-slice-read-x

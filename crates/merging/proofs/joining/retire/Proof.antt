@@ -2,8 +2,8 @@ use lib.ListN.{length-set}
 use Rattle.merging.proofs.StoreLaws.{retired}
 use native.Mathlib.Omega.{arith}
 use borrow.Author.Needs.{needs}
-use Rattle.merging.proofs.pairs.retire.Statement.{statement}
-use Rattle.merging.proofs.pairs.retire.Tie as tie
+use Rattle.merging.proofs.joining.retire.Statement.{statement}
+use Rattle.merging.proofs.joining.retire.Tie as tie
 
 add-work : tie.Need-add-work
 add-work c = search needs

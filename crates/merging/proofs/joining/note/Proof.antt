@@ -2,8 +2,8 @@ use lib.ListN.{length-set}
 use Rattle.merging.proofs.StoreLaws.{noted}
 use native.Mathlib.Omega.{arith}
 use borrow.Author.Needs.{needs}
-use Rattle.merging.proofs.pairs.note.Statement.{statement}
-use Rattle.merging.proofs.pairs.note.Tie as tie
+use Rattle.merging.proofs.joining.note.Statement.{statement}
+use Rattle.merging.proofs.joining.note.Tie as tie
 
 mul-at : tie.Need-mul-at
 mul-at c = search needs

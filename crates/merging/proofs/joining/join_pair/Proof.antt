@@ -2,8 +2,8 @@ use Rattle.merging.proofs.JoinLaws.{join-pair-asks, pair-joined}
 use Rattle.slots.proofs.SlotLaws.{laid-kept}
 use native.Mathlib.Omega.{arith}
 use borrow.Author.Needs.{needs}
-use Rattle.merging.proofs.pairs.join_pair.Statement.{statement}
-use Rattle.merging.proofs.pairs.join_pair.Tie as tie
+use Rattle.merging.proofs.joining.join_pair.Statement.{statement}
+use Rattle.merging.proofs.joining.join_pair.Tie as tie
 
 cast-a : tie.Need-cast-a
 cast-a c = search needs

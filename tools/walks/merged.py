@@ -1,0 +1,17 @@
+"""The structs and functions of merging that walks of several crates name."""
+from kinds import Fn, PAIR, Record, U32, U64, WORD
+
+TABLES = Record("slots", "tables.Tables", [(n, WORD) for n in "regions groups slots order counts place rows columns into log".split()], "L", "mach-tables")
+TALLY = Record("waits", "Tally", [("waiting", WORD), ("weighed", WORD)], "Y", "mach-tally")
+
+LENT = [("pairs", "&mut Pair"), ("work", "& u32"), ("tb", TABLES)]
+ENOUGH = ("enough", "room (tb .groups) ≤ length pairs")
+
+push = Fn("push", [("pairs", "&mut Pair"), ("count", WORD), ("p", PAIR)], WORD, "(r ≡ count + 1) × Pushed pairs count p pairs′",
+          [("within", "count < length pairs"), ("ordered", "HeapOrdered pairs count")], crate="pairs")
+take = Fn("take", [("pairs", "&mut Pair"), ("count", WORD)], PAIR, "Popped pairs count r pairs′",
+          [("fits", "count ≤ length pairs"), ("some-in", "0 < count"), ("ordered", "HeapOrdered pairs count")], crate="pairs")
+offer_all = Fn("offer_all", LENT + [("k", WORD), ("at", TALLY)], TALLY, "OfferedAll tb k (at .waiting) (at .weighed) (r .waiting) (r .weighed) work pairs pairs′",
+               [("asked", "Asked tb k 0 (at .waiting) work pairs"), ("more-wait", "at .waiting + sum (alive tb work) k ≤ room (tb .groups)"),
+                ("more-weighed", "at .weighed + sum (alive tb work) k ≤ room (tb .groups)"), ENOUGH], crate="waits", apart=True)
+weigh_each = Fn("weigh_each", LENT, TALLY, "Opened tb (r .waiting) (r .weighed) work pairs pairs′", [("opening", "Opening tb work"), ENOUGH], crate="waits", apart=True)
