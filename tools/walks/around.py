@@ -300,7 +300,7 @@ unfolding code.routine tablesOf
     entered 𝓤 H (tripleOf 𝓤 H (𝓖 .A) {d}.signature ({d}.spec 𝓤 H (𝓖 .A) (𝓜 .mem) (𝓡 .run)))
     (tables 𝓤 H 𝓜 𝓡 code.env .C) (tables 𝓤 H 𝓜 𝓡 code.env .Λ) {f.key()} code.function (code.unfolded 𝓤 H 𝓜 𝓡)
     ({d}-meets 𝓤 H (𝓖 .A) (givenOf 𝓤 H 𝓜 𝓖) (𝓜 .mem) (𝓡 .run) (tablesOf 𝓤 H 𝓜 (tables 𝓤 H 𝓜 𝓡 code.env))
-""" + "\n".join(f"    (cited 𝓤 H ({g.contract} 𝓤 H (𝓖 .A) (𝓜 .mem) (𝓡 .run)) 𝓜 𝓡 code.env {g.key()} {g.d}-def.routine code.calls-{g.crate}·{dash(g.path).replace(chr(46), chr(183))} ({g.d}-thm.met 𝓤 H 𝓜 𝓖 𝓡))" for g in callees) + ")\n"
+""" + "\n".join(f"    (cited 𝓤 H ({g.contract} 𝓤 H (𝓖 .A) (𝓜 .mem) (𝓡 .run)) 𝓜 𝓡 code.env {g.key()} {g.d}-def.routine code.calls-{dash(g.crate)}·{dash(g.path).replace(chr(46), chr(183))} ({g.d}-thm.met 𝓤 H 𝓜 𝓖 𝓡))" for g in callees) + ")\n"
         P = s.proofs
         lines = s.lines + [f"{P(s.name)}.Calls: " + " ".join([k.mach for k in Record.known.values() if not isinstance(k, Enum)] + [g.contract for g in callees] + names + ["After-" + n for n in names])]
         for g in callees:

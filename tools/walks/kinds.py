@@ -203,7 +203,7 @@ class Unit(Kind):
 WORD, U64, U32, U8 = Uint("usize", 64), Uint("u64", 64), Uint("u32", 32), Uint("u8", 8)
 BOOL, UNIT = Bool(), Unit()
 PAIR = Record("pairs", "Pair", [("gain", U32), ("first", U32), ("second", U32)], "T", "mach")
-ELEMS = {"Pair": ("Pair", "T.the-row"), "u32": ("ℕ", "u32"), "u8": ("ℕ", "u8")}
+ELEMS = {"Pair": ("Pair", "T.the-row"), "u32": ("ℕ", "u32"), "u64": ("ℕ", "u64"), "u8": ("ℕ", "u8")}
 
 
 class Slice:

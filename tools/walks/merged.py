@@ -1,8 +1,10 @@
 """The structs and functions of merging that walks of several crates name."""
-from kinds import Fn, PAIR, Record, U32, U64, WORD
+from kinds import Fn, PAIR, Record, U64, WORD
 
 TABLES = Record("slots", "tables.Tables", [(n, WORD) for n in "regions groups slots order counts place rows columns into log".split()], "L", "mach-tables")
 TALLY = Record("waits", "Tally", [("waiting", WORD), ("weighed", WORD)], "Y", "mach-tally")
+
+MERGED = Record("merging", "encoder.Merged", [("merges", WORD), ("weighed", WORD), ("before", U64), ("after", U64)], "D", "mach-merged")
 
 LENT = [("pairs", "&mut Pair"), ("work", "& u32"), ("tb", TABLES)]
 ENOUGH = ("enough", "room (tb .groups) ≤ length pairs")
@@ -15,3 +17,6 @@ offer_all = Fn("offer_all", LENT + [("k", WORD), ("at", TALLY)], TALLY, "Offered
                [("asked", "Asked tb k 0 (at .waiting) work pairs"), ("more-wait", "at .waiting + sum (alive tb work) k ≤ room (tb .groups)"),
                 ("more-weighed", "at .weighed + sum (alive tb work) k ≤ room (tb .groups)"), ENOUGH], crate="waits", apart=True)
 weigh_each = Fn("weigh_each", LENT, TALLY, "Opened tb (r .waiting) (r .weighed) work pairs pairs′", [("opening", "Opening tb work"), ENOUGH], crate="waits", apart=True)
+optimize = Fn("optimize", [("pairs", "&mut Pair"), ("work", "&mut u32"), ("tb", TABLES)], MERGED,
+              ["Optimized tb (r .merges) (r .weighed) (r .before) (r .after) work work′", "SameFrom pairs (room (tb .groups)) pairs′"], [("ready", "Ready tb work"), ENOUGH],
+              crate="merging", apart=True, module="encoder.")

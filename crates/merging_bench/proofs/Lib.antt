@@ -1,1 +1,3 @@
 pub mod ToldLaws
+-- For the walk: its calls.
+pub mod Calls

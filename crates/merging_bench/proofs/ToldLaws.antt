@@ -5,6 +5,7 @@ use Prim.Native.Nat.{ℕ, _<_}
 use lib.ListN.{length, getD, set, length-set}
 use native.Mathlib.Omega.{arith}
 use Rattle.slots.specs.declared.tables.Tables.{Tables}
+use Rattle.merging.specs.declared.encoder.Merged.{Merged}
 use Rattle.merging.specs.Optimized.{Optimized}
 
 -- there is room for the third after the first two
@@ -17,3 +18,7 @@ told t m x y z w w′ [] e o = absurd (omega (arith, e))
 told t m x y z w w′ (a ∷ []) e o = absurd (omega (arith, e))
 told t m x y z w w′ (a ∷ b ∷ []) e o = absurd (omega (arith, e))
 told t m x y z w w′ (a ∷ b ∷ c ∷ l) e o = o
+
+pub told-of : (t : Tables) (m : Merged) (r : ℕ) (w w′ l l′ : List ℕ) → length l ≡ 3 → Optimized t (m .merges) (m .weighed) (m .before) (m .after) w w′ → r ≡ m .merges
+    → l′ ≡ set (set (set l 0 (m .weighed)) 1 (m .before)) 2 (m .after) → Optimized t r (getD l′ 0 0) (getD l′ 1 0) (getD l′ 2 0) w w′
+told-of t m r w w′ l l′ e o q s = rw (q, s) (told t (m .merges) (m .weighed) (m .before) (m .after) w w′ l e o)

@@ -1,13 +1,31 @@
 // Merging under a C name, for the benchmark alone (host/bench): no entry point of the product, and nothing depends on it.
+use merging::Merged;
+use merging::optimize;
+use pairs::Pair;
 use slots::Tables;
 ghost use mathlib.Core.Path.{_≡_};
-ghost use lib.ListN.{length, getD};
+ghost use Prim.Native.Nat.{_≤_};
+ghost use lib.ListN.{length, getD, set};
+ghost use Rattle.waits.specs.Waits.{room};
 ghost use Rattle.merging.specs.Optimized.{Ready, Optimized};
+
+// Writes what merging counted, and returns how many merges there were.
+fn tell(told: &mut [u64], m: Merged) -> usize
+    requires { ⌜ length (now told) ≡ 3 ⌝ }
+    ensures { λ r. ⌜ r ≡ m .merges ⌝ }
+    ensures { λ _. ⌜ now (told .exit) ≡ set (set (set (now (told .entry)) 0 (m .weighed)) 1 (m .before)) 2 (m .after) ⌝ }
+{
+    told[0] = m.weighed as u64;
+    told[1] = m.before;
+    told[2] = m.after;
+    m.merges
+}
 
 // Joins the groups that lie in work where the numbers say, as `merging::optimize` does. Returns how many merges there were; told is how many pairs
 // were weighed, and the modelled size before and after.
 #[no_mangle]
 pub extern "C" fn fenikezo_optimize(
+    pairs: &mut [Pair],
     work: &mut [u32],
     regions: usize,
     groups: usize,
@@ -19,12 +37,12 @@ pub extern "C" fn fenikezo_optimize(
     columns: usize,
     into: usize,
     log: usize,
-    heap: usize,
     told: &mut [u64],
 ) -> usize
-    requires { ⌜ Ready (record { regions = regions; groups = groups; slots = slots; order = order; counts = counts; place = place; rows = rows; columns = columns; into = into; log = log; heap = heap }) (now work) ⌝ }
+    requires { ⌜ Ready (record { regions = regions; groups = groups; slots = slots; order = order; counts = counts; place = place; rows = rows; columns = columns; into = into; log = log }) (now work) ⌝ }
+    requires { ⌜ room groups ≤ length (now pairs) ⌝ }
     requires { ⌜ length (now told) ≡ 3 ⌝ }
-    ensures { λ r. ⌜ Optimized (record { regions = regions; groups = groups; slots = slots; order = order; counts = counts; place = place; rows = rows; columns = columns; into = into; log = log; heap = heap }) r (getD (now (told .exit)) 0 0) (getD (now (told .exit)) 1 0) (getD (now (told .exit)) 2 0) (now (work .entry)) (now (work .exit)) ⌝ }
+    ensures { λ r. ⌜ Optimized (record { regions = regions; groups = groups; slots = slots; order = order; counts = counts; place = place; rows = rows; columns = columns; into = into; log = log }) r (getD (now (told .exit)) 0 0) (getD (now (told .exit)) 1 0) (getD (now (told .exit)) 2 0) (now (work .entry)) (now (work .exit)) ⌝ }
 {
     let t = Tables {
         regions,
@@ -37,11 +55,7 @@ pub extern "C" fn fenikezo_optimize(
         columns,
         into,
         log,
-        heap,
     };
-    let merged = merging::optimize(work, t);
-    told[0] = merged.weighed as u64;
-    told[1] = merged.before;
-    told[2] = merged.after;
-    merged.merges
+    let m = optimize(pairs, work, t);
+    tell(told, m)
 }

@@ -1,5 +1,0 @@
-pub mod QueueOrder
-pub mod QueueBag
-pub mod QueueHeap
-pub mod QueueWords
-pub mod QueueContent
