@@ -1,8 +1,9 @@
--- The queue: its order, its content, what a swap, a push and a take do; clearing.
+-- The queue: its order, its content, what a moved hole, a push and a take do; clearing.
 pub mod Order
+pub mod Sets
 pub mod Bag
 pub mod Heap
-pub mod Sets
+pub mod Holes
 pub mod Zeros
 pub mod Content
 -- For walks: what a call is lent, several clauses, and the calls.
