@@ -69,11 +69,11 @@ abbrev homesOf : Places → ℕ → HomeTables
 homesOf p groups = record { groups = groups; from = p .order; into = p .into; place = p .place; spot = p .columns; home = p .counts }
 
 abbrev dealOf : Places → DealTables
-dealOf p = record { sets = p .sets; line = p .line; first = p .first; kinds = p .kinds; home = p .counts; finals = p .heap; rows = p .rows }
+dealOf p = record { sets = p .sets; line = p .line; first = p .first; kinds = p .kinds; home = p .counts; finals = p .columns; rows = p .rows }
 
 -- what `arrange` writes
 abbrev arranged-in : Places → List (ℕ × ℕ)
-arranged-in p = (p .counts, p .room) ∷ (p .costs, p .room) ∷ (p .columns, p .room) ∷ (p .heap, 3 * p .room) ∷ (p .rows, p .sets) ∷ []
+arranged-in p = (p .counts, p .room) ∷ (p .costs, p .room) ∷ (p .columns, 3 * p .room) ∷ (p .rows, p .sets) ∷ []
 
 module _ {p : Places} {groups k : ℕ} {w : List ℕ} (f : ArrangeFit p groups k w) {w₁ : List ℕ} {count : ℕ} (l : LinedUp p groups k w w₁ count) where
   lies : Laid p (length w)
@@ -138,14 +138,14 @@ module _ {p : Places} {groups k : ℕ} {w : List ℕ} (f : ArrangeFit p groups k
         let r = row-fits (p .regions) (p .room + 1) (getD (lineUp p k w) q 0) (omega (arith, few)) in
         omega (arith, lies)
 
-    pub heads-fit : HeadsFit (p .slots) (p .regions) (p .costs) count (p .heap) w₂
+    pub heads-fit : HeadsFit (p .slots) (p .regions) (p .costs) count (p .columns) w₂
     heads-fit = record {
       order-to = omega (arith, lies, few, count-few);
       room = omega (arith, lies, few, count-few, l .only .long, m .only .long);
       few = λ q h. rw (line₂ q h) (omega (arith, lies, slot-few q h));
     }
 
-    module _ {w₃ : List ℕ} (n : HeadsAt (p .slots) (p .regions) (p .costs) count (p .heap) w₂ w₃) where
+    module _ {w₃ : List ℕ} (n : HeadsAt (p .slots) (p .regions) (p .costs) count (p .columns) w₂ w₃) where
       low₃ : (i : ℕ) → i < p .counts → getD w₃ i 0 ≡ getD w i 0
       low₃ i h =
           n .only .kept i (record { apart = λ x. absurd (omega (arith, lies)) }, tt)
@@ -196,8 +196,8 @@ module _ {p : Places} {groups k : ℕ} {w : List ℕ} (f : ArrangeFit p groups k
       goes-same q x h = rw (first₃ x h, kinds₃ x h) refl
 
       module _ {w₄ : List ℕ} (d : Dealt (dealOf p) count w₃ w₄) where
-        heap₄ : (q : ℕ) → q < count → getD w₄ (groupAt p q) 0 ≡ p .slots + getD (lineUp p k w) q 0 * p .regions
-        heap₄ q h = d .shape q h ∙ n .at q h ∙ ap (λ (z : ℕ). p .slots + z * p .regions) (line₂ q h)
+        head₄ : (q : ℕ) → q < count → getD w₄ (groupAt p q) 0 ≡ p .slots + getD (lineUp p k w) q 0 * p .regions
+        head₄ q h = d .shape q h ∙ n .at q h ∙ ap (λ (z : ℕ). p .slots + z * p .regions) (line₂ q h)
 
         long₃ : length w₃ ≡ length w
         long₃ = n .only .long ∙ m .only .long ∙ l .only .long
@@ -215,14 +215,14 @@ module _ {p : Places} {groups k : ℕ} {w : List ℕ} (f : ArrangeFit p groups k
         arranged =
             let c = count-few in
             record {
-              only = only-trans {rs = arranged-in p} (only-weaken (λ i o. (o .1 .0, (o .1 .1 .0, tt))) (l .only))
+              only = only-trans {rs = arranged-in p} (only-weaken (λ i o. (o .1 .0, (apart-part (o .1 .1 .0) (omega arith) (omega arith), tt))) (l .only))
                   (only-trans {rs = arranged-in p} (only-weaken (λ i o. (apart-part (o .0) (omega arith) (omega (arith, few)), tt)) (m .only))
-                  (only-trans {rs = arranged-in p} (only-weaken (λ i o. (apart-part (o .1 .1 .1 .0) (omega arith) (omega (arith, few)), tt)) (n .only))
-                  (only-weaken (λ i o. (apart-part (o .1 .1 .1 .0) (omega arith) (omega (arith, few)), (o .1 .1 .1 .1 .0, tt))) (d .only))));
+                  (only-trans {rs = arranged-in p} (only-weaken (λ i o. (apart-part (o .1 .1 .0) (omega arith) (omega (arith, few)), tt)) (n .only))
+                  (only-weaken (λ i o. (apart-part (o .1 .1 .0) (omega arith) (omega (arith, few)), (o .1 .1 .1 .0, tt))) (d .only))));
               count-is = l .count-is;
               home = home₃;
               home-is = home-at;
-              shape = heap₄;
+              shape = head₄;
               rows-in = d .room;
               rows-few = omega (
                 arith,

@@ -1,18 +1,21 @@
 -- Mode 0 up to merging: ids and groups. Assumes nothing.
 use mathlib.Core.Path.{_≡_, refl, sym, ap, subst, _∙_}
 use mathlib.Core.List.{List, [], _∷_}
+use mathlib.Core.Logic.{⊎-elim}
 use Prim.Native.Nat.{ℕ, _+_, _*_, _≤_, _<_, min}
 use native.Mathlib.Omega.{arith}
 use lib.ListN.{length, getD}
-use Rattle.laws.specs.Every.{All}
+use Rattle.laws.specs.Every.{All, EachTwo}
 use Rattle.laws.specs.Bounded.{upTo}
 use Rattle.laws.specs.Range.{Only, seg}
 use Rattle.laws.specs.Sorting.{sorted, keep}
+use Rattle.laws.proofs.Cases.{lt-or-ge}
 use Rattle.laws.proofs.RangeLaws.{apart-part, only-trans, only-weaken, seg-ext}
 use Rattle.laws.proofs.EveryLaws.{all-imp}
 use Rattle.laws.proofs.SortLaws.{sorted-all, keep-same}
 use Rattle.laws.proofs.SortMap.{sorted-same}
 use Rattle.laws.proofs.UpLaws.{up-all}
+use Rattle.shapes.specs.Group.{Group}
 use Rattle.sets.specs.Set.{Set}
 use Rattle.sets.specs.Ids.{place, sharedIds, distinct}
 use Rattle.sets.specs.Lent.{setOf, setsIn, isFirst, atMost, Held, IdsFit, Identified}
@@ -22,13 +25,31 @@ use Rattle.grouping.specs.declared.Added.{Added}
 use Rattle.grouping.specs.declared.Added.the-variants.{Groups, Full}
 use Rattle.groups.specs.Groups.{shapeOf, groupsOf}
 use Rattle.grouping.specs.Grouped as tab
-use Rattle.groups.proofs.GroupLaws.{groups-few}
+use Rattle.groups.proofs.GroupLaws.{Long, groups-long, groups-unlike, groups-few}
 use Rattle.encoder.specs.declared.places.Places.{Places}
 use Rattle.encoder.specs.declared.encoded.Gathering.{Gathering}
 use Rattle.encoder.specs.declared.encoded.Gathering.the-variants as gathering
 use Rattle.encoder.specs.Places.{Laid}
 use Rattle.encoder.specs.Lent.{Fit}
 use Rattle.encoder.specs.Arranged.{shapesAt, JoinFit, GatheredAt}
+use Rattle.encoder.proofs.PlacesLaws.{room-none, room-some}
+
+-- ---- where no region is in use there is one shape
+
+empty : (s : List ℕ) → length s ≡ 0 → s ≡ []
+empty [] e = refl
+empty (x ∷ s) e = absurd (omega arith)
+
+one-at-most : (gs : List Group) → All (Long 0) gs → EachTwo (λ g h. g .shape ≡ h .shape → ⊥) gs → length gs ≤ 1
+one-at-most [] l b = omega arith
+one-at-most (g ∷ []) l b = omega arith
+one-at-most (g ∷ h ∷ gs) l b = absurd (b .0 .0 (empty (g .shape) (l .0) ∙ sym (empty (h .shape) (l .1 .0))))
+
+groups-one : (regions : ℕ) (sets : List Set) → regions ≡ 0 → length (groupsOf regions sets) ≤ 1
+groups-one regions sets z =
+    one-at-most (groupsOf regions sets) (subst (λ (n : ℕ). All (Long n) (groupsOf regions sets)) z (groups-long regions sets)) (groups-unlike regions sets)
+
+-- ---- the calls of `gather`
 
 module _ {p : Places} {w : List ℕ} (f : Fit p w) where
   lies : Laid p (length w)
@@ -112,7 +133,17 @@ module _ {p : Places} {w : List ℕ} (f : Fit p w) where
       result a e = subst (λ (x : Added). tab.Result (shapesAt p) 0 (p .sets) (p .kinds) w₁ w₂ x) e (g .result)
 
       pub gather-full : r ≡ Full → GatheredAt p w w₂ gathering.Full
-      gather-full e = let n = rw sets₁ at (result Full e) in record { only = only₂; result = omega (arith, lies .room-is, groups-most) }
+      gather-full e =
+          let n = rw sets₁ at (result Full e) in
+          record {
+            only = only₂;
+            result = ⊎-elim
+                (λ (l : 0 < p .regions). omega (arith, lies .room-is, room-some (p .sets) (p .regions) l, groups-most))
+                (λ (l : p .regions ≤ 0).
+                let z : p .regions ≡ 0 = omega arith in
+                absurd (omega (arith, lies .room-is, room-none (p .sets) (p .regions) z, groups-most, groups-one (p .regions) (setsIn 0 (p .sets) w) z)))
+                (lt-or-ge 0 (p .regions));
+          }
 
       module _ (groups : ℕ) (e : r ≡ Groups groups) where
         abbrev into : tab.GroupedInto (shapesAt p) 0 (p .sets) (p .kinds) w₁ w₂ groups

@@ -38,6 +38,7 @@ use Rattle.encoder.specs.Packed.{own, oneCost}
 use Rattle.encoder.specs.Places.{Laid}
 use Rattle.encoder.specs.Lent.{groupAt, Fit, relabel, FinalIn, OwnAt}
 use Rattle.encoder.specs.Own.{WordsFit, WordsAt, CostFit, costAt}
+use Rattle.encoder.proofs.PlacesLaws.{room-one}
 
 -- ---- the three words of a group
 
@@ -122,15 +123,15 @@ up-map : (n : ℕ) → map (λ x. getD (upTo n) x 0) (upTo n) ≡ upTo n
 up-map n = map-same (λ x. getD (upTo n) x 0) (upTo n) (all-imp (λ x h. up-at n x h) (upTo n) (up-all n))
 
 -- a group's three words say its shape and its rows
-final-is : (regions heap shape rows n : ℕ) (w : List ℕ) → getD w heap 0 ≡ shape → getD w (heap + 1) 0 ≡ rows → getD w (heap + 2) 0 ≡ n
-    → finalAt regions w heap ≡ record { shape = seg shape regions w; ids = seg rows n w }
+final-is : (regions at shape rows n : ℕ) (w : List ℕ) → getD w at 0 ≡ shape → getD w (at + 1) 0 ≡ rows → getD w (at + 2) 0 ≡ n
+    → finalAt regions w at ≡ record { shape = seg shape regions w; ids = seg rows n w }
 unfolding finalAt
-final-is regions heap shape rows n w a b c = rw (a, b, c)
+final-is regions at shape rows n w a b c = rw (a, b, c)
 
-finals-one : (f : ℕ → ℕ) (regions heap : ℕ) (w : List ℕ)
-    → relabel f (finalsAt regions heap 1 w) ≡ record { shape = finalAt regions w heap .shape; ids = map f (finalAt regions w heap .ids) } ∷ []
+finals-one : (f : ℕ → ℕ) (regions at : ℕ) (w : List ℕ)
+    → relabel f (finalsAt regions at 1 w) ≡ record { shape = finalAt regions w at .shape; ids = map f (finalAt regions w at .ids) } ∷ []
 unfolding relabel finalsAt tabulate
-finals-one f regions heap w = let e : heap + 3 * 0 ≡ heap = omega arith in rw e
+finals-one f regions at w = let e : at + 3 * 0 ≡ at = omega arith in rw e
 
 -- ---- the run of `own`
 
@@ -142,27 +143,28 @@ module _ {p : Places} {w : List ℕ} (f : Fit p w) (some : 0 < p .sets) where
   record Order : Type 0 where
     line-ids : p .line ≤ p .ids
     ids-slots : p .ids + p .sets ≤ p .slots
-    slots-heap : p .slots + p .regions + p .regions ≤ p .heap
-    log-heap : p .log ≤ p .heap
-    heap-rows : p .heap + 3 ≤ p .rows
+    slots-group : p .slots + p .regions + p .regions ≤ p .columns
+    log-rows : p .log ≤ p .rows
+    group-rows : p .columns + 3 ≤ p .rows
 
   order : Order
   order =
       let l = laid in
+      let one = room-one (p .sets) (p .regions) some in
       let two = row-fits (p .regions) (p .room + 1) 1 (omega (arith, l .room-is)) in
       record {
         line-ids = omega (arith, l .line-to, l .first-to);
         ids-slots = omega (arith, l .ids-to, l .kinds-to);
-        slots-heap = omega (arith, two, l .slots-to, l .order-to, l .counts-to, l .place-to, l .costs-to, l .columns-to, l .into-to, l .log-to);
-        log-heap = omega (arith, l .log-to);
-        heap-rows = omega (arith, l .room-is, l .finals-to);
+        slots-group = omega (arith, two, l .slots-to, l .order-to, l .counts-to, l .place-to, l .costs-to);
+        log-rows = omega (arith, l .log-to);
+        group-rows = omega (arith, l .room-is, l .columns-to, l .into-to, l .log-to);
       }
 
   pub ids-fit : (p .ids + p .sets ≤ length w) × (p .sets ≤ 4294967296)
-  ids-fit = let o = order in (omega (arith, o .ids-slots, o .slots-heap, o .heap-rows, laid .rows-to), omega (arith, laid .sets-few))
+  ids-fit = let o = order in (omega (arith, o .ids-slots, o .slots-group, o .group-rows, laid .rows-to), omega (arith, laid .sets-few))
 
   pub slots-few : p .slots + p .regions < 4294967296
-  slots-few = let o = order in omega (arith, o .slots-heap, o .heap-rows, laid .few)
+  slots-few = let o = order in omega (arith, o .slots-group, o .group-rows, laid .few)
 
   module _ {u : List ℕ} (a : CountedUp (p .ids) (p .sets) w u) where
     pub rows-fit : (p .rows + p .sets ≤ length u) × (p .sets ≤ 4294967296)
@@ -172,7 +174,7 @@ module _ {p : Places} {w : List ℕ} (f : Fit p w) (some : 0 < p .sets) where
       line-rows : Kept (p .line) w v
       line-rows =
           let o = order in
-          kept-trans (kept-only (a .only) (o .line-ids, tt)) (kept-only (b .only) (omega (arith, o .line-ids, o .ids-slots, o .slots-heap, o .heap-rows), tt))
+          kept-trans (kept-only (a .only) (o .line-ids, tt)) (kept-only (b .only) (omega (arith, o .line-ids, o .ids-slots, o .slots-group, o .group-rows), tt))
 
       pub cover-fit : CoverFit 0 (p .sets) (p .slots) (p .slots + p .regions) (p .regions) v
       cover-fit =
@@ -182,21 +184,21 @@ module _ {p : Places} {w : List ℕ} (f : Fit p w) (some : 0 < p .sets) where
             held = held-kept (f .held) line-rows;
             behind = omega (arith, o .line-ids, o .ids-slots);
             at-to = omega arith;
-            room = omega (arith, o .slots-heap, o .heap-rows, laid .rows-to, line-rows .long);
+            room = omega (arith, o .slots-group, o .group-rows, laid .rows-to, line-rows .long);
           }
 
       module _ {x : List ℕ} (c : CoverAt 0 (p .sets) (p .slots) (p .slots + p .regions) (p .regions) v x) where
-        pub words-fit : WordsFit (p .heap) (p .slots) (p .rows) (p .sets) x
+        pub words-fit : WordsFit (p .columns) (p .slots) (p .rows) (p .sets) x
         words-fit =
             let o = order in
             record {
-              room = omega (arith, o .heap-rows, laid .rows-to, line-rows .long, c .only .long);
-              shape-few = omega (arith, o .slots-heap, o .heap-rows, laid .few);
+              room = omega (arith, o .group-rows, laid .rows-to, line-rows .long, c .only .long);
+              shape-few = omega (arith, o .slots-group, o .group-rows, laid .few);
               rows-few = omega (arith, laid .few);
               n-few = omega (arith, laid .few);
             }
 
-        module _ {y : List ℕ} (g : WordsAt (p .heap) (p .slots) (p .rows) (p .sets) x y) where
+        module _ {y : List ℕ} (g : WordsAt (p .columns) (p .slots) (p .rows) (p .sets) x y) where
           long : length y ≡ length w
           long = g .only .long ∙ c .only .long ∙ line-rows .long
 
@@ -212,16 +214,16 @@ module _ {p : Places} {w : List ℕ} (f : Fit p w) (some : 0 < p .sets) where
               kept-trans line-rows
               (kept-trans
               (kept-only (c .only) (omega (arith, o .line-ids, o .ids-slots), (omega (arith, o .line-ids, o .ids-slots), tt)))
-              (kept-only (g .only) (omega (arith, o .line-ids, o .ids-slots, o .slots-heap), tt)))
+              (kept-only (g .only) (omega (arith, o .line-ids, o .ids-slots, o .slots-group), tt)))
 
           ids-are : seg (p .ids) (p .sets) y ≡ upTo (p .sets)
           ids-are =
               let o = order in
               let k : Kept (p .slots) u y =
-              kept-trans (kept-only (b .only) (omega (arith, o .slots-heap, o .heap-rows), tt))
+              kept-trans (kept-only (b .only) (omega (arith, o .slots-group, o .group-rows), tt))
               (kept-trans
               (kept-only (c .only) (omega arith, (omega arith, tt)))
-              (kept-only (g .only) (omega (arith, o .slots-heap), tt))) in
+              (kept-only (g .only) (omega (arith, o .slots-group), tt))) in
               seg-ext (p .ids) (p .ids) (p .sets) y u (omega (arith, ids-fit .0, long)) (omega (arith, ids-fit .0, a .only .long))
               (λ i h. k .below (p .ids + i) (omega (arith, o .ids-slots)))
               ∙ a .is
@@ -230,16 +232,16 @@ module _ {p : Places} {w : List ℕ} (f : Fit p w) (some : 0 < p .sets) where
           rows-are =
               let o = order in
               only-seg (g .only) (p .rows) (p .sets) (omega (arith, laid .rows-to, g .only .long, long))
-              (λ k h i. (record { apart = λ q. omega (arith, o .heap-rows) }, tt))
+              (λ k h i. (record { apart = λ q. omega (arith, o .group-rows) }, tt))
               ∙ only-seg (c .only) (p .rows) (p .sets) (omega (arith, laid .rows-to, line-rows .long))
-              (λ k h i. (record { apart = λ q. omega (arith, o .slots-heap, o .heap-rows) }, (record { apart = λ q. omega (arith, o .slots-heap, o .heap-rows) }, tt)))
+              (λ k h i. (record { apart = λ q. omega (arith, o .slots-group, o .group-rows) }, (record { apart = λ q. omega (arith, o .slots-group, o .group-rows) }, tt)))
               ∙ b .is
 
           shape-is : seg (p .slots) (p .regions) y ≡ coverOf (p .regions) all
           shape-is =
               let o = order in
-              only-seg (g .only) (p .slots) (p .regions) (omega (arith, o .slots-heap, o .heap-rows, laid .rows-to, g .only .long, long))
-              (λ k h i. (record { apart = λ q. absurd (omega (arith, o .slots-heap)) }, tt))
+              only-seg (g .only) (p .slots) (p .regions) (omega (arith, o .slots-group, o .group-rows, laid .rows-to, g .only .long, long))
+              (λ k h i. (record { apart = λ q. absurd (omega (arith, o .slots-group)) }, tt))
               ∙ c .is
               ∙ ap (coverOf (p .regions)) (sets-same (f .held) line-rows)
 
@@ -250,7 +252,7 @@ module _ {p : Places} {w : List ℕ} (f : Fit p w) (some : 0 < p .sets) where
           cost-fit =
               let o = order in
               record {
-                room = omega (arith, o .slots-heap, o .heap-rows, laid .rows-to, long);
+                room = omega (arith, o .slots-group, o .group-rows, laid .rows-to, long);
                 narrow = narrow-shape;
                 few = omega (arith, laid .few);
               }
@@ -264,30 +266,30 @@ module _ {p : Places} {w : List ℕ} (f : Fit p w) (some : 0 < p .sets) where
               let o = order in
               let r = laid .rows-to in
               only-trans (only-widen (p .line) (length w) (o .line-ids) (omega (arith, ids-fit .0)) (a .only))
-              (only-trans (only-widen (p .line) (length w) (omega (arith, o .line-ids, o .ids-slots, o .slots-heap, o .heap-rows)) (omega (arith, r)) (b .only))
+              (only-trans (only-widen (p .line) (length w) (omega (arith, o .line-ids, o .ids-slots, o .slots-group, o .group-rows)) (omega (arith, r)) (b .only))
               (only-trans
               (only-weaken
               (λ k h. (
-                record { apart = λ q. omega (arith, o .line-ids, o .ids-slots, o .slots-heap, o .heap-rows, r, h .0 .apart (omega (arith, o .line-ids, o .ids-slots))) },
-                (record { apart = λ q. omega (arith, o .line-ids, o .ids-slots, o .slots-heap, o .heap-rows, r, h .0 .apart (omega (arith, o .line-ids, o .ids-slots))) }, tt),
+                record { apart = λ q. omega (arith, o .line-ids, o .ids-slots, o .slots-group, o .group-rows, r, h .0 .apart (omega (arith, o .line-ids, o .ids-slots))) },
+                (record { apart = λ q. omega (arith, o .line-ids, o .ids-slots, o .slots-group, o .group-rows, r, h .0 .apart (omega (arith, o .line-ids, o .ids-slots))) }, tt),
               ))
               (c .only))
-              (only-widen (p .line) (length w) (omega (arith, o .line-ids, o .ids-slots, o .slots-heap)) (omega (arith, o .heap-rows, r)) (g .only))))
+              (only-widen (p .line) (length w) (omega (arith, o .line-ids, o .ids-slots, o .slots-group)) (omega (arith, o .group-rows, r)) (g .only))))
 
-          final-here : finalAt (p .regions) y (p .heap) ≡ record { shape = coverOf (p .regions) all; ids = upTo (p .sets) }
+          final-here : finalAt (p .regions) y (p .columns) ≡ record { shape = coverOf (p .regions) all; ids = upTo (p .sets) }
           final-here =
-              final-is (p .regions) (p .heap) (p .slots) (p .rows) (p .sets) y (g .shape-is) (g .rows-is) (g .n-is)
+              final-is (p .regions) (p .columns) (p .slots) (p .rows) (p .sets) y (g .shape-is) (g .rows-is) (g .n-is)
               ∙ (λ i. record { shape = shape-is i; ids = rows-are i })
 
           final-first : FinalIn p y 0
           final-first =
               let o = order in
-              let e : p .heap + 3 * 0 ≡ p .heap = omega arith in
-              let s : getD y (p .heap + 3 * 0) 0 ≡ p .slots = ap (λ (k : ℕ). getD y k 0) e ∙ g .shape-is in
-              let r : getD y (p .heap + 3 * 0 + 1) 0 ≡ p .rows = ap (λ (k : ℕ). getD y (k + 1) 0) e ∙ g .rows-is in
-              let n : getD y (p .heap + 3 * 0 + 2) 0 ≡ p .sets = ap (λ (k : ℕ). getD y (k + 2) 0) e ∙ g .n-is in
+              let e : p .columns + 3 * 0 ≡ p .columns = omega arith in
+              let s : getD y (p .columns + 3 * 0) 0 ≡ p .slots = ap (λ (k : ℕ). getD y k 0) e ∙ g .shape-is in
+              let r : getD y (p .columns + 3 * 0 + 1) 0 ≡ p .rows = ap (λ (k : ℕ). getD y (k + 1) 0) e ∙ g .rows-is in
+              let n : getD y (p .columns + 3 * 0 + 2) 0 ≡ p .sets = ap (λ (k : ℕ). getD y (k + 2) 0) e ∙ g .n-is in
               record {
-                shape-to = omega (arith, s, o .slots-heap, o .heap-rows);
+                shape-to = omega (arith, s, o .slots-group, o .group-rows);
                 rows-from = omega (arith, r);
                 rows-to = omega (arith, r, n);
                 numbers = subst (All (λ x. x < p .sets)) (sym (ap₂ (λ (k m : ℕ). seg k m y) r n ∙ rows-are)) (up-all (p .sets));
@@ -300,8 +302,8 @@ module _ {p : Places} {w : List ℕ} (f : Fit p w) (some : 0 < p .sets) where
           rows-one : sum (λ k. getD y (groupAt p k + 2) 0) 1 ≤ p .sets
           unfolding sum
           rows-one =
-              let e : p .heap + 3 * 0 ≡ p .heap = omega arith in
-              let n : getD y (p .heap + 3 * 0 + 2) 0 ≡ p .sets = ap (λ (k : ℕ). getD y (k + 2) 0) e ∙ g .n-is in
+              let e : p .columns + 3 * 0 ≡ p .columns = omega arith in
+              let n : getD y (p .columns + 3 * 0 + 2) 0 ≡ p .sets = ap (λ (k : ℕ). getD y (k + 2) 0) e ∙ g .n-is in
               omega (arith, n)
 
           pub own-done : (cost : ℕ) → cost ≡ costAt (p .slots) (p .regions) (p .sets) y
@@ -316,11 +318,11 @@ module _ {p : Places} {w : List ℕ} (f : Fit p w) (some : 0 < p .sets) where
                   sets-few = laid .sets-few;
                   regions-few = laid .regions-few;
                   line-to = o .line-ids;
-                  ids-to = omega (arith, o .ids-slots, o .slots-heap);
+                  ids-to = omega (arith, o .ids-slots, o .slots-group);
                   finals-few = omega arith;
-                  finals-to = omega (arith, o .heap-rows);
+                  finals-to = omega (arith, o .group-rows);
                   rows-to = omega (arith, laid .rows-to, long);
-                  log-to = omega (arith, o .log-heap, o .heap-rows);
+                  log-to = omega (arith, o .log-rows);
                   ids-are = rw all-long ids-are;
                   sets-are = λ k h. rw (all-long, up-at (p .sets) k h) (sets-at 0 (p .sets) w k h ∙ sym (set-same (f .held) line-kept k h));
                   distinct-is = sym all-long;
@@ -328,7 +330,7 @@ module _ {p : Places} {w : List ℕ} (f : Fit p w) (some : 0 < p .sets) where
                   finals-in = final-in;
                   rows-few = rows-one;
                   finals-are =
-                      finals-one (λ k. getD (upTo (length all)) k 0) (p .regions) (p .heap) y
+                      finals-one (λ k. getD (upTo (length all)) k 0) (p .regions) (p .columns) y
                       ∙ rw (final-here, all-long, up-map (p .sets));
                   groups-is = refl;
                   groups-few = omega arith;

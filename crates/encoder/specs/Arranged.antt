@@ -70,7 +70,7 @@ pub record ArrangeFit (p : Places) (groups k : ℕ) (w : List ℕ) : Type 0 wher
 -- The final groups stand in the order of the line, and each one's rows are the sets, in their order and of equal ones the first, whose slot has
 -- its home there.
 pub record Arranged (p : Places) (groups k : ℕ) (old new : List ℕ) (count : ℕ) : Type 0 where
-  pub only : Only ((p .counts, p .room) ∷ (p .costs, p .room) ∷ (p .columns, p .room) ∷ (p .heap, 3 * p .room) ∷ (p .rows, p .sets) ∷ []) old new
+  pub only : Only ((p .counts, p .room) ∷ (p .costs, p .room) ∷ (p .columns, 3 * p .room) ∷ (p .rows, p .sets) ∷ []) old new
   pub count-is : count ≡ length (lineUp p k old)
   pub home : ℕ → ℕ
   pub home-is : (i q : ℕ) → i < groups → q < count → getD (lineUp p k old) q 0 ≡ heirSlot p old i → home (getD old (p .order + i) 0) ≡ q

@@ -1,13 +1,20 @@
 -- Where the tables of a build stand in work. Assumes nothing.
 use mathlib.Core.Path.{_≡_}
 use Prim.Native.Nat.{ℕ, _+_, _-_, _*_, _≤_, _<_, min}
+use lib.Dec.{eqb}
+use Rattle.laws.specs.Pick.{pick}
 use Rattle.encoder.specs.declared.places.Places.{Places}
 
--- the tables of so many sets and regions, one behind the other from `base` on; the final groups stand where the waiting pairs stood
+-- How many groups there may be: no more than sets, and at most 1,024; one, where no region is in use, since all sets are empty then.
+unfoldable pub roomFor : ℕ → ℕ → ℕ
+roomFor sets regions = min sets (pick (eqb regions 0) 1 1024)
+
+-- The tables of so many sets and regions, one behind the other from `base` on. The final groups will stand where `columns` and `into` stood, and
+-- the rows where the waiting pairs stood.
 pub record PlacesAt (base sets regions : ℕ) (p : Places) : Type 0 where
   pub sets-is : p .sets ≡ sets
   pub regions-is : p .regions ≡ regions
-  pub room-is : p .room ≡ min sets 1024
+  pub room-is : p .room ≡ roomFor sets regions
   pub line-is : p .line ≡ base
   pub first-is : p .first ≡ base + sets
   pub ids-is : p .ids ≡ base + 2 * sets
@@ -21,13 +28,13 @@ pub record PlacesAt (base sets regions : ℕ) (p : Places) : Type 0 where
   pub into-is : p .into ≡ p .place + 4 * p .room
   pub log-is : p .log ≡ p .place + 6 * p .room
   pub heap-is : p .heap ≡ p .log + 3 * (p .room - 1)
-  pub rows-is : p .rows ≡ p .heap + 3 * p .room
+  pub rows-is : p .rows ≡ p .log + 3 * (p .room - 1)
 
 -- They lie one behind the other in so many words.
 pub record Laid (p : Places) (long : ℕ) : Type 0 where
   pub sets-few : p .sets ≤ 1048576
   pub regions-few : p .regions ≤ 256
-  pub room-is : p .room ≡ min (p .sets) 1024
+  pub room-is : p .room ≡ roomFor (p .sets) (p .regions)
   pub room-few : p .room ≤ 1024
   pub room-most : p .room ≤ p .sets
   pub line-to : p .line + p .sets ≤ p .first
@@ -41,8 +48,8 @@ pub record Laid (p : Places) (long : ℕ) : Type 0 where
   pub costs-to : p .costs + p .room ≤ p .columns
   pub columns-to : p .columns + p .room ≤ p .into
   pub into-to : p .into + 2 * p .room ≤ p .log
-  pub log-to : p .log + 3 * (p .room - 1) ≤ p .heap
+  pub log-to : p .log + 3 * (p .room - 1) ≤ p .rows
+  pub heap-from : p .log + 3 * (p .room - 1) ≤ p .heap
   pub heap-to : p .heap + 3 * ((p .room - 1) * (p .room - 1)) ≤ long
-  pub finals-to : p .heap + 3 * p .room ≤ p .rows
   pub rows-to : p .rows + p .sets ≤ long
   pub few : p .rows + p .sets < 4294967296

@@ -27,7 +27,7 @@ fn line_up(work: &mut [u32], p: Places, groups: usize, k: usize) -> usize
     count
 }
 
-// Of so many starting groups, and numbers k in all: the final groups from p.heap on, and their rows from p.rows on. Returns how many there are.
+// Of so many starting groups, and numbers k in all: the final groups from p.columns on, and their rows from p.rows on. Returns how many there are.
 pub fn arrange(work: &mut [u32], p: Places, groups: usize, k: usize) -> usize
     requires { ⌜ ArrangeFit p groups k (now work) ⌝ }
     ensures { λ r. ⌜ Arranged p groups k (now (work .entry)) (now (work .exit)) r ⌝ }
@@ -42,14 +42,14 @@ pub fn arrange(work: &mut [u32], p: Places, groups: usize, k: usize) -> usize
         home: p.counts,
     };
     find_homes(work, t);
-    heads(work, p.slots, p.regions, p.costs, count, p.heap);
+    heads(work, p.slots, p.regions, p.costs, count, p.columns);
     let d = DealTables {
         sets: p.sets,
         line: p.line,
         first: p.first,
         kinds: p.kinds,
         home: p.counts,
-        finals: p.heap,
+        finals: p.columns,
         rows: p.rows,
     };
     deal(work, d, count);

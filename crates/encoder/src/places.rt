@@ -1,13 +1,14 @@
 // Where the tables of a build stand in work, behind the sets.
 ghost use mathlib.Core.Path.{_≡_};
 ghost use Prim.Native.Nat.{_-_, _*_, _≤_, min};
-ghost use Rattle.encoder.specs.Places.{PlacesAt};
+ghost use Rattle.encoder.specs.Places.{roomFor, PlacesAt};
 
 // Of so many sets and regions, in this order. `line`, `first`, `ids` and `kinds` have a word for each set: set numbers in the order of the
 // sets, the first like of each, its id, the slot of its shape. Then the shapes, a word a region in each of room + 1 slots, and tables of room
 // words: `order` (the slot of each group), `counts` (sets by slot; then the final group of each slot), `place` (two such tables), `costs` (row
-// costs by slot; then the slots of the final groups), `columns` (columns by slot; then a slot's place in that order), `into` (two). Then the log,
-// the waiting pairs, and where those stood the final groups, three words each, with a word for each set from `rows` on.
+// costs by slot; then the slots of the final groups), `columns` (columns by slot; then a slot's place in that order), `into` (two). Where those two
+// stood, the final groups come to stand, three words each. Then the log, then the waiting pairs, and where those stood a word for each set from
+// `rows` on.
 pub struct Places {
     pub sets: usize,
     pub regions: usize,
@@ -28,14 +29,24 @@ pub struct Places {
     pub rows: usize,
 }
 
-// How many groups there may be: at most 1,024, and no more than sets.
-fn room_for(sets: usize) -> usize
-    ensures { λ r. ⌜ r ≡ min sets 1024 ⌝ }
+// The smaller of two numbers.
+fn least(a: usize, b: usize) -> usize
+    ensures { λ r. ⌜ r ≡ min a b ⌝ }
 {
-    if sets < 1024 {
-        return sets;
+    if a < b {
+        return a;
     }
-    1024
+    b
+}
+
+// How many groups there may be: no more than sets, and at most 1,024; one, where no region is in use, since all sets are empty then.
+fn room_for(sets: usize, regions: usize) -> usize
+    ensures { λ r. ⌜ r ≡ roomFor sets regions ⌝ }
+{
+    if regions == 0 {
+        return least(sets, 1);
+    }
+    least(sets, 1024)
 }
 
 // Three words for each merge that so many groups can have. Where there are no groups there is no log.
@@ -56,12 +67,12 @@ pub fn lay_out(base: usize, sets: usize, regions: usize) -> Places
     requires { ⌜ regions ≤ 256 ⌝ }
     ensures { λ r. ⌜ PlacesAt base sets regions r ⌝ }
 {
-    let room = room_for(sets);
+    let room = room_for(sets, regions);
     let slots = base + 4 * sets;
     let order = slots + (room + 1) * regions;
     let place = order + 2 * room;
     let log = place + 6 * room;
-    let heap = log + log_words(room);
+    let rows = log + log_words(room);
     Places {
         sets,
         regions,
@@ -78,7 +89,7 @@ pub fn lay_out(base: usize, sets: usize, regions: usize) -> Places
         columns: place + 3 * room,
         into: place + 4 * room,
         log,
-        heap,
-        rows: heap + 3 * room,
+        heap: rows,
+        rows,
     }
 }

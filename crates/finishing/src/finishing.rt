@@ -95,7 +95,7 @@ fn write_out(
     plan: Plan,
 )
     requires { ⌜ FinishFit axes starts (now job) p e (now work) ⌝ }
-    requires { ⌜ Planned axes (now work) (p .regions) (p .heap) (e .count) (now marks) (now numbers) (plan .runs) (plan .kept) ⌝ }
+    requires { ⌜ Planned axes (now work) (p .regions) (p .columns) (e .count) (now marks) (now numbers) (plan .runs) (plan .kept) ⌝ }
     requires { ⌜ length (storeIn axes starts (now job) p e (now work)) ≤ length (now out) ⌝ }
     ensures { λ _. ⌜ now (out .exit) ≡ over (now (out .entry)) 0 (length (storeIn axes starts (now (job .entry)) p e (now (work .entry)))) (storeIn axes starts (now (job .entry)) p e (now (work .entry))) ⌝ }
 {
@@ -106,7 +106,7 @@ fn write_out(
         starts,
         work,
         p.regions,
-        p.heap,
+        p.columns,
         e.count,
         0,
         marks,
@@ -134,7 +134,7 @@ fn write_words(
     copy_words(work, p.ids, p.sets, ids);
     copy_words(work, p.log, 3 * e.merges, log);
     name_rows(work, p.rows, p.sets, p.ids);
-    write_map(work, p.regions, p.heap, e.count, 0, map);
+    write_map(work, p.regions, p.columns, e.count, 0, map);
 }
 
 // What a done build answers: the counts as they were packed and planned, and the forecast.
@@ -144,7 +144,7 @@ fn report(axes: usize, work: &[u32], p: Places, e: Encoded, plan: Plan) -> Repor
     requires { ⌜ WordsFit p e (now work) ⌝ }
     ensures { λ r. ⌜ r ≡ reportIn axes p e (now (work .entry)) (plan .bytes) (plan .runs) (plan .kept) ⌝ }
 {
-    let model = forecast(axes, plan.kept, work, p.regions, p.heap, e.count, 0);
+    let model = forecast(axes, plan.kept, work, p.regions, p.columns, e.count, 0);
     Report {
         bytes: plan.bytes,
         subtables: plan.runs,
@@ -182,7 +182,7 @@ pub fn finish(
         axes,
         work,
         p.regions,
-        p.heap,
+        p.columns,
         e.count,
         0,
         &mut marks,

@@ -1,5 +1,5 @@
-use Prim.Native.Nat.{_+_, _*_, _≤_}
-use Rattle.encoder.proofs.PlacesLaws.{slots-few}
+use Prim.Native.Nat.{_+_, _*_, _≤_, min}
+use Rattle.encoder.proofs.PlacesLaws.{slots-few, room-most}
 use native.Mathlib.Omega.{arith}
 use borrow.Author.Needs.{needs}
 use Rattle.encoder.proofs.places.lay_out.Statement.{statement}
@@ -12,6 +12,9 @@ use Rattle.encoder.proofs.places.room_for.Reads as room-for-reads
 few : (c : tie.After-room-for) → (c .room-for .result + 1) * c .before .args .regions ≤ 262400
 few c = slots-few (c .before .args .sets) (c .before .args .regions) (c .room-for .result) (c .room-for .ensures) (omega arith)
 
+most : (c : tie.After-room-for) → c .room-for .result ≤ min (c .before .args .sets) 1024
+most c = omega (arith, c .room-for .ensures, room-most (c .before .args .sets) (c .before .args .regions))
+
 room-for-requires : tie.Need-room-for-requires
 room-for-requires c κs = search needs
 
@@ -22,31 +25,31 @@ add-slots : tie.Need-add-slots
 add-slots c = search needs
 
 add-order : tie.Need-add-order
-add-order c = search needs
+add-order c = omega (arith, few c, most c)
 
 mul-order : tie.Need-mul-order
-mul-order c = omega (arith, few c)
+mul-order c = omega (arith, few c, most c)
 
 add-order-2 : tie.Need-add-order-2
-add-order-2 c = omega (arith, few c)
+add-order-2 c = omega (arith, few c, most c)
 
 mul-place : tie.Need-mul-place
-mul-place c = search needs
+mul-place c = omega (arith, few c, most c)
 
 add-place : tie.Need-add-place
-add-place c = omega (arith, few c)
+add-place c = omega (arith, few c, most c)
 
 mul-log : tie.Need-mul-log
-mul-log c = search needs
+mul-log c = omega (arith, few c, most c)
 
 add-log : tie.Need-add-log
-add-log c = omega (arith, few c)
+add-log c = omega (arith, few c, most c)
 
 log-words-requires : tie.Need-log-words-requires
-log-words-requires c κs = search needs
+log-words-requires c κs = omega (arith, most c)
 
-add-heap : tie.Need-add-heap
-add-heap c = omega (arith, few (c .before))
+add-rows : tie.Need-add-rows
+add-rows c = omega (arith, few (c .before), most (c .before))
 
 add-t11 : tie.Need-add-t11
 add-t11 c = search needs
@@ -64,31 +67,25 @@ add-t14 : tie.Need-add-t14
 add-t14 c = search needs
 
 add-t15 : tie.Need-add-t15
-add-t15 c = omega (arith, few (c .before))
+add-t15 c = omega (arith, few (c .before), most (c .before))
 
 mul-t16 : tie.Need-mul-t16
 mul-t16 c = search needs
 
 add-t17 : tie.Need-add-t17
-add-t17 c = omega (arith, few (c .before))
+add-t17 c = omega (arith, few (c .before), most (c .before))
 
 mul-t18 : tie.Need-mul-t18
-mul-t18 c = search needs
+mul-t18 c = omega (arith, few (c .before), most (c .before))
 
 add-t19 : tie.Need-add-t19
-add-t19 c = omega (arith, few (c .before))
+add-t19 c = omega (arith, few (c .before), most (c .before))
 
 mul-t20 : tie.Need-mul-t20
-mul-t20 c = search needs
+mul-t20 c = omega (arith, few (c .before), most (c .before))
 
 add-t21 : tie.Need-add-t21
-add-t21 c = omega (arith, few (c .before))
-
-mul-t22 : tie.Need-mul-t22
-mul-t22 c = search needs
-
-add-t23 : tie.Need-add-t23
-add-t23 c = omega (arith, few (c .before))
+add-t21 c = omega (arith, few (c .before), most (c .before))
 
 returns : tie.Need-returns
 returns c = search needs
@@ -108,7 +105,7 @@ lay-out-spec =
     mul-log
     add-log
     log-words-requires
-    add-heap
+    add-rows
     add-t11
     mul-t10
     add-t12
@@ -121,6 +118,4 @@ lay-out-spec =
     add-t19
     mul-t20
     add-t21
-    mul-t22
-    add-t23
     returns)
