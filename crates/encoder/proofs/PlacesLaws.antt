@@ -43,15 +43,6 @@ square (suc d) h =
     rw e (omega arith)
 
 module _ (base n u r c q : ℕ) (low : c ≤ n) (some : 1 ≤ c) (behind : base ≤ 4 * r + u) (fits : n + u ≤ r) where
-  -- up to the waiting pairs' end
-  pairs-fit : c ≤ q → u ≤ q → base + 4 * n + (c + 1) * u + 8 * c + 3 * (c - 1) + 3 * ((c - 1) * (c - 1)) ≤ 16 * r + 4 * (q * q)
-  pairs-fit most narrow =
-      let cu : c * u ≤ q * q = product q q most narrow in
-      let cq : c * c ≤ q * q = product q q most most in
-      let more = row-next c u in
-      let even = square c some in
-      omega arith
-
   -- up to the rows' end, of no regions and so of one group; of some regions, and few records or many
   rows-alone : u ≡ 0 → c ≤ 1 → 1 ≤ q → base + 4 * n + (c + 1) * u + 8 * c + 3 * (c - 1) + n ≤ 16 * r + q * q
   rows-alone none one there =
@@ -111,45 +102,26 @@ module _ (base n u r long : ℕ) (p : Places) (f : PlacesAt base n u p) (behind 
       (λ (h : 1 ≤ p .room). ⊎-elim (rows-used h) (λ (l : u ≤ 0). rows-unused h (omega arith)) (lt-or-ge 0 u))
       (lt-or-ge (p .room) 1)
 
-  -- THE LAW: but for the waiting pairs, 16 r + min(r, 1024)^2 words are enough
-  pub rows-to-less : 16 * r + min r 1024 * min r 1024 ≤ long → p .rows + p .sets ≤ long
-  rows-to-less room = omega (arith, f .sets-is, rows-short)
-
-  module _ (room : 16 * r + 4 * (min r 1024 * min r 1024) ≤ long) where
-    heap-to : p .heap + 3 * ((p .room - 1) * (p .room - 1)) ≤ long
-    heap-to = ⊎-elim
-        (λ (h : p .room < 1).
-        let z = none h in
-        let a : (p .room + 1) * u ≡ u = rw (z .1) (omega arith) in
-        let b : (p .room - 1) * (p .room - 1) ≡ 0 = rw (z .1) in
-        omega (arith, f .heap-is, f .rows-is, rows-is, z .0, z .1))
-        (λ (h : 1 ≤ p .room).
-        let a = low in
-        let b = most in
-        omega (arith, f .heap-is, f .rows-is, rows-is, pairs-fit base n u r (p .room) (min r 1024) low h behind fits (omega arith) (omega arith)))
-        (lt-or-ge (p .room) 1)
-
-    pub laid : Laid p long
-    laid = record {
-      sets-few = omega (arith, f .sets-is);
-      regions-few = omega (arith, f .regions-is);
-      room-is = rw (f .sets-is, f .regions-is) (f .room-is);
-      room-few = most;
-      room-most = omega (arith, f .sets-is, low);
-      line-to = omega (arith, f .sets-is, f .line-is, f .first-is);
-      first-to = omega (arith, f .sets-is, f .first-is, f .ids-is);
-      ids-to = omega (arith, f .sets-is, f .ids-is, f .kinds-is);
-      kinds-to = omega (arith, f .sets-is, f .kinds-is, f .slots-is);
-      slots-to = rw (f .regions-is) (omega (arith, f .order-is));
-      order-to = omega (arith, f .counts-is);
-      counts-to = omega (arith, f .counts-is, f .place-is);
-      place-to = omega (arith, f .costs-is);
-      costs-to = omega (arith, f .costs-is, f .columns-is);
-      columns-to = omega (arith, f .columns-is, f .into-is);
-      into-to = omega (arith, f .into-is, f .log-is);
-      log-to = omega (arith, f .rows-is);
-      heap-from = omega (arith, f .heap-is);
-      heap-to = heap-to;
-      rows-to = rows-to-less (omega arith);
-      few = rw (f .sets-is) (omega (arith, rows-is, low, most, slots-few n u (p .room) (f .room-is) narrow));
-    }
+  -- THE LAW: 16 r + min(r, 1024)^2 words are enough
+  pub laid : 16 * r + min r 1024 * min r 1024 ≤ long → Laid p long
+  laid room = record {
+    sets-few = omega (arith, f .sets-is);
+    regions-few = omega (arith, f .regions-is);
+    room-is = rw (f .sets-is, f .regions-is) (f .room-is);
+    room-few = most;
+    room-most = omega (arith, f .sets-is, low);
+    line-to = omega (arith, f .sets-is, f .line-is, f .first-is);
+    first-to = omega (arith, f .sets-is, f .first-is, f .ids-is);
+    ids-to = omega (arith, f .sets-is, f .ids-is, f .kinds-is);
+    kinds-to = omega (arith, f .sets-is, f .kinds-is, f .slots-is);
+    slots-to = rw (f .regions-is) (omega (arith, f .order-is));
+    order-to = omega (arith, f .counts-is);
+    counts-to = omega (arith, f .counts-is, f .place-is);
+    place-to = omega (arith, f .costs-is);
+    costs-to = omega (arith, f .costs-is, f .columns-is);
+    columns-to = omega (arith, f .columns-is, f .into-is);
+    into-to = omega (arith, f .into-is, f .log-is);
+    log-to = omega (arith, f .rows-is);
+    rows-to = omega (arith, f .sets-is, rows-short);
+    few = rw (f .sets-is) (omega (arith, rows-is, low, most, slots-few n u (p .room) (f .room-is) narrow));
+  }

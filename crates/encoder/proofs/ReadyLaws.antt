@@ -45,10 +45,6 @@ module _ {p : Places} {groups long : ℕ} (lies : Laid p long) (few : groups ≤
   slots-to : p .slots + groups * p .regions ≤ p .order
   slots-to = let q = product (p .room + 1) (p .regions) {a = groups} {b = p .regions} (omega arith) (omega arith) in omega (arith, lies)
 
-  heap-to : p .heap + 3 * merge.room groups ≤ long
-  unfolding merge.room
-  heap-to = let q = product (p .room - 1) (p .room - 1) {a = groups - 1} {b = groups - 1} (omega arith) (omega arith) in omega (arith, lies)
-
   pub tables-laid : merge.Laid (tablesOf p groups) long
   tables-laid = record {
     groups-few = omega (arith, lies);
@@ -61,7 +57,6 @@ module _ {p : Places} {groups long : ℕ} (lies : Laid p long) (few : groups ≤
     columns-end = omega (arith, lies);
     into-end = omega (arith, lies);
     log-end = omega (arith, lies);
-    heap-end = heap-to;
   }
 
 -- merging of no groups has nothing to ask for but room
@@ -75,14 +70,12 @@ ready-none p w l = record {
 
 -- and leaves its words as they are
 pub idle : (p : Places) (groups : ℕ) {m v b a : ℕ} {w w′ : List ℕ} → Optimized (tablesOf p groups) m v b a w w′ → groups ≡ 0 → w′ ≡ w
-unfolding merge.room
 idle p groups {w = w} {w′ = w′} o z =
     let none₀ : groups * p .regions ≡ 0 * p .regions = ap (λ (n : ℕ). n * p .regions) z in
     let none : groups * p .regions ≡ 0 = omega arith in
-    let gone : 3 * ((groups - 1) * (groups - 1)) ≡ 0 = ap (λ (n : ℕ). 3 * ((n - 1) * (n - 1))) z in
     let twice : 2 * groups ≡ 0 = omega arith in
     let late : 3 * (groups - 1) ≡ 0 = omega arith in
-    ext-getD 0 w′ w (o .only .long) (λ i h. o .only .kept i (off (p .slots) (groups * p .regions) i none, (off (p .counts) groups i z, (off (p .place) (2 * groups) i twice, (off (p .costs) groups i z, (off (p .columns) groups i z, (off (p .into) (2 * groups) i twice, (off (p .log) (3 * (groups - 1)) i late, (off (p .heap) (3 * merge.room groups) i gone, tt)))))))))
+    ext-getD 0 w′ w (o .only .long) (λ i h. o .only .kept i (off (p .slots) (groups * p .regions) i none, (off (p .counts) groups i z, (off (p .place) (2 * groups) i twice, (off (p .costs) groups i z, (off (p .columns) groups i z, (off (p .into) (2 * groups) i twice, (off (p .log) (3 * (groups - 1)) i late, tt))))))))
   where
     off : (a n k : ℕ) → n ≡ 0 → Apart a n k 1
     off a n k e = record { apart = λ h. omega arith }

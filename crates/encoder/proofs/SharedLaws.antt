@@ -91,7 +91,7 @@ module _ {p : Places} {groups ids : ℕ} {w : List ℕ} (f : JoinFit p groups id
 
   low : (i : ℕ) → i < p .slots → getD w′ i 0 ≡ getD w i 0
   low i h = kept-only {end = p .slots} (o .only)
-      (omega arith, (omega (arith, lies), (omega (arith, lies), (omega (arith, lies), (omega (arith, lies), (omega (arith, lies), (omega (arith, lies), (omega (arith, lies), tt)))))))) .below i h
+      (omega arith, (omega (arith, lies), (omega (arith, lies), (omega (arith, lies), (omega (arith, lies), (omega (arith, lies), (omega (arith, lies), tt))))))) .below i h
 
   order-kept : (i : ℕ) → i < groups → getD w′ (p .order + i) 0 ≡ getD w (p .order + i) 0
   order-kept i h =
@@ -105,7 +105,7 @@ module _ {p : Places} {groups ids : ℕ} {w : List ℕ} (f : JoinFit p groups id
             record { apart = λ x. absurd (omega (arith, lies)) },
             (
               record { apart = λ x. absurd (omega (arith, lies)) },
-              (record { apart = λ x. absurd (omega (arith, lies)) }, (record { apart = λ x. absurd (omega (arith, lies)) }, (record { apart = λ x. absurd (omega (arith, lies)) }, (record { apart = λ x. absurd (omega (arith, lies)) }, tt)))),
+              (record { apart = λ x. absurd (omega (arith, lies)) }, (record { apart = λ x. absurd (omega (arith, lies)) }, (record { apart = λ x. absurd (omega (arith, lies)) }, tt))),
             ),
           ),
         ),
@@ -459,7 +459,6 @@ module _ {p : Places} {groups ids : ℕ} {w : List ℕ} (f : JoinFit p groups id
     only″ =
         let e = slots-end f in
         let g = groups-fit f in
-        let h = merge-laid f .heap-end in
         let long = o .only .long in
         only-trans {rs = (p .line, length w) ∷ []}
         (only-weaken (λ k u. (
@@ -474,7 +473,7 @@ module _ {p : Places} {groups ids : ℕ} {w : List ℕ} (f : JoinFit p groups id
                   part (u .0) (omega (arith, lies)) (omega (arith, lies)),
                   (
                     part (u .0) (omega (arith, lies)) (omega (arith, lies)),
-                    (part (u .0) (omega (arith, lies)) (omega (arith, lies)), (part (u .0) (omega (arith, lies)) (omega (arith, lies)), tt)),
+                    (part (u .0) (omega (arith, lies)) (omega (arith, lies)), tt),
                   ),
                 ),
               ),

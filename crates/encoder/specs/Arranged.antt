@@ -104,7 +104,6 @@ tablesOf p groups = record {
   columns = p .columns;
   into = p .into;
   log = p .log;
-  heap = p .heap;
 }
 
 -- there are too many shapes, or the groups are merging's to join

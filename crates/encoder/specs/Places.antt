@@ -9,8 +9,7 @@ use Rattle.encoder.specs.declared.places.Places.{Places}
 unfoldable pub roomFor : ℕ → ℕ → ℕ
 roomFor sets regions = min sets (pick (eqb regions 0) 1 1024)
 
--- The tables of so many sets and regions, one behind the other from `base` on. The final groups will stand where `columns` and `into` stood, and
--- the rows where the waiting pairs stood.
+-- The tables of so many sets and regions, one behind the other from `base` on. The final groups will stand where `columns` and `into` stood.
 pub record PlacesAt (base sets regions : ℕ) (p : Places) : Type 0 where
   pub sets-is : p .sets ≡ sets
   pub regions-is : p .regions ≡ regions
@@ -27,7 +26,6 @@ pub record PlacesAt (base sets regions : ℕ) (p : Places) : Type 0 where
   pub columns-is : p .columns ≡ p .place + 3 * p .room
   pub into-is : p .into ≡ p .place + 4 * p .room
   pub log-is : p .log ≡ p .place + 6 * p .room
-  pub heap-is : p .heap ≡ p .log + 3 * (p .room - 1)
   pub rows-is : p .rows ≡ p .log + 3 * (p .room - 1)
 
 -- They lie one behind the other in so many words.
@@ -49,7 +47,5 @@ pub record Laid (p : Places) (long : ℕ) : Type 0 where
   pub columns-to : p .columns + p .room ≤ p .into
   pub into-to : p .into + 2 * p .room ≤ p .log
   pub log-to : p .log + 3 * (p .room - 1) ≤ p .rows
-  pub heap-from : p .log + 3 * (p .room - 1) ≤ p .heap
-  pub heap-to : p .heap + 3 * ((p .room - 1) * (p .room - 1)) ≤ long
   pub rows-to : p .rows + p .sets ≤ long
   pub few : p .rows + p .sets < 4294967296

@@ -7,8 +7,7 @@ ghost use Rattle.encoder.specs.Places.{roomFor, PlacesAt};
 // sets, the first like of each, its id, the slot of its shape. Then the shapes, a word a region in each of room + 1 slots, and tables of room
 // words: `order` (the slot of each group), `counts` (sets by slot; then the final group of each slot), `place` (two such tables), `costs` (row
 // costs by slot; then the slots of the final groups), `columns` (columns by slot; then a slot's place in that order), `into` (two). Where those two
-// stood, the final groups come to stand, three words each. Then the log, then the waiting pairs, and where those stood a word for each set from
-// `rows` on.
+// stood, the final groups come to stand, three words each. Then the log, and a word for each set from `rows` on.
 pub struct Places {
     pub sets: usize,
     pub regions: usize,
@@ -25,7 +24,6 @@ pub struct Places {
     pub columns: usize,
     pub into: usize,
     pub log: usize,
-    pub heap: usize,
     pub rows: usize,
 }
 
@@ -89,7 +87,6 @@ pub fn lay_out(base: usize, sets: usize, regions: usize) -> Places
         columns: place + 3 * room,
         into: place + 4 * room,
         log,
-        heap: rows,
         rows,
     }
 }

@@ -50,7 +50,6 @@ pub fn tables(p: Places, groups: usize) -> Tables
         columns: p.columns,
         into: p.into,
         log: p.log,
-        heap: p.heap,
     }
 }
 
