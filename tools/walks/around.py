@@ -79,7 +79,7 @@ class Crate:
         s.proofs = lambda c: here(c, "proofs")
         s.lines = IMPORTS.strip().split("\n") + specs
         for k in Record.known.values():
-            s.lines += [f"{here(k.crate, 'specs')}.declared.{k.path}: {k.denot}", f"{here(k.crate, 'proofs')}.{k.path} as {k.a}", f"{here(k.crate, 'proofs')}.{k.path}.Laws as {k.a}′"]
+            s.lines += [f"{here(k.crate, 'specs')}.declared.{k.path}: {k.brought}", f"{here(k.crate, 'proofs')}.{k.path} as {k.a}", f"{here(k.crate, 'proofs')}.{k.path}.Laws as {k.a}′"]
             if isinstance(k, Enum):
                 s.lines.append(f"{here(k.crate, 'specs')}.declared.{k.path}.the-variants: " + " ".join(v for v, _ in k.fields))
         s.lines += [f"{here('pairs', 'proofs')}.Loan: Loan both Gives gives loan-call", f"{here('pairs', 'proofs')}.Slices: ref Has Sees lent-mut lent-shr lent-see", f"{here('pairs', 'proofs')}.Refs: HasRef at-ref lent-ref", f"{here('pairs', 'proofs')}.Clauses: needs-more needs-none"]

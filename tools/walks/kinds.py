@@ -82,14 +82,16 @@ class Uint(Kind):
 
 
 class Record(Kind):
-    """A struct by value. `a` is what its modules are called in a walk: a.the-row, a′.the-laws; m the name of its machine value."""
+    """A struct by value. `a` is what its modules are called in a walk: a.the-row, a′.the-laws; m the name of its machine value. `called`: its name there, where
+    its own is taken (`Tables` is the kit's)."""
     known = {}
 
     laws_of, few = "LL", ""
 
-    def __init__(s, crate, path, fields, a, m):
+    def __init__(s, crate, path, fields, a, m, called=None):
         s.crate, s.path, s.fields, s.a = crate, path, fields, a
-        s.denot = path.split(".")[-1]
+        name = path.split(".")[-1]
+        s.denot, s.brought = called or name, f"{name}|{called}" if called else name
         s.row, s.ty, s.of = f"{a}.the-row", f"{a}′.mir", f"{a}.the-type {a}′.the-laws"
         s.mach = m or f"EL.val {s.of}"
         s.laws, s.vals, s.tells = f"{s.laws_of}.lawful {s.of} 𝓤 H A W{s.few}", f"{s.laws_of}.vals {s.of}", f"{s.laws_of}.tells {s.of}"
@@ -146,6 +148,15 @@ spelt-{s.a} x r g = ap only ({s.tells} x (r ∷ []) g)
 at-{s.a} : (x : {s.denot}) (r : Val) → Is {s.row} x (r ∷ []) → Is {s.row} x ({s.mach} x ∷ [])
 at-{s.a} x r g = subst (λ (u : Val). Is {s.row} x (u ∷ [])) (spelt-{s.a} x r g) g
 """
+
+
+def struct(crate, path, a, m, of=(), called=None):
+    """A struct's kind, its fields as the source has them; `of` are the structs among these."""
+    name = path.split(".")[-1]
+    text = open(f"crates/{crate}/src/{'/'.join(path.split('.')[:-1]) or 'lib'}.rt").read()
+    body = re.search(rf"pub struct {name} {{\n(.*?)\n}}", text, re.S)[1]
+    kinds = {"usize": WORD, "u64": U64, "u32": U32, "u8": U8, "bool": BOOL} | {k.denot: k for k in of}
+    return Record(crate, path, [(f, kinds[t]) for f, t in re.findall(r"pub (\w+): (\w+),", body)], a, m, called)
 
 
 class Enum(Record):
@@ -225,14 +236,17 @@ class Slice:
 
 
 class Fn:
-    """requires: (name, clause), each a part of one clause, or each a clause where `apart`. ensures: a clause, or a list of clauses."""
+    """requires: (name, clause), each a part of one clause, or each a clause where `apart`. ensures: a clause, or a list of clauses.
+    A function of another crate goes by the name that this exports; `inside` is the module where it stands there. `called`: its name in a walk, where its own
+    is taken (`open` is a word of the language, `tables` is the kit's)."""
 
-    def __init__(s, name, params, result, ensures, requires=(), crate=None, contract=None, apart=False, **walk):
+    def __init__(s, name, params, result, ensures, requires=(), crate=None, contract=None, apart=False, inside=None, called=None, **walk):
         s.path, s.crate, s.result, s.apart, s.walk = name, crate, result, apart, walk  # the path: `waits.offer` of a module
         s.name = name.split(".")[-1]
         s.clauses = [ensures] if isinstance(ensures, str) else ensures
         s.ensures = " × ".join(f"({c})" for c in s.clauses) if len(s.clauses) > 1 else s.clauses[0]
-        s.d = dash(s.name)
+        s.inside = f"{inside}::" if inside else ""
+        s.d = called or dash(s.name)
         s.contract = contract or "".join(w.capitalize() for w in s.name.split("_")) + "-of"
         s.slices, s.params = [], []  # a parameter: (name, Kind) or a Slice
         for n, t in params:
@@ -249,7 +263,7 @@ class Fn:
         return f"#{s.crate}·{s.d}"
 
     def mir(s):
-        return f"{s.crate}::{s.path.replace('.', '::')}"
+        return f"{s.crate}::{s.inside}{s.path.replace('.', '::')}"
 
     def asks(s):  # the clauses `requires`
         return [t for _, t in s.requires] if s.apart else [s.req()] if s.requires else []
