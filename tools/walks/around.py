@@ -74,7 +74,7 @@ def uses(body, lines):
 class Crate:
     def __init__(s, name, fns, specs):
         """specs: lines of imports for clauses and laws, as in IMPORTS."""
-        s.name, s.fns, s.specs, s.used = name, {}, specs, []
+        s.name, s.fns, s.specs, s.used, s.structs = name, {}, specs, [], []
         here = lambda c, what: f"Rattle.{c}.{what}" if c == name else f"Rattle.{c}.{what}"
         s.proofs = lambda c: here(c, "proofs")
         s.lines = IMPORTS.strip().split("\n") + specs
@@ -86,6 +86,12 @@ class Crate:
         for f in fns:
             f.crate = f.crate or name
             s.fns[f.mir()] = f
+        held = [k for f in fns for k in [f.result] + [t for _, t in f.args]] + [PAIR]
+        while held:  # the structs that its functions name, and those in them
+            k = held.pop()
+            if isinstance(k, Record) and k not in s.structs:
+                s.structs.append(k)
+                held += [] if isinstance(k, Enum) else [t for _, t in k.fields]
 
     def calls(s):
         todo = []
@@ -98,7 +104,7 @@ class Crate:
         for f, _ in todo:
             if f not in callees:
                 callees.append(f)
-        body = "".join("\n" + k.machine() for k in Record.known.values() if not isinstance(k, Enum)) + f"""
+        body = "".join("\n" + k.machine() for k in Record.known.values() if k in s.structs and not isinstance(k, Enum)) + f"""
 module _ {ALL} (mem : Memory → SProp 𝓤) (run : Routine → Fun 𝓤) where
 """ + "\n".join(f"  abbrev pub {f.contract} : Contract 𝓤\n  {f.contract} = tripleOf 𝓤 H A {f.d}.signature ({f.d}.spec 𝓤 H A mem run)\n" for f in callees) + f"\nmodule _ {GIVEN} where" + "".join(call(f, m) for f, m in todo)
         lines = s.lines + [f"{s.proofs(f.crate)}.{f.path} as {f.d}" for f in callees] + [f"{s.proofs(f.crate)}.{f.path}.Symbol: name|{f.key()}" for f in callees]

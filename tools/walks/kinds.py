@@ -152,6 +152,15 @@ at-{s.a} x r g = subst (λ (u : Val). Is {s.row} x (u ∷ [])) (spelt-{s.a} x r 
 """
 
 
+def struct(crate, path, a, m, of=()):
+    """A struct's kind, its fields as the source has them; `of` are the structs among these."""
+    name = path.split(".")[-1]
+    text = open(f"crates/{crate}/src/{'/'.join(path.split('.')[:-1]) or 'lib'}.rt").read()
+    body = re.search(rf"pub struct {name} {{\n(.*?)\n}}", text, re.S)[1]
+    kinds = {"usize": WORD, "u64": U64, "u32": U32, "u8": U8, "bool": BOOL} | {k.denot: k for k in of}
+    return Record(crate, path, [(f, kinds[t]) for f, t in re.findall(r"pub (\w+): (\w+),", body)], a, m)
+
+
 class Enum(Record):
     """An enum by value, which a walked function makes, hands on or returns; a `match` on it is for a covered function. Variants: (name, kinds)."""
     laws_of, few = "EL", " tt"
@@ -229,15 +238,17 @@ class Slice:
 
 
 class Fn:
-    """requires: (name, clause), each a part of one clause, or each a clause where `apart`. ensures: a clause, or a list of clauses."""
+    """requires: (name, clause), each a part of one clause, or each a clause where `apart`. ensures: a clause, or a list of clauses.
+    A function of another crate goes by the name that this exports; `inside` is the module where it stands there. `called`: its name in a walk, where its own
+    is taken (`open` is a word of the language, `tables` is the kit's)."""
 
-    def __init__(s, name, params, result, ensures, requires=(), crate=None, contract=None, apart=False, module="", **walk):
+    def __init__(s, name, params, result, ensures, requires=(), crate=None, contract=None, apart=False, inside=None, called=None, **walk):
         s.path, s.crate, s.result, s.apart, s.walk = name, crate, result, apart, walk  # the path: `waits.offer` of a module
-        s.code = module + name  # where the code has it: another crate's function is cited by the name that is exported, and called by its module's
         s.name = name.split(".")[-1]
         s.clauses = [ensures] if isinstance(ensures, str) else ensures
         s.ensures = " × ".join(f"({c})" for c in s.clauses) if len(s.clauses) > 1 else s.clauses[0]
-        s.d = dash(s.name)
+        s.inside = f"{inside}::" if inside else ""
+        s.d = called or dash(s.name)
         s.contract = contract or "".join(w.capitalize() for w in s.name.split("_")) + "-of"
         s.slices, s.params = [], []  # a parameter: (name, Kind) or a Slice
         for n, t in params:
@@ -254,7 +265,7 @@ class Fn:
         return f"#{s.crate}·{s.d}"
 
     def mir(s):
-        return f"{s.crate}::{s.code.replace('.', '::')}"
+        return f"{s.crate}::{s.inside}{s.path.replace('.', '::')}"
 
     def asks(s):  # the clauses `requires`
         return [t for _, t in s.requires] if s.apart else [s.req()] if s.requires else []

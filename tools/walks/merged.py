@@ -1,10 +1,10 @@
 """The structs and functions of merging that walks of several crates name."""
-from kinds import Fn, PAIR, Record, U64, WORD
+from kinds import Fn, PAIR, WORD, struct
 
-TABLES = Record("slots", "tables.Tables", [(n, WORD) for n in "regions groups slots order counts place rows columns into log".split()], "L", "mach-tables")
-TALLY = Record("waits", "Tally", [("waiting", WORD), ("weighed", WORD)], "Y", "mach-tally")
+TABLES = struct("slots", "tables.Tables", "L", "mach-tables")
+TALLY = struct("waits", "Tally", "Y", "mach-tally")
 
-MERGED = Record("merging", "encoder.Merged", [("merges", WORD), ("weighed", WORD), ("before", U64), ("after", U64)], "D", "mach-merged")
+MERGED = struct("merging", "encoder.Merged", "D", "mach-merged")
 
 LENT = [("pairs", "&mut Pair"), ("work", "& u32"), ("tb", TABLES)]
 ENOUGH = ("enough", "room (tb .groups) ≤ length pairs")
@@ -19,4 +19,4 @@ offer_all = Fn("offer_all", LENT + [("k", WORD), ("at", TALLY)], TALLY, "Offered
 weigh_each = Fn("weigh_each", LENT, TALLY, "Opened tb (r .waiting) (r .weighed) work pairs pairs′", [("opening", "Opening tb work"), ENOUGH], crate="waits", apart=True)
 optimize = Fn("optimize", [("pairs", "&mut Pair"), ("work", "&mut u32"), ("tb", TABLES)], MERGED,
               ["Optimized tb (r .merges) (r .weighed) (r .before) (r .after) work work′", "SameFrom pairs (room (tb .groups)) pairs′"], [("ready", "Ready tb work"), ENOUGH],
-              crate="merging", apart=True, module="encoder.")
+              crate="merging", apart=True, inside="encoder")

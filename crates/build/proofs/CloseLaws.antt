@@ -106,14 +106,14 @@ module _ (axes mode : ℕ) (job : List ℕ) (s : Stage) {w : List ℕ} {m : Merg
 
 -- ---- the whole
 
-module _ {axes mode : ℕ} {job w : List ℕ} {s : Stage} {m : Merged} (old mid : List ℕ) (p : OpenedAt axes mode job old mid s) (j : Joined s m mid w) where
-  pub close-early : s .early ≡ true → (out ids map log : List ℕ) → Closed axes mode job old (Refused (s .no) (s .at)) out ids map log out ids map log w
+module _ {axes mode : ℕ} {job w : List ℕ} {s : Stage} {m : Merged} (old : List ℕ) (pairs : ℕ) (mid : List ℕ) (p : OpenedAt axes mode job old pairs mid s) (j : Joined s m mid w) where
+  pub close-early : s .early ≡ true → (out ids map log : List ℕ) → Closed axes mode job old pairs (Refused (s .no) (s .at)) out ids map log out ids map log w
   close-early e out ids map log =
       let a = p .at-once e in
       let same : w ≡ old = idle (s .places) (s .groups) j (a .4) ∙ a .0 in
       record {
-        whole = subst (λ (i : ℕ). Whole axes mode job (length old) (Refused (s .no) i) out ids map log out ids map log) (sym (a .3)) (whole-early axes mode job (length old) (s .no) (a .1) (a .2) out ids map log);
-        work-is = same ∙ left-early axes mode job old (s .no) (a .1) (a .2);
+        whole = subst (λ (i : ℕ). Whole axes mode job (length old) pairs (Refused (s .no) i) out ids map log out ids map log) (sym (a .3)) (whole-early axes mode job (length old) pairs (s .no) (a .1) (a .2) out ids map log);
+        work-is = same ∙ left-early axes mode job old pairs (s .no) (a .1) (a .2);
       }
 
   pub close-settle : s .early ≡ false → (a : ℕ) → a ≡ axes → SettleFit a mode job s m w
@@ -126,13 +126,13 @@ module _ {axes mode : ℕ} {job w : List ℕ} {s : Stage} {m : Merged} (old mid 
 
   pub close-late : s .early ≡ false → (a : ℕ) → a ≡ axes → (b : Built) (out ids map log out′ ids′ map′ log′ : List ℕ)
       → ((o : Outcome) (v : List ℕ) → Read a mode job o s v → Joined s m v w → RecordsBuilt a mode o b out ids map log out′ ids′ map′ log′)
-      → (long : ℕ) → long ≡ length w → (w′ : List ℕ) → w′ ≡ replicate long 0 → Closed axes mode job old b out ids map log out′ ids′ map′ log′ w′
+      → (long : ℕ) → long ≡ length w → (w′ : List ℕ) → w′ ≡ replicate long 0 → Closed axes mode job old pairs b out ids map log out′ ids′ map′ log′ w′
   close-late e a q b out ids map log out′ ids′ map′ log′ f long l w′ c =
       let h = p .after e in
       let r = f (walk a mode job job (length job / 12) 0 inAxes) mid (subst (λ (x : ℕ). Read x mode job (walk x mode job job (length job / 12) 0 inAxes) s mid) (sym q) (h .1)) j in
       record {
-        whole = whole-late axes mode job (length old) 0 (sym (h .0)) refl a q b out ids map log out′ ids′ map′ log′ r;
-        work-is = left-zeros axes mode job old 0 (sym (h .0)) refl long w′ (l ∙ j .only .long ∙ p .long) c;
+        whole = whole-late axes mode job (length old) pairs 0 (sym (h .0)) refl a q b out ids map log out′ ids′ map′ log′ r;
+        work-is = left-zeros axes mode job old pairs 0 (sym (h .0)) refl long w′ (l ∙ j .only .long ∙ p .long) c;
       }
 
 -- ---- merging, by the tables that it was given

@@ -5,6 +5,8 @@ pub mod PackLaws
 pub mod OpenLaws
 pub mod RecordsLaws
 pub mod CloseLaws
+pub mod PairLaws
+pub mod Calls
 pub mod ManyLaws
 pub mod PackedLaws
 pub mod RunSound

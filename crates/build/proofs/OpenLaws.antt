@@ -24,7 +24,6 @@ use Rattle.build.proofs.PackLaws.{collected-kept}
 
 -- where nothing is laid out, merging has no groups
 pub nowhere-ready : (w : List ℕ) → Ready (tablesOf noPlaces 0) w
-unfolding merge.room
 nowhere-ready w = ready-none noPlaces w (record {
   groups-few = omega arith;
   regions-few = omega arith;
@@ -36,7 +35,6 @@ nowhere-ready w = ready-none noPlaces w (record {
   columns-end = omega arith;
   into-end = omega arith;
   log-end = omega arith;
-  heap-end = omega arith;
 })
 
 -- ---- the records
@@ -83,10 +81,10 @@ module _ {axes mode starts : ℕ} {job w : List ℕ} {p : Places} {x : Said} (c 
 
 -- ---- the whole of it
 
-module _ (axes mode : ℕ) (job w : List ℕ) (n : ℕ) (e : n ≡ earlyNo axes mode (length job) (length w)) where
-  pub opened-early : (n ≡ 0 → ⊥) → (s : Stage) → s ≡ refusedAt true n 0 → OpenedAt axes mode job w w s
+module _ (axes mode : ℕ) (job w : List ℕ) (pairs n : ℕ) (e : n ≡ earlyNo axes mode (length job) (length w) pairs) where
+  pub opened-early : (n ≡ 0 → ⊥) → (s : Stage) → s ≡ refusedAt true n 0 → OpenedAt axes mode job w pairs w s
   opened-early h s q =
-      subst (λ (y : Stage). OpenedAt axes mode job w w y) (sym q)
+      subst (λ (y : Stage). OpenedAt axes mode job w pairs w y) (sym q)
       (record {
         long = refl;
         at-once = λ y. (refl, e, h, refl, refl);
@@ -94,7 +92,7 @@ module _ (axes mode : ℕ) (job w : List ℕ) (n : ℕ) (e : n ≡ earlyNo axes 
         ready = nowhere-ready w;
       })
 
-  pub opened-late : n ≡ 0 → {s : Stage} {w′ : List ℕ} (a : ℕ) → a ≡ axes → length w′ ≡ length w → ReadAt a mode job (walk a mode job job (length job / 12) 0 inAxes) s w′ → OpenedAt axes mode job w w′ s
+  pub opened-late : n ≡ 0 → {s : Stage} {w′ : List ℕ} (a : ℕ) → a ≡ axes → length w′ ≡ length w → ReadAt a mode job (walk a mode job job (length job / 12) 0 inAxes) s w′ → OpenedAt axes mode job w pairs w′ s
   opened-late z {s} {w′} a q l f =
       let g = subst (λ (y : ℕ). ReadAt y mode job (walk y mode job job (length job / 12) 0 inAxes) s w′) q f in
       record {

@@ -75,7 +75,7 @@ module _ {axes mode records : ℕ} {job w w₁ : List ℕ} (some : 0 < axes) (fe
   one-more : 0 < uses → sets + uses + 1 ≤ records
   one-more h = omega (arith, room-of axes job records says some cs .1 (omega (arith, held .uses-are)), sets-long, held .uses-are)
 
-  published : 16 * records + 4 * (min records 1024 * min records 1024) ≤ length w₁
+  published : 16 * records + min records 1024 * min records 1024 ≤ length w₁
   unfolding publishedWork
   published = omega (arith, r .only .long)
 
@@ -153,24 +153,24 @@ records-built axes mode o s b out ids map log out′ ids′ map′ log′ e f =
 
 -- ---- the whole
 
-by-outcome : (axes mode : ℕ) (job : List ℕ) (work : ℕ) (o : Outcome) (b : Built) (out ids map log out′ ids′ map′ log′ : List ℕ) → outcome axes mode job work ≡ o
-    → RecordsBuilt axes mode o b out ids map log out′ ids′ map′ log′ → Whole axes mode job work b out ids map log out′ ids′ map′ log′
+by-outcome : (axes mode : ℕ) (job : List ℕ) (work pairs : ℕ) (o : Outcome) (b : Built) (out ids map log out′ ids′ map′ log′ : List ℕ) → outcome axes mode job work pairs ≡ o
+    → RecordsBuilt axes mode o b out ids map log out′ ids′ map′ log′ → Whole axes mode job work pairs b out ids map log out′ ids′ map′ log′
 unfolding answerOf outAfter idsAfter mapAfter logAfter
-by-outcome axes mode job work o b out ids map log out′ ids′ map′ log′ e f =
+by-outcome axes mode job work pairs o b out ids map log out′ ids′ map′ log′ e f =
     record { answer = rw e (f .answer); out-is = rw e (f .out-is); ids-is = rw e (f .ids-is); map-is = rw e (f .map-is); log-is = rw e (f .log-is) }
 
-module _ (axes mode : ℕ) (job : List ℕ) (work n : ℕ) (e : n ≡ earlyNo axes mode (length job) work) where
-  pub whole-early : (n ≡ 0 → ⊥) → (out ids map log : List ℕ) → Whole axes mode job work (Refused n 0) out ids map log out ids map log
+module _ (axes mode : ℕ) (job : List ℕ) (work pairs n : ℕ) (e : n ≡ earlyNo axes mode (length job) work pairs) where
+  pub whole-early : (n ≡ 0 → ⊥) → (out ids map log : List ℕ) → Whole axes mode job work pairs (Refused n 0) out ids map log out ids map log
   unfolding outcome
   whole-early h out ids map log =
-      by-outcome axes mode job work (refused n 0) (Refused n 0) out ids map log out ids map log
+      by-outcome axes mode job work pairs (refused n 0) (Refused n 0) out ids map log out ids map log
       (ap (λ (k : ℕ). outcomeFrom k (walk axes mode job job (length job / 12) 0 inAxes)) (sym e) ∙ early-first n (walk axes mode job job (length job / 12) 0 inAxes) h)
       (records-refused axes mode (refused n 0) n 0 out ids map log refl)
 
   pub whole-late : n ≡ 0 → (a : ℕ) → a ≡ axes → (b : Built) (out ids map log out′ ids′ map′ log′ : List ℕ)
-      → RecordsBuilt a mode (walk a mode job job (length job / 12) 0 inAxes) b out ids map log out′ ids′ map′ log′ → Whole axes mode job work b out ids map log out′ ids′ map′ log′
+      → RecordsBuilt a mode (walk a mode job job (length job / 12) 0 inAxes) b out ids map log out′ ids′ map′ log′ → Whole axes mode job work pairs b out ids map log out′ ids′ map′ log′
   unfolding outcome
   whole-late z a q b out ids map log out′ ids′ map′ log′ f =
-      by-outcome axes mode job work (walk axes mode job job (length job / 12) 0 inAxes) b out ids map log out′ ids′ map′ log′
-      (none-early (earlyNo axes mode (length job) work) (walk axes mode job job (length job / 12) 0 inAxes) (sym e ∙ z))
+      by-outcome axes mode job work pairs (walk axes mode job job (length job / 12) 0 inAxes) b out ids map log out′ ids′ map′ log′
+      (none-early (earlyNo axes mode (length job) work pairs) (walk axes mode job job (length job / 12) 0 inAxes) (sym e ∙ z))
       (subst (λ (x : ℕ). RecordsBuilt x mode (walk x mode job job (length job / 12) 0 inAxes) b out ids map log out′ ids′ map′ log′) q f)

@@ -20,7 +20,7 @@ use Rattle.build.specs.Collected.{Collected}
 
 -- no tables
 abbrev pub noPlaces : Places
-noPlaces = record { sets = 0; regions = 0; room = 0; line = 0; first = 0; ids = 0; kinds = 0; slots = 0; order = 0; counts = 0; place = 0; costs = 0; columns = 0; into = 0; log = 0; heap = 0; rows = 3 }
+noPlaces = record { sets = 0; regions = 0; room = 0; line = 0; first = 0; ids = 0; kinds = 0; slots = 0; order = 0; counts = 0; place = 0; costs = 0; columns = 0; into = 0; log = 0; rows = 3 }
 
 abbrev pub refusedAt : Bool → ℕ → ℕ → Stage
 refusedAt early n i = record { early = early; no = n; at = i; starts = 0; places = noPlaces; groups = 0; distinct = 0 }
@@ -42,12 +42,16 @@ pub record ReadAt (axes mode : ℕ) (job : List ℕ) (o : Outcome) (s : Stage) (
   pub is : Read axes mode job o s w
   pub ready : Ready (tablesOf (s .places) (s .groups)) w
 
--- a build was opened
-pub record OpenedAt (axes mode : ℕ) (job old new : List ℕ) (s : Stage) : Type 0 where
+-- a build that is lent so many pair records was opened
+pub record OpenedAt (axes mode : ℕ) (job old : List ℕ) (pairs : ℕ) (new : List ℕ) (s : Stage) : Type 0 where
   pub long : length new ≡ length old
-  pub at-once : s .early ≡ true → (new ≡ old) × (s .no ≡ earlyNo axes mode (length job) (length old)) × (s .no ≡ 0 → ⊥) × (s .at ≡ 0) × (s .groups ≡ 0)
-  pub after : s .early ≡ false → (earlyNo axes mode (length job) (length old) ≡ 0) × Read axes mode job (walk axes mode job job (length job / 12) 0 inAxes) s new
+  pub at-once : s .early ≡ true → (new ≡ old) × (s .no ≡ earlyNo axes mode (length job) (length old) pairs) × (s .no ≡ 0 → ⊥) × (s .at ≡ 0) × (s .groups ≡ 0)
+  pub after : s .early ≡ false → (earlyNo axes mode (length job) (length old) pairs ≡ 0) × Read axes mode job (walk axes mode job job (length job / 12) 0 inAxes) s new
   pub ready : Ready (tablesOf (s .places) (s .groups)) new
+
+-- how many pair records are to be cleared: none where nothing was written yet
+abbrev pub PairsUsed : Stage → ℕ → ℕ → Type 0
+PairsUsed s pairs r = (s .early ≡ true → r ≡ 0) × (s .early ≡ false → r ≡ pairs)
 
 -- and its groups joined
 abbrev pub Joined : Stage → Merged → List ℕ → List ℕ → Type 0
@@ -63,19 +67,20 @@ pub record SettleFit (axes mode : ℕ) (job : List ℕ) (s : Stage) (m : Merged)
 
 pub record CloseFit (axes mode : ℕ) (job : List ℕ) (s : Stage) (m : Merged) (w : List ℕ) : Type 0 where
   pub old : List ℕ
+  pub pairs : ℕ
   pub mid : List ℕ
-  pub opened : OpenedAt axes mode job old mid s
+  pub opened : OpenedAt axes mode job old pairs mid s
   pub joined : Joined s m mid w
 
 -- ---- and what it leaves: what the build answers, and everything lent
 
-pub record Whole (axes mode : ℕ) (job : List ℕ) (work : ℕ) (b : Built) (out ids map log out′ ids′ map′ log′ : List ℕ) : Type 0 where
-  pub answer : b ≡ answerOf axes mode job work (lengths out ids map log)
-  pub out-is : out′ ≡ outAfter axes mode job work (lengths out ids map log) out
-  pub ids-is : ids′ ≡ idsAfter axes mode job work (lengths out ids map log) ids
-  pub map-is : map′ ≡ mapAfter axes mode job work (lengths out ids map log) map
-  pub log-is : log′ ≡ logAfter axes mode job work (lengths out ids map log) log
+pub record Whole (axes mode : ℕ) (job : List ℕ) (work pairs : ℕ) (b : Built) (out ids map log out′ ids′ map′ log′ : List ℕ) : Type 0 where
+  pub answer : b ≡ answerOf axes mode job work pairs (lengths out ids map log)
+  pub out-is : out′ ≡ outAfter axes mode job work pairs (lengths out ids map log) out
+  pub ids-is : ids′ ≡ idsAfter axes mode job work pairs (lengths out ids map log) ids
+  pub map-is : map′ ≡ mapAfter axes mode job work pairs (lengths out ids map log) map
+  pub log-is : log′ ≡ logAfter axes mode job work pairs (lengths out ids map log) log
 
-pub record Closed (axes mode : ℕ) (job old : List ℕ) (b : Built) (out ids map log out′ ids′ map′ log′ work′ : List ℕ) : Type 0 where
-  pub whole : Whole axes mode job (length old) b out ids map log out′ ids′ map′ log′
-  pub work-is : work′ ≡ workLeft axes mode (length job) old
+pub record Closed (axes mode : ℕ) (job old : List ℕ) (pairs : ℕ) (b : Built) (out ids map log out′ ids′ map′ log′ work′ : List ℕ) : Type 0 where
+  pub whole : Whole axes mode job (length old) pairs b out ids map log out′ ids′ map′ log′
+  pub work-is : work′ ≡ workLeft axes mode (length job) pairs old

@@ -17,7 +17,7 @@ ghost use Rattle.said.specs.Job.{Outcome};
 ghost use Rattle.encoder.specs.Packed.{own};
 ghost use Rattle.finishing.specs.Lent.{Finished, lengths};
 ghost use Rattle.build.specs.Collected.{RecordsBuilt};
-ghost use Rattle.build.specs.Opened.{Read, OpenedAt, Joined, SettleFit, CloseFit, Closed};
+ghost use Rattle.build.specs.Opened.{Read, OpenedAt, Joined, PairsUsed, SettleFit, CloseFit, Closed};
 
 // Mode 1 without sets: one group of no rows, which is a null subtable. A job of no records lends no work, so its three words are these.
 fn finish_none(
@@ -76,6 +76,16 @@ fn settle(
     finish(axes, job, work, s.starts, p, e, out, ids, map, log)
 }
 
+// How many of so many pair records are to be cleared: all, unless nothing was written yet.
+pub fn pairs_used(s: Stage, pairs: usize) -> usize
+    ensures { λ r. ⌜ PairsUsed s pairs r ⌝ }
+{
+    if s.early {
+        return 0;
+    }
+    pairs
+}
+
 // Answers, and clears work unless nothing was written there.
 pub fn close(
     axes: u32,
@@ -90,7 +100,7 @@ pub fn close(
     log: &mut [u32],
 ) -> Built
     requires { ⌜ CloseFit axes mode (now job) s m (now work) ⌝ }
-    ensures { λ r. ⌜ ((old mid : List ℕ) → OpenedAt axes mode (now (job .entry)) old mid s → Joined s m mid (now (work .entry)) → Closed axes mode (now (job .entry)) old r (now (out .entry)) (now (ids .entry)) (now (map .entry)) (now (log .entry)) (now (out .exit)) (now (ids .exit)) (now (map .exit)) (now (log .exit)) (now (work .exit))) ⌝ }
+    ensures { λ r. ⌜ ((old : List ℕ) (pairs : ℕ) (mid : List ℕ) → OpenedAt axes mode (now (job .entry)) old pairs mid s → Joined s m mid (now (work .entry)) → Closed axes mode (now (job .entry)) old pairs r (now (out .entry)) (now (ids .entry)) (now (map .entry)) (now (log .entry)) (now (out .exit)) (now (ids .exit)) (now (map .exit)) (now (log .exit)) (now (work .exit))) ⌝ }
 {
     if s.early {
         return Built::Refused(s.no, s.at);

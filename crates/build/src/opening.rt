@@ -47,7 +47,6 @@ pub fn nowhere() -> Places
         columns: 0,
         into: 0,
         log: 0,
-        heap: 0,
         rows: 3,
     }
 }
@@ -119,11 +118,11 @@ fn open_records(axes: usize, mode: u32, job: &[u8], records: usize, work: &mut [
     }
 }
 
-// Takes every job, sound or not.
-pub fn open(axes: u32, mode: u32, job: &[u8], work: &mut [u32]) -> Stage
-    ensures { λ r. ⌜ OpenedAt axes mode (now (job .entry)) (now (work .entry)) (now (work .exit)) r ⌝ }
+// Takes every job, sound or not, with so many pair records lent.
+pub fn open(axes: u32, mode: u32, job: &[u8], work: &mut [u32], pairs: usize) -> Stage
+    ensures { λ r. ⌜ OpenedAt axes mode (now (job .entry)) (now (work .entry)) pairs (now (work .exit)) r ⌝ }
 {
-    let no = early_no(axes, mode, job.len(), work.len());
+    let no = early_no(axes, mode, job.len(), work.len(), pairs);
     if no != 0 {
         return refuse(true, no, 0);
     }

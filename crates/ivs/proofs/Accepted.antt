@@ -139,10 +139,10 @@ roomy axes coords k l z =
 
 -- ---- done
 
-pub record Accepted (axes mode : ℕ) (job : List ℕ) (work : ℕ) (l : Lengths) (r : Report) : Type 0 where
+pub record Accepted (axes mode : ℕ) (job : List ℕ) (work pairs : ℕ) (l : Lengths) (r : Report) : Type 0 where
   pub said : Said
-  pub said-is : outcome axes mode job work ≡ fine said
-  pub entered : Open axes mode (length job) work
+  pub said-is : outcome axes mode job work pairs ≡ fine said
+  pub entered : Open axes mode (length job) work pairs
   pub walked : walk axes mode job job (length job / recordBytes) 0 inAxes ≡ fine said
   pub none-late : lateNo axes (coordsOf said) (packedOf mode said) l ≡ 0
   pub room : Roomy axes (coordsOf said) (packedOf mode said) l
@@ -164,14 +164,14 @@ late-done axes coords k l r e = go (which (eqb (lateNo axes coords k l) 0)) e
         (eqb-true (lateNo axes coords k l) 0 h, sym (ap (reported r) g))
     go (fails h) f = let g = rw h at f in let z : _≡_ {A = ℕ} 0 1 = cc in absurd (omega arith)
 
-pub accepted : (axes mode : ℕ) (job : List ℕ) (work : ℕ) (l : Lengths) (r : Report) → answerOf axes mode job work l ≡ Done r → Accepted axes mode job work l r
+pub accepted : (axes mode : ℕ) (job : List ℕ) (work pairs : ℕ) (l : Lengths) (r : Report) → answerOf axes mode job work pairs l ≡ Done r → Accepted axes mode job work pairs l r
 unfolding answerOf answerFrom
-accepted axes mode job work l r e = go (outcome axes mode job work) refl e
+accepted axes mode job work pairs l r e = go (outcome axes mode job work pairs) refl e
   where
-    go : (o : Outcome) → outcome axes mode job work ≡ o → answerFrom axes mode l o ≡ Done r → Accepted axes mode job work l r
+    go : (o : Outcome) → outcome axes mode job work pairs ≡ o → answerFrom axes mode l o ≡ Done r → Accepted axes mode job work pairs l r
     go (refused n i) f g = let z : _≡_ {A = ℕ} 0 1 = cc in absurd (omega arith)
     go (fine s) f g =
-        let w = fine-walk axes mode job work s f in
+        let w = fine-walk axes mode job work pairs s f in
         let d = late-done axes (coordsOf s) (packedOf mode s) l r g in
         record {
           said = s;
@@ -184,28 +184,28 @@ accepted axes mode job work l r e = go (outcome axes mode job work) refl e
         }
 
 -- what its job says is of these sizes
-pub accepted-sized : (axes mode : ℕ) (job : List ℕ) (work : ℕ) (l : Lengths) (r : Report) (a : Accepted axes mode job work l r) → Bytes job
+pub accepted-sized : (axes mode : ℕ) (job : List ℕ) (work pairs : ℕ) (l : Lengths) (r : Report) (a : Accepted axes mode job work pairs l r) → Bytes job
     → Sized axes (length (a .said .used)) (coordsOf (a .said)) (a .said .sets)
-accepted-sized axes mode job work l r a b =
+accepted-sized axes mode job work pairs l r a b =
     sized axes mode job (length job / recordBytes) (a .said) (a .walked) (a .entered .some) b (a .entered .most) (a .entered .few)
 
 -- ---- and what is left in everything lent
 
-module _ (axes mode : ℕ) (job : List ℕ) (work : ℕ) (l : Lengths) (s : Said) (e : outcome axes mode job work ≡ fine s)
+module _ (axes mode : ℕ) (job : List ℕ) (work pairs : ℕ) (l : Lengths) (s : Said) (e : outcome axes mode job work pairs ≡ fine s)
     (z : lateNo axes (coordsOf s) (packedOf mode s) l ≡ 0) where
-  pub out-done : (old : List ℕ) → outAfter axes mode job work l old
+  pub out-done : (old : List ℕ) → outAfter axes mode job work pairs l old
       ≡ over old 0 (length (storeFor axes (coordsOf s) (packedOf mode s))) (storeFor axes (coordsOf s) (packedOf mode s))
   unfolding outAfter leftFrom outLeft ifDone
   out-done old = rw (e, eq-eqb (lateNo axes (coordsOf s) (packedOf mode s) l) 0 z) refl
 
-  pub ids-done : (old : List ℕ) → idsAfter axes mode job work l old ≡ over old 0 (length (packedOf mode s .ids)) (packedOf mode s .ids)
+  pub ids-done : (old : List ℕ) → idsAfter axes mode job work pairs l old ≡ over old 0 (length (packedOf mode s .ids)) (packedOf mode s .ids)
   unfolding idsAfter leftFrom idsLeft ifDone
   ids-done old = rw (e, eq-eqb (lateNo axes (coordsOf s) (packedOf mode s) l) 0 z) refl
 
-  pub map-done : (old : List ℕ) → mapAfter axes mode job work l old ≡ stored (idWords 0 (allRuns (packedOf mode s .finals))) old
+  pub map-done : (old : List ℕ) → mapAfter axes mode job work pairs l old ≡ stored (idWords 0 (allRuns (packedOf mode s .finals))) old
   unfolding mapAfter leftFrom mapLeft ifDone
   map-done old = rw (e, eq-eqb (lateNo axes (coordsOf s) (packedOf mode s) l) 0 z) refl
 
-  pub log-done : (old : List ℕ) → logAfter axes mode job work l old ≡ over old 0 (length (words (packedOf mode s .log))) (words (packedOf mode s .log))
+  pub log-done : (old : List ℕ) → logAfter axes mode job work pairs l old ≡ over old 0 (length (words (packedOf mode s .log))) (words (packedOf mode s .log))
   unfolding logAfter leftFrom logLeft ifDone
   log-done old = rw (e, eq-eqb (lateNo axes (coordsOf s) (packedOf mode s) l) 0 z) refl

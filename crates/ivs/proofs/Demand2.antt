@@ -175,33 +175,33 @@ over-front old new = take-at new (drop (0 + length new) old) (length new) refl
 over-at : (old new : List ℕ) (n : ℕ) → n < length new → getD (over old 0 (length new) new) n 0 ≡ getD new n 0
 over-at old new n h = List·getD-append new (drop (0 + length new) old) 0 n h
 
-pub record Demand2 (axes mode : ℕ) (job : List ℕ) (work : ℕ) (l : Lengths) (r : Report) : Type 0 where
+pub record Demand2 (axes mode : ℕ) (job : List ℕ) (work pairs : ℕ) (l : Lengths) (r : Report) : Type 0 where
   -- what the job says: its regions in use and its sets ("An end record is one `add_deltas` call with the values of its set")
   pub said : Said
-  pub said-is : outcome axes mode job work ≡ fine said
+  pub said-is : outcome axes mode job work pairs ≡ fine said
   -- the packed sets give back every set of the job: ids, rows, region list
   pub gives-back : GivesBack axes (length (said .used)) (coordsOf said) (said .sets) (packedOf mode said)
   -- "Done (0) gives: store bytes": the output begins with the store, and nothing past it changed
   pub bytes-are : r .bytes ≡ length (storeFor axes (coordsOf said) (packedOf mode said))
   pub out-is : (out : List ℕ) → length out ≡ l .out
-      → outAfter axes mode job work l out ≡ over out 0 (r .bytes) (storeFor axes (coordsOf said) (packedOf mode said))
-  pub store-is : (out : List ℕ) → length out ≡ l .out → take (r .bytes) (outAfter axes mode job work l out) ≡ storeFor axes (coordsOf said) (packedOf mode said)
+      → outAfter axes mode job work pairs l out ≡ over out 0 (r .bytes) (storeFor axes (coordsOf said) (packedOf mode said))
+  pub store-is : (out : List ℕ) → length out ≡ l .out → take (r .bytes) (outAfter axes mode job work pairs l out) ≡ storeFor axes (coordsOf said) (packedOf mode said)
   -- "The n-th word of ids is the n-th set's id."
   pub ids-are : (ids : List ℕ) → length ids ≡ l .ids → (n : ℕ) → n < length (said .sets)
-      → getD (idsAfter axes mode job work l ids) n 0 ≡ getD (packedOf mode said .ids) n 0
+      → getD (idsAfter axes mode job work pairs l ids) n 0 ≡ getD (packedOf mode said .ids) n 0
   -- "Outer is the run's position, inner the row's. The id's map word is outer x 65,536 + inner."
-  pub map-is : (map : List ℕ) → length map ≡ l .map → mapAfter axes mode job work l map ≡ stored (idWords 0 (allRuns (packedOf mode said .finals))) map
+  pub map-is : (map : List ℕ) → length map ≡ l .map → mapAfter axes mode job work pairs l map ≡ stored (idWords 0 (allRuns (packedOf mode said .finals))) map
   -- THE DEMAND, of the lent memory alone: the store is what the output begins with, the n-th set's id is the n-th word of ids, and its row is where
   -- the map's word of that id says. "Read by the OpenType rules, each id's row gives back its adjustment for every region, and zero for one it
   -- never named."
   pub sets-back : (out ids map : List ℕ) → length out ≡ l .out → length ids ≡ l .ids → length map ≡ l .map → (n : ℕ) → n < length (said .sets)
-      → SetBack axes (coordsOf said) (getD (said .sets) n []) (take (r .bytes) (outAfter axes mode job work l out))
-      (getD (mapAfter axes mode job work l map) (getD (idsAfter axes mode job work l ids) n 0) 0)
+      → SetBack axes (coordsOf said) (getD (said .sets) n []) (take (r .bytes) (outAfter axes mode job work pairs l out))
+      (getD (mapAfter axes mode job work pairs l map) (getD (idsAfter axes mode job work pairs l ids) n 0) 0)
 
 -- THE LAW
-pub demand2 : (axes mode : ℕ) (job : List ℕ) (work : ℕ) (l : Lengths) (r : Report) → Bytes job → answerOf axes mode job work l ≡ Done r
-    → Demand2 axes mode job work l r
-demand2 axes mode job work l r bytes e =
+pub demand2 : (axes mode : ℕ) (job : List ℕ) (work pairs : ℕ) (l : Lengths) (r : Report) → Bytes job → answerOf axes mode job work pairs l ≡ Done r
+    → Demand2 axes mode job work pairs l r
+demand2 axes mode job work pairs l r bytes e =
     record {
       said = s;
       said-is = a .said-is;
@@ -210,18 +210,18 @@ demand2 axes mode job work l r bytes e =
       out-is = λ out _. out-at out;
       store-is = λ out _. store-at out;
       ids-are = λ ids _ n h. id-at ids n h;
-      map-is = λ map _. map-done axes mode job work l s (a .said-is) (a .none-late) map;
+      map-is = λ map _. map-done axes mode job work pairs l s (a .said-is) (a .none-late) map;
       sets-back = λ out ids map _ _ f n h.
-          subst (λ (w : ℕ). SetBack axes coords (getD (s .sets) n []) (take (r .bytes) (outAfter axes mode job work l out)) w)
-          (sym (ap (λ (m : List ℕ). getD m (getD (idsAfter axes mode job work l ids) n 0) 0) (map-done axes mode job work l s (a .said-is) (a .none-late) map)
+          subst (λ (w : ℕ). SetBack axes coords (getD (s .sets) n []) (take (r .bytes) (outAfter axes mode job work pairs l out)) w)
+          (sym (ap (λ (m : List ℕ). getD m (getD (idsAfter axes mode job work pairs l ids) n 0) 0) (map-done axes mode job work pairs l s (a .said-is) (a .none-late) map)
           ∙ ap (λ (i : ℕ). getD (stored (idWords 0 (allRuns (k .finals))) map) i 0) (id-at ids n h)))
           (subst (λ (t : List ℕ). SetBack axes coords (getD (s .sets) n []) t (getD (stored (idWords 0 (allRuns (k .finals))) map) (getD (k .ids) n 0) 0))
           (sym (store-at out))
           (set-back axes (length (s .used)) coords (s .sets) k (size .coords-are) back once n h map (omega (arith, a .room .map-fits))));
     }
   where
-    a : Accepted axes mode job work l r
-    a = accepted axes mode job work l r e
+    a : Accepted axes mode job work pairs l r
+    a = accepted axes mode job work pairs l r e
 
     s : Said
     s = a .said
@@ -233,7 +233,7 @@ demand2 axes mode job work l r bytes e =
     coords = coordsOf s
 
     size : Sized axes (length (s .used)) coords (s .sets)
-    size = accepted-sized axes mode job work l r a bytes
+    size = accepted-sized axes mode job work pairs l r a bytes
 
     once : (x y : ℕ) → x < length coords → y < length coords → getD coords x [] ≡ getD coords y [] → x ≡ y
     once = coords-once axes mode job (length job / recordBytes) s (a .walked) (a .entered .some) bytes
@@ -244,16 +244,16 @@ demand2 axes mode job work l r bytes e =
     long : r .bytes ≡ length (storeFor axes coords k)
     long = unfold reportOf in ap (λ (t : Report). t .bytes) (a .report-is)
 
-    out-at : (out : List ℕ) → outAfter axes mode job work l out ≡ over out 0 (r .bytes) (storeFor axes coords k)
-    out-at out = out-done axes mode job work l s (a .said-is) (a .none-late) out ∙ ap (λ (n : ℕ). over out 0 n (storeFor axes coords k)) (sym long)
+    out-at : (out : List ℕ) → outAfter axes mode job work pairs l out ≡ over out 0 (r .bytes) (storeFor axes coords k)
+    out-at out = out-done axes mode job work pairs l s (a .said-is) (a .none-late) out ∙ ap (λ (n : ℕ). over out 0 n (storeFor axes coords k)) (sym long)
 
-    store-at : (out : List ℕ) → take (r .bytes) (outAfter axes mode job work l out) ≡ storeFor axes coords k
+    store-at : (out : List ℕ) → take (r .bytes) (outAfter axes mode job work pairs l out) ≡ storeFor axes coords k
     store-at out =
-        ap (λ (n : ℕ). take n (outAfter axes mode job work l out)) long
-        ∙ ap (take (length (storeFor axes coords k))) (out-done axes mode job work l s (a .said-is) (a .none-late) out)
+        ap (λ (n : ℕ). take n (outAfter axes mode job work pairs l out)) long
+        ∙ ap (take (length (storeFor axes coords k))) (out-done axes mode job work pairs l s (a .said-is) (a .none-late) out)
         ∙ over-front out (storeFor axes coords k)
 
-    id-at : (ids : List ℕ) (n : ℕ) → n < length (s .sets) → getD (idsAfter axes mode job work l ids) n 0 ≡ getD (k .ids) n 0
+    id-at : (ids : List ℕ) (n : ℕ) → n < length (s .sets) → getD (idsAfter axes mode job work pairs l ids) n 0 ≡ getD (k .ids) n 0
     id-at ids n h =
-        ap (λ (m : List ℕ). getD m n 0) (ids-done axes mode job work l s (a .said-is) (a .none-late) ids)
+        ap (λ (m : List ℕ). getD m n 0) (ids-done axes mode job work pairs l s (a .said-is) (a .none-late) ids)
         ∙ over-at ids (k .ids) n (omega (arith, ids-long mode s))

@@ -108,9 +108,9 @@ words-length (e ∷ l) = omega (arith, words-length l)
 abbrev pub groupsSaid : Said → List Group
 groupsSaid s = groupsOf (length (s .used)) (s .sets)
 
-pub record Demand3 (axes : ℕ) (job : List ℕ) (work : ℕ) (l : Lengths) (r : Report) : Type 0 where
+pub record Demand3 (axes : ℕ) (job : List ℕ) (work pairs : ℕ) (l : Lengths) (r : Report) : Type 0 where
   pub said : Said
-  pub said-is : outcome axes 0 job work ≡ fine said
+  pub said-is : outcome axes 0 job work pairs ≡ fine said
   -- what is answered is the rule's, and what the rule does
   pub rule : Ruled (groupsSaid said) (r .groups) (r .merges) (r .weighed) (r .before) (r .after)
   -- "If a living group already has the joined shape, the source folds it in": at no merge of the run has one of the others the joined shape
@@ -118,13 +118,13 @@ pub record Demand3 (axes : ℕ) (job : List ℕ) (work : ℕ) (l : Lengths) (r :
       → All (λ h. h .group .shape ≡ join (c .first .group .shape) (c .second .group .shape) → ⊥) (c .rest)
   -- "The log gets first number, second number, gain": the lent log begins with the rule's, three words a merge, and nothing past them changed
   pub log-fits : 3 * r .merges ≤ l .log
-  pub log-is : (log : List ℕ) → length log ≡ l .log → logAfter axes 0 job work l log ≡ over log 0 (3 * r .merges) (words (merged (groupsSaid said) .log))
-  pub log-front : (log : List ℕ) → length log ≡ l .log → take (3 * r .merges) (logAfter axes 0 job work l log) ≡ words (merged (groupsSaid said) .log)
+  pub log-is : (log : List ℕ) → length log ≡ l .log → logAfter axes 0 job work pairs l log ≡ over log 0 (3 * r .merges) (words (merged (groupsSaid said) .log))
+  pub log-front : (log : List ℕ) → length log ≡ l .log → take (3 * r .merges) (logAfter axes 0 job work pairs l log) ≡ words (merged (groupsSaid said) .log)
   -- the groups written are the ones left: the final groups are the living ones "by the order above", each with its sets, and the store is theirs
   -- (`allRuns` cuts "a group of more than 65,535 sets .. into runs of 65,535")
   pub finals-are : packedOf 0 said .finals
       ≡ map (finalOf (length (said .used)) (groupsSaid said) (distinct (said .sets))) (sorted isAhead (merged (groupsSaid said) .living))
-  pub written : (out : List ℕ) → length out ≡ l .out → take (r .bytes) (outAfter axes 0 job work l out)
+  pub written : (out : List ℕ) → length out ≡ l .out → take (r .bytes) (outAfter axes 0 job work pairs l out)
       ≡ storeOf axes (coordsOf said) (λ x. getD (distinct (said .sets)) x []) (packedOf 0 said .finals)
   pub subtables-are : r .subtables ≡ length (allRuns (packedOf 0 said .finals))
 
@@ -161,7 +161,7 @@ module _ (s : Said) where
       subst (λ (t : Report). Ruled (groupsSaid s) (t .groups) (t .merges) (t .weighed) (t .before) (t .after)) (sym e)
       (subst (λ (p : Packed). Ruled (groupsSaid s) (p .groups) (length (p .log)) (p .weighed) (p .before) (p .after)) (sym (shared-is s)) shared-rule)
 
-module _ (axes : ℕ) (job : List ℕ) (work : ℕ) (l : Lengths) (r : Report) (a : Accepted axes 0 job work l r) where
+module _ (axes : ℕ) (job : List ℕ) (work pairs : ℕ) (l : Lengths) (r : Report) (a : Accepted axes 0 job work pairs l r) where
   abbrev s : Said
   s = a .said
 
@@ -184,17 +184,17 @@ module _ (axes : ℕ) (job : List ℕ) (work : ℕ) (l : Lengths) (r : Report) (
       bound zero m t h f z = omega (arith, z refl)
       bound (suc g) m t h f z = omega (arith, f (omega arith))
 
-  log-words : (log : List ℕ) → logAfter axes 0 job work l log ≡ over log 0 (length (words entries)) (words entries)
+  log-words : (log : List ℕ) → logAfter axes 0 job work pairs l log ≡ over log 0 (length (words entries)) (words entries)
   log-words log =
-      log-done axes 0 job work l s (a .said-is) (a .none-late) log
+      log-done axes 0 job work pairs l s (a .said-is) (a .none-late) log
       ∙ ap (λ (x : List Entry). over log 0 (length (words x)) (words x)) (log-is-rule s)
 
-  log-all : (log : List ℕ) → logAfter axes 0 job work l log ≡ over log 0 (3 * r .merges) (words entries)
+  log-all : (log : List ℕ) → logAfter axes 0 job work pairs l log ≡ over log 0 (3 * r .merges) (words entries)
   log-all log = log-words log ∙ ap (λ (m : ℕ). over log 0 m (words entries)) three
 
-  log-begins : (log : List ℕ) → take (3 * r .merges) (logAfter axes 0 job work l log) ≡ words entries
+  log-begins : (log : List ℕ) → take (3 * r .merges) (logAfter axes 0 job work pairs l log) ≡ words entries
   log-begins log =
-      ap (λ (m : ℕ). take m (logAfter axes 0 job work l log)) (sym three) ∙ ap (take (length (words entries))) (log-words log) ∙ over-front log (words entries)
+      ap (λ (m : ℕ). take m (logAfter axes 0 job work pairs l log)) (sym three) ∙ ap (take (length (words entries))) (log-words log) ∙ over-front log (words entries)
 
   bytes-of : r .bytes ≡ length (storeFor axes (coordsOf (a .said)) (packedOf 0 (a .said)))
   bytes-of = unfold reportOf in ap (λ (t : Report). t .bytes) (a .report-is)
@@ -202,15 +202,15 @@ module _ (axes : ℕ) (job : List ℕ) (work : ℕ) (l : Lengths) (r : Report) (
   tables-of : r .subtables ≡ length (allRuns (packedOf 0 (a .said) .finals))
   tables-of = unfold reportOf in ap (λ (t : Report). t .subtables) (a .report-is)
 
-  store-begins : (out : List ℕ) → take (r .bytes) (outAfter axes 0 job work l out)
+  store-begins : (out : List ℕ) → take (r .bytes) (outAfter axes 0 job work pairs l out)
       ≡ storeOf axes (coordsOf s) (λ x. getD (distinct (s .sets)) x []) (packedOf 0 s .finals)
   store-begins out =
-      ap (λ (m : ℕ). take m (outAfter axes 0 job work l out)) bytes-of
-      ∙ ap (take (length (storeFor axes (coordsOf s) (packedOf 0 s)))) (out-done axes 0 job work l s (a .said-is) (a .none-late) out)
+      ap (λ (m : ℕ). take m (outAfter axes 0 job work pairs l out)) bytes-of
+      ∙ ap (take (length (storeFor axes (coordsOf s) (packedOf 0 s)))) (out-done axes 0 job work pairs l s (a .said-is) (a .none-late) out)
       ∙ over-front out (storeFor axes (coordsOf s) (packedOf 0 s))
       ∙ store-of s axes
 
-  demand : Demand3 axes job work l r
+  demand : Demand3 axes job work pairs l r
   demand = record {
     said = s;
     said-is = a .said-is;
@@ -225,22 +225,22 @@ module _ (axes : ℕ) (job : List ℕ) (work : ℕ) (l : Lengths) (r : Report) (
   }
 
 -- THE LAW
-pub demand3 : (axes : ℕ) (job : List ℕ) (work : ℕ) (l : Lengths) (r : Report) → answerOf axes 0 job work l ≡ Done r → Demand3 axes job work l r
-demand3 axes job work l r e = demand axes job work l r (accepted axes 0 job work l r e)
+pub demand3 : (axes : ℕ) (job : List ℕ) (work pairs : ℕ) (l : Lengths) (r : Report) → answerOf axes 0 job work pairs l ≡ Done r → Demand3 axes job work pairs l r
+demand3 axes job work pairs l r e = demand axes job work pairs l r (accepted axes 0 job work pairs l r e)
 
 -- ---- mode 1
 
 -- "In mode 1 N, merges and pairs are 0 and both sizes are the one group's cost, or 0 when there are no sets."
-pub record NoMerging (axes : ℕ) (job : List ℕ) (work : ℕ) (l : Lengths) (r : Report) : Type 0 where
+pub record NoMerging (axes : ℕ) (job : List ℕ) (work pairs : ℕ) (l : Lengths) (r : Report) : Type 0 where
   pub said : Said
-  pub said-is : outcome axes 1 job work ≡ fine said
+  pub said-is : outcome axes 1 job work pairs ≡ fine said
   pub no-groups : r .groups ≡ 0
   pub no-merges : r .merges ≡ 0
   pub no-pairs : r .weighed ≡ 0
   pub before-is : r .before ≡ oneCost (length (said .used)) (said .sets)
   pub after-is : r .after ≡ oneCost (length (said .used)) (said .sets)
   -- the log is untouched
-  pub log-kept : (log : List ℕ) → length log ≡ l .log → logAfter axes 1 job work l log ≡ log
+  pub log-kept : (log : List ℕ) → length log ≡ l .log → logAfter axes 1 job work pairs l log ≡ log
 
 own-is : (s : Said) → packedOf 1 s ≡ own (length (s .used)) (s .sets)
 unfolding packedOf
@@ -262,9 +262,9 @@ own-log : (s : Said) (log : List ℕ) → over log 0 (length (words (packedOf 1 
 unfolding own words
 own-log s log = ap (λ (p : Packed). over log 0 (length (words (p .log))) (words (p .log))) (own-is s)
 
-pub no-merging : (axes : ℕ) (job : List ℕ) (work : ℕ) (l : Lengths) (r : Report) → answerOf axes 1 job work l ≡ Done r → NoMerging axes job work l r
-no-merging axes job work l r e =
-    let a = accepted axes 1 job work l r e in
+pub no-merging : (axes : ℕ) (job : List ℕ) (work pairs : ℕ) (l : Lengths) (r : Report) → answerOf axes 1 job work pairs l ≡ Done r → NoMerging axes job work pairs l r
+no-merging axes job work pairs l r e =
+    let a = accepted axes 1 job work pairs l r e in
     let t = report-own axes (a .said) r (a .report-is) in
     record {
       said = a .said;
@@ -274,5 +274,5 @@ no-merging axes job work l r e =
       no-pairs = t .2;
       before-is = t .3;
       after-is = t .4;
-      log-kept = λ log _. log-done axes 1 job work l (a .said) (a .said-is) (a .none-late) log ∙ own-log (a .said) log;
+      log-kept = λ log _. log-done axes 1 job work pairs l (a .said) (a .said-is) (a .none-late) log ∙ own-log (a .said) log;
     }

@@ -9,7 +9,7 @@ use lib.ListN.{length}
 use lib.Dec.{eqb, ltb, leb}
 use borrow.Author.Tests.{ltb-true, ltb-false, leb-true, leb-false, eqb-true, eqb-false, lt-ltb, le-ltb, le-leb, lt-leb, eq-eqb, ne-eqb}
 use Rattle.laws.proofs.Cases.{and-true}
-use Rattle.said.specs.Refusals.{firstFailed, publishedWork, earlyNo}
+use Rattle.said.specs.Refusals.{firstFailed, publishedWork, pairRecords, earlyNo}
 use Rattle.said.specs.Job.{outcome, refused}
 use Rattle.finishing.specs.declared.answers.Built.{Built}
 use Rattle.finishing.specs.declared.answers.Built.the-variants.{Refused}
@@ -17,10 +17,10 @@ use Rattle.finishing.specs.Late.{Lengths}
 use Rattle.build.specs.Build.{answerOf}
 use Rattle.ivs.specs.Exactly.{Exactly}
 use Rattle.ivs.specs.Fits.{AxesFit, ModeFit, LengthFit, WorkFit}
-use Rattle.ivs.proofs.FailedLaws.{Tests, this, failed, other, later, passed, none-failed, and-false, and-both, and-first, and-second}
+use Rattle.ivs.proofs.FailedLaws.{Tests, this, failed, other, later, passed, one-of-two, second-failed, none-failed, and-false, and-both, and-first, and-second}
 use Rattle.ivs.proofs.OutcomeRows.{early-only, outcome-early, answer-refused, job-only}
 
--- ---- the four tests
+-- ---- the tests
 
 module _ (axes : ℕ) where
   abbrev axesOk : Bool
@@ -67,9 +67,18 @@ module _ (bytes : ℕ) where
 
 -- ---- their numbers
 
-module _ (axes mode bytes work : ℕ) where
+module _ (axes mode bytes work pairs : ℕ) where
+  abbrev workOk : Bool
+  workOk = leb (publishedWork (bytes / 12)) work
+
+  abbrev pairsOk : Bool
+  pairsOk = leb pairRecords pairs
+
+  abbrev fifth : Tests
+  fifth = (pairsOk, 4) ∷ []
+
   abbrev fourth : Tests
-  fourth = (leb (publishedWork (bytes / 12)) work, 4) ∷ []
+  fourth = (workOk, 4) ∷ fifth
 
   abbrev third : Tests
   third = (lengthOk bytes, 3) ∷ fourth
@@ -80,12 +89,12 @@ module _ (axes mode bytes work : ℕ) where
   abbrev first : Tests
   first = (axesOk axes, 1) ∷ second
 
-  early-is : earlyNo axes mode bytes work ≡ firstFailed first
+  early-is : earlyNo axes mode bytes work pairs ≡ firstFailed first
   unfolding earlyNo
   early-is = refl
 
   -- what passes before a number above 1, above 2, above 3
-  module _ (n : ℕ) (e : earlyNo axes mode bytes work ≡ n) where
+  module _ (n : ℕ) (e : earlyNo axes mode bytes work pairs ≡ n) where
     past-axes : (1 ≡ n → ⊥) → AxesFit axes × (firstFailed second ≡ n)
     past-axes d = let f = sym early-is ∙ e in (axes-fit axes (other 1 second n (axesOk axes) d f), later 1 second n (axesOk axes) d f)
 
@@ -100,78 +109,88 @@ module _ (axes mode bytes work : ℕ) where
         let t = other 3 fourth n (lengthOk bytes) b (a .1) in
         (record { mode-fit = a .0; whole = length-whole bytes t; few = length-few bytes t }, later 3 fourth n (lengthOk bytes) b (a .1))
 
-  to-axes : (n : ℕ) → AxesFit axes → firstFailed second ≡ n → earlyNo axes mode bytes work ≡ n
+  to-axes : (n : ℕ) → AxesFit axes → firstFailed second ≡ n → earlyNo axes mode bytes work pairs ≡ n
   to-axes n a e = early-is ∙ passed 1 second n (axesOk axes) (fit-axes axes a) e
 
-  to-mode : (n : ℕ) → ModeFit axes mode → firstFailed third ≡ n → earlyNo axes mode bytes work ≡ n
+  to-mode : (n : ℕ) → ModeFit axes mode → firstFailed third ≡ n → earlyNo axes mode bytes work pairs ≡ n
   to-mode n a e = to-axes n (a .axes-fit) (passed 2 third n (leb mode 1) (le-leb mode 1 (a .known)) e)
 
-  to-length : (n : ℕ) → LengthFit axes mode bytes → firstFailed fourth ≡ n → earlyNo axes mode bytes work ≡ n
+  to-length : (n : ℕ) → LengthFit axes mode bytes → firstFailed fourth ≡ n → earlyNo axes mode bytes work pairs ≡ n
   to-length n a e = to-mode n (a .mode-fit) (passed 3 fourth n (lengthOk bytes) (fit-length bytes (a .whole) (a .few)) e)
 
-  pub early-axes : Exactly (earlyNo axes mode bytes work ≡ 1) ((axes ≡ 0) ⊎ (64 < axes))
+  pub early-axes : Exactly (earlyNo axes mode bytes work pairs ≡ 1) ((axes ≡ 0) ⊎ (64 < axes))
   early-axes = record {
     given = λ b. early-is ∙ failed 1 second (axesOk axes) (bad-axes-ok axes b);
-    only = λ e. axes-bad axes (this 1 second (axesOk axes) (omega arith) (omega arith, (omega arith, (omega arith, tt))) (sym early-is ∙ e));
+    only = λ e. axes-bad axes (this 1 second (axesOk axes) (omega arith) (omega arith, (omega arith, (omega arith, (omega arith, tt)))) (sym early-is ∙ e));
   }
 
-  pub early-mode : Exactly (earlyNo axes mode bytes work ≡ 2) (AxesFit axes × (1 < mode))
+  pub early-mode : Exactly (earlyNo axes mode bytes work pairs ≡ 2) (AxesFit axes × (1 < mode))
   early-mode = record {
     given = λ b. to-axes 2 (b .0) (failed 2 third (leb mode 1) (lt-leb mode 1 (b .1)));
     only = λ e.
         let a = past-axes 2 e (λ z. omega arith) in
-        (a .0, leb-false mode 1 (this 2 third (leb mode 1) (omega arith) (omega arith, (omega arith, tt)) (a .1)));
+        (a .0, leb-false mode 1 (this 2 third (leb mode 1) (omega arith) (omega arith, (omega arith, (omega arith, tt))) (a .1)));
   }
 
-  pub early-length : Exactly (earlyNo axes mode bytes work ≡ 3) (ModeFit axes mode × ((bytes % 12 ≡ 0 → ⊥) ⊎ (1048576 < bytes / 12)))
+  pub early-length : Exactly (earlyNo axes mode bytes work pairs ≡ 3) (ModeFit axes mode × ((bytes % 12 ≡ 0 → ⊥) ⊎ (1048576 < bytes / 12)))
   early-length = record {
     given = λ b. to-mode 3 (b .0) (failed 3 fourth (lengthOk bytes) (bad-length-ok bytes (b .1)));
     only = λ e.
         let a = past-mode 3 e (λ z. omega arith) (λ z. omega arith) in
-        (a .0, length-bad bytes (this 3 fourth (lengthOk bytes) (omega arith) (omega arith, tt) (a .1)));
+        (a .0, length-bad bytes (this 3 fourth (lengthOk bytes) (omega arith) (omega arith, (omega arith, tt)) (a .1)));
   }
 
-  pub early-work : Exactly (earlyNo axes mode bytes work ≡ 4) (LengthFit axes mode bytes × (work < publishedWork (bytes / 12)))
+  pub early-work : Exactly (earlyNo axes mode bytes work pairs ≡ 4) (LengthFit axes mode bytes × ((work < publishedWork (bytes / 12)) ⊎ (pairs < pairRecords)))
   early-work = record {
-    given = λ b. to-length 4 (b .0) (failed 4 [] (leb (publishedWork (bytes / 12)) work) (lt-leb (publishedWork (bytes / 12)) work (b .1)));
+    given = λ b.
+        to-length 4 (b .0)
+        (⊎-elim (λ (h : work < publishedWork (bytes / 12)). failed 4 fifth workOk (lt-leb (publishedWork (bytes / 12)) work h))
+        (λ (h : pairs < pairRecords). second-failed 4 workOk pairsOk (lt-leb pairRecords pairs h)) (b .1));
     only = λ e.
-        let a = past-length 4 e (λ z. omega arith) (λ z. omega arith) (λ z. omega arith) in
-        (a .0, leb-false (publishedWork (bytes / 12)) work (this 4 [] (leb (publishedWork (bytes / 12)) work) (omega arith) tt (a .1)));
+        let a = past-length 4 e (λ z. omega arith) (λ z. omega arith) (λ z. omega arith) in (
+          a .0,
+          ⊎-elim (λ (h : workOk ≡ false). inl (leb-false (publishedWork (bytes / 12)) work h)) (λ (h : pairsOk ≡ false). inr (leb-false pairRecords pairs h))
+              (one-of-two 4 workOk pairsOk (omega arith) (a .1)),
+        );
   }
 
   -- none of them
-  pub early-none : Exactly (earlyNo axes mode bytes work ≡ 0) (WorkFit axes mode bytes work)
+  pub early-none : Exactly (earlyNo axes mode bytes work pairs ≡ 0) (WorkFit axes mode bytes work pairs)
   early-none = record {
-    given = λ b. to-length 0 (b .length-fit) (passed 4 [] 0 (leb (publishedWork (bytes / 12)) work) (le-leb (publishedWork (bytes / 12)) work (b .enough)) none-failed);
+    given = λ b.
+        to-length 0 (b .length-fit)
+        (passed 4 fifth 0 workOk (le-leb (publishedWork (bytes / 12)) work (b .enough)) (passed 4 [] 0 pairsOk (le-leb pairRecords pairs (b .paired)) none-failed));
     only = λ e.
         let a = past-length 0 e (λ z. omega arith) (λ z. omega arith) (λ z. omega arith) in
+        let f = later 4 fifth 0 workOk (λ z. omega arith) (a .1) in
         record {
           length-fit = a .0;
-          enough = leb-true (publishedWork (bytes / 12)) work (other 4 [] 0 (leb (publishedWork (bytes / 12)) work) (λ z. omega arith) (a .1));
+          enough = leb-true (publishedWork (bytes / 12)) work (other 4 fifth 0 workOk (λ z. omega arith) (a .1));
+          paired = leb-true pairRecords pairs (other 4 [] 0 pairsOk (λ z. omega arith) f);
         };
   }
 
 -- ---- the rows
 
-module _ (axes mode : ℕ) (job : List ℕ) (work : ℕ) (l : Lengths) (p : ℕ) where
-  row : (n : ℕ) (Why : Type 0) → 0 < n → n ≤ 4 → Exactly (earlyNo axes mode (length job) work ≡ n) Why → Exactly (answerOf axes mode job work l ≡ Refused n p) ((p ≡ 0) × Why)
+module _ (axes mode : ℕ) (job : List ℕ) (work pairs : ℕ) (l : Lengths) (p : ℕ) where
+  row : (n : ℕ) (Why : Type 0) → 0 < n → n ≤ 4 → Exactly (earlyNo axes mode (length job) work pairs ≡ n) Why → Exactly (answerOf axes mode job work pairs l ≡ Refused n p) ((p ≡ 0) × Why)
   row n Why low high x = record {
-    given = λ b. answer-refused axes mode job work l n p (rw (b .0) (outcome-early axes mode job work n (x .given (b .1)) low));
-    only = λ e. let a = early-only axes mode job work n p high (job-only axes mode job work l n p (omega arith) e) in (a .1, x .only (a .0));
+    given = λ b. answer-refused axes mode job work pairs l n p (rw (b .0) (outcome-early axes mode job work pairs n (x .given (b .1)) low));
+    only = λ e. let a = early-only axes mode job work pairs n p high (job-only axes mode job work pairs l n p (omega arith) e) in (a .1, x .only (a .0));
   }
 
   -- 1 BAD_AXES: "axis count 0 or above 64"
-  pub bad-axes : Exactly (answerOf axes mode job work l ≡ Refused 1 p) ((p ≡ 0) × ((axes ≡ 0) ⊎ (64 < axes)))
-  bad-axes = row 1 ((axes ≡ 0) ⊎ (64 < axes)) (omega arith) (omega arith) (early-axes axes mode (length job) work)
+  pub bad-axes : Exactly (answerOf axes mode job work pairs l ≡ Refused 1 p) ((p ≡ 0) × ((axes ≡ 0) ⊎ (64 < axes)))
+  bad-axes = row 1 ((axes ≡ 0) ⊎ (64 < axes)) (omega arith) (omega arith) (early-axes axes mode (length job) work pairs)
 
   -- 2 BAD_MODE: "mode neither 0 nor 1"
-  pub bad-mode : Exactly (answerOf axes mode job work l ≡ Refused 2 p) ((p ≡ 0) × (AxesFit axes × (1 < mode)))
-  bad-mode = row 2 (AxesFit axes × (1 < mode)) (omega arith) (omega arith) (early-mode axes mode (length job) work)
+  pub bad-mode : Exactly (answerOf axes mode job work pairs l ≡ Refused 2 p) ((p ≡ 0) × (AxesFit axes × (1 < mode)))
+  bad-mode = row 2 (AxesFit axes × (1 < mode)) (omega arith) (omega arith) (early-mode axes mode (length job) work pairs)
 
   -- 3 BAD_JOB_LENGTH: "bytes not a multiple of 12, or over the record limit"
-  pub bad-job-length : Exactly (answerOf axes mode job work l ≡ Refused 3 p) ((p ≡ 0) × (ModeFit axes mode × ((length job % 12 ≡ 0 → ⊥) ⊎ (1048576 < length job / 12))))
-  bad-job-length = row 3 (ModeFit axes mode × ((length job % 12 ≡ 0 → ⊥) ⊎ (1048576 < length job / 12))) (omega arith) (omega arith) (early-length axes mode (length job) work)
+  pub bad-job-length : Exactly (answerOf axes mode job work pairs l ≡ Refused 3 p) ((p ≡ 0) × (ModeFit axes mode × ((length job % 12 ≡ 0 → ⊥) ⊎ (1048576 < length job / 12))))
+  bad-job-length = row 3 (ModeFit axes mode × ((length job % 12 ≡ 0 → ⊥) ⊎ (1048576 < length job / 12))) (omega arith) (omega arith) (early-length axes mode (length job) work pairs)
 
-  -- 4 WORK_SHORT: "work below the published number"
-  pub work-short : Exactly (answerOf axes mode job work l ≡ Refused 4 p) ((p ≡ 0) × (LengthFit axes mode (length job) × (work < publishedWork (length job / 12))))
-  work-short = row 4 (LengthFit axes mode (length job) × (work < publishedWork (length job / 12))) (omega arith) (omega arith) (early-work axes mode (length job) work)
+  -- 4 WORK_SHORT: "work below the published number", or fewer pair records than 1,048,576
+  pub work-short : Exactly (answerOf axes mode job work pairs l ≡ Refused 4 p) ((p ≡ 0) × (LengthFit axes mode (length job) × ((work < publishedWork (length job / 12)) ⊎ (pairs < pairRecords))))
+  work-short = row 4 (LengthFit axes mode (length job) × ((work < publishedWork (length job / 12)) ⊎ (pairs < pairRecords))) (omega arith) (omega arith) (early-work axes mode (length job) work pairs)

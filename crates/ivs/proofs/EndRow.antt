@@ -77,27 +77,27 @@ module _ (axes : ℕ) (job : List ℕ) (k : ℕ) where
 
 -- ---- the row
 
-module _ (axes mode : ℕ) (job : List ℕ) (work : ℕ) where
+module _ (axes mode : ℕ) (job : List ℕ) (work pairs : ℕ) where
   abbrev records : ℕ
   records = length job / 12
 
   -- 8 UNFINISHED: "the job ends inside a set or a region"
-  pub unfinished : (l : Lengths) (p : ℕ) → Exactly (answerOf axes mode job work l ≡ Refused 8 p) ((p ≡ records) × AllPass axes mode job work (Unfinished axes job records))
+  pub unfinished : (l : Lengths) (p : ℕ) → Exactly (answerOf axes mode job work pairs l ≡ Refused 8 p) ((p ≡ records) × AllPass axes mode job work pairs (Unfinished axes job records))
   unfinished l p = record {
     given = λ b.
         let a = b .1 in
         let m = means axes mode job records (a .state) (a .all-pass) in
-        rw (b .0) (answer-refused axes mode job work l 8 records (outcome-walked axes mode job work (early-none axes mode (length job) work .given (a .fits))
+        rw (b .0) (answer-refused axes mode job work pairs l 8 records (outcome-walked axes mode job work pairs (early-none axes mode (length job) work pairs .given (a .fits))
         ∙ ends-given axes mode job records (refused 8 records) (record { state = a .state; all-pass = a .all-pass; ends = unfinished-is axes job records (a .state) m .given (a .why) })));
     only = λ e.
-        let o = job-only axes mode job work l 8 p (omega arith) e in
-        let w = walked-only axes mode job work (refused 8 p) (λ n q f. let z : 8 ≡ n = cc in omega arith) o in
+        let o = job-only axes mode job work pairs l 8 p (omega arith) e in
+        let w = walked-only axes mode job work pairs (refused 8 p) (λ n q f. let z : 8 ≡ n = cc in omega arith) o in
         let a = ends-only axes mode job records (refused 8 p) (λ n q f. cc) (w .1) in
         let at : p ≡ records = ended-no axes job records (a .state) 8 p (a .ends) .1 in
         let m = means axes mode job records (a .state) (a .all-pass) in (
           at,
           record {
-            fits = early-none axes mode (length job) work .only (w .0);
+            fits = early-none axes mode (length job) work pairs .only (w .0);
             state = a .state;
             all-pass = a .all-pass;
             why = unfinished-is axes job records (a .state) m .only (a .ends ∙ ap (λ (x : ℕ). refused 8 x) at);
@@ -106,11 +106,11 @@ module _ (axes mode : ℕ) (job : List ℕ) (work : ℕ) where
   }
 
   -- sound: none of 1 to 9
-  pub sound : (s : Said) → Exactly (outcome axes mode job work ≡ fine s) (AllPass axes mode job work (EndsAs axes mode job records (fine s)))
+  pub sound : (s : Said) → Exactly (outcome axes mode job work pairs ≡ fine s) (AllPass axes mode job work pairs (EndsAs axes mode job records (fine s)))
   sound s = record {
-    given = λ a. outcome-walked axes mode job work (early-none axes mode (length job) work .given (a .fits)) ∙ ends-given axes mode job records (fine s) (a .why);
+    given = λ a. outcome-walked axes mode job work pairs (early-none axes mode (length job) work pairs .given (a .fits)) ∙ ends-given axes mode job records (fine s) (a .why);
     only = λ e.
-        let w = walked-only axes mode job work (fine s) (λ n q f. let z : _≡_ {A = ℕ} 0 1 = cc in absurd (omega arith)) e in
+        let w = walked-only axes mode job work pairs (fine s) (λ n q f. let z : _≡_ {A = ℕ} 0 1 = cc in absurd (omega arith)) e in
         let a = ends-only axes mode job records (fine s) (λ n q f. let z : _≡_ {A = ℕ} 0 1 = cc in absurd (omega arith)) (w .1) in
-        record { fits = early-none axes mode (length job) work .only (w .0); state = a .state; all-pass = a .all-pass; why = a };
+        record { fits = early-none axes mode (length job) work pairs .only (w .0); state = a .state; all-pass = a .all-pass; why = a };
   }

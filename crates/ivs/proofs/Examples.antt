@@ -29,7 +29,7 @@ use Rattle.rows.specs.Subtable as rows
 use Rattle.store.specs.Placing as store
 use Rattle.store.specs.Lent.{stored}
 use Rattle.said.specs.Records.{zeros, axisZeros, valueZeros, endZeros, valueWord}
-use Rattle.said.specs.Refusals.{firstFailed, publishedWork, earlyNo, axisNo, valueNo, endNo}
+use Rattle.said.specs.Refusals.{firstFailed, publishedWork, pairRecords, earlyNo, axisNo, valueNo, endNo}
 use Rattle.said.specs.Sets as said
 use Rattle.said.specs.Job as job
 use Rattle.job.specs.Check.{workLeft}
@@ -114,15 +114,15 @@ x = 0xEE
 abbrev full : ℕ → List ℕ
 full n = replicate n x
 
--- a build of these bytes with this lent
+-- a build of these bytes with this lent, and just so many pair records as there must be (they are zeros after it, whatever they held: Buffers `pairs-done`)
 abbrev builtWith : ℕ → List ℕ → List ℕ → List ℕ → List ℕ → List ℕ → List ℕ → Left
 builtWith mode bytes out ids map log work = record {
-  answer = answerOf 1 mode bytes (length work) (lengths out ids map log);
-  out = outAfter 1 mode bytes (length work) (lengths out ids map log) out;
-  ids = idsAfter 1 mode bytes (length work) (lengths out ids map log) ids;
-  map = mapAfter 1 mode bytes (length work) (lengths out ids map log) map;
-  log = logAfter 1 mode bytes (length work) (lengths out ids map log) log;
-  work = workLeft 1 mode (length bytes) work;
+  answer = answerOf 1 mode bytes (length work) pairRecords (lengths out ids map log);
+  out = outAfter 1 mode bytes (length work) pairRecords (lengths out ids map log) out;
+  ids = idsAfter 1 mode bytes (length work) pairRecords (lengths out ids map log) ids;
+  map = mapAfter 1 mode bytes (length work) pairRecords (lengths out ids map log) map;
+  log = logAfter 1 mode bytes (length work) pairRecords (lengths out ids map log) log;
+  work = workLeft 1 mode (length bytes) pairRecords work;
 }
 
 -- with one word of work more than is published

@@ -49,6 +49,18 @@ module _ (n : ℕ) (l : Tests) where
     unfolding firstFailed
     passed b t e = rw t e
 
+-- two tests with one number
+pub one-of-two : (n : ℕ) (a b : Bool) → 0 < n → firstFailed ((a, n) ∷ (b, n) ∷ []) ≡ n → (a ≡ false) ⊎ (b ≡ false)
+unfolding firstFailed
+one-of-two n true true p e = absurd (omega arith)
+one-of-two n true false p e = inr refl
+one-of-two n false b p e = inl refl
+
+pub second-failed : (n : ℕ) (a b : Bool) → b ≡ false → firstFailed ((a, n) ∷ (b, n) ∷ []) ≡ n
+unfolding firstFailed
+second-failed n true b e = rw e
+second-failed n false b e = refl
+
 -- the number is one of the tests', or 0
 pub among : (low high : ℕ) (l : Tests) → All (λ (t : Bool × ℕ). (low ≤ t .1) × (t .1 ≤ high)) l → (firstFailed l ≡ 0) ⊎ ((low ≤ firstFailed l) × (firstFailed l ≤ high))
 unfolding firstFailed

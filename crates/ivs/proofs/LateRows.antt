@@ -179,48 +179,48 @@ module _ (axes mode : ℕ) (s : Said) (l : Lengths) where
 
 -- ---- the rows
 
-module _ (axes mode : ℕ) (job : List ℕ) (work : ℕ) (l : Lengths) where
+module _ (axes mode : ℕ) (job : List ℕ) (work pairs : ℕ) (l : Lengths) where
   module _ (p : ℕ) where
     row : (n : ℕ) (Why : Said → Type 0) → 10 ≤ n → ((s : Said) → Exactly (late axes mode s l ≡ n) (Why s))
-        → Exactly (answerOf axes mode job work l ≡ Refused n p) ((p ≡ 0) × Accepted axes mode job work Why)
+        → Exactly (answerOf axes mode job work pairs l ≡ Refused n p) ((p ≡ 0) × Accepted axes mode job work pairs Why)
     row n Why low x = record {
-      given = λ b. rw (b .0) (answer-late axes mode job work l (b .1 .said) n (b .1 .sound) (x (b .1 .said) .given (b .1 .holds)) (omega arith));
+      given = λ b. rw (b .0) (answer-late axes mode job work pairs l (b .1 .said) n (b .1 .sound) (x (b .1 .said) .given (b .1 .holds)) (omega arith));
       only = λ e.
-          let a = late-only axes mode job work l n p low e in
+          let a = late-only axes mode job work pairs l n p low e in
           (a .0, record { said = a .1; sound = a .2; holds = x (a .1) .only (a .3) });
     }
 
     -- 10 SHAPES_FULL: "mode 0, more than 1,024 distinct shapes"
-    pub shapes-full : Exactly (answerOf axes mode job work l ≡ Refused 10 p) ((p ≡ 0) × Accepted axes mode job work (λ s. (mode ≡ 0) × (1024 < shapeCount mode s)))
+    pub shapes-full : Exactly (answerOf axes mode job work pairs l ≡ Refused 10 p) ((p ≡ 0) × Accepted axes mode job work pairs (λ s. (mode ≡ 0) × (1024 < shapeCount mode s)))
     shapes-full = row 10 (λ s. (mode ≡ 0) × (1024 < shapeCount mode s)) (omega arith) (λ s. late-shapes axes mode s l)
 
     -- 11 IDS_SHORT: "fewer words than end records"
-    pub ids-short : Exactly (answerOf axes mode job work l ≡ Refused 11 p) ((p ≡ 0) × Accepted axes mode job work (λ s. ShapesFit mode s × (l .ids < endRecords s)))
+    pub ids-short : Exactly (answerOf axes mode job work pairs l ≡ Refused 11 p) ((p ≡ 0) × Accepted axes mode job work pairs (λ s. ShapesFit mode s × (l .ids < endRecords s)))
     ids-short = row 11 (λ s. ShapesFit mode s × (l .ids < endRecords s)) (omega arith) (λ s. late-ids axes mode s l)
 
     -- 12 MAP_SHORT: "fewer words than distinct ids"
-    pub map-short : Exactly (answerOf axes mode job work l ≡ Refused 12 p) ((p ≡ 0) × Accepted axes mode job work (λ s. IdsFit mode s l × (l .map < distinctIds mode s)))
+    pub map-short : Exactly (answerOf axes mode job work pairs l ≡ Refused 12 p) ((p ≡ 0) × Accepted axes mode job work pairs (λ s. IdsFit mode s l × (l .map < distinctIds mode s)))
     map-short = row 12 (λ s. IdsFit mode s l × (l .map < distinctIds mode s)) (omega arith) (λ s. late-map axes mode s l)
 
     -- 13 LOG_SHORT: "mode 0, N at least 1, fewer than 3 x (N-1) words"
-    pub log-short : Exactly (answerOf axes mode job work l ≡ Refused 13 p)
-        ((p ≡ 0) × Accepted axes mode job work (λ s. MapFit mode s l × (mode ≡ 0) × (1 ≤ shapeCount mode s) × (l .log < 3 * (shapeCount mode s - 1))))
+    pub log-short : Exactly (answerOf axes mode job work pairs l ≡ Refused 13 p)
+        ((p ≡ 0) × Accepted axes mode job work pairs (λ s. MapFit mode s l × (mode ≡ 0) × (1 ≤ shapeCount mode s) × (l .log < 3 * (shapeCount mode s - 1))))
     log-short = row 13 (λ s. MapFit mode s l × (mode ≡ 0) × (1 ≤ shapeCount mode s) × (l .log < 3 * (shapeCount mode s - 1))) (omega arith) (λ s. late-log axes mode s l)
 
     -- 14 OUT_SHORT: "fewer bytes than the store takes"
-    pub out-short : Exactly (answerOf axes mode job work l ≡ Refused 14 p) ((p ≡ 0) × Accepted axes mode job work (λ s. LogFit mode s l × (l .out < storeBytes axes mode s)))
+    pub out-short : Exactly (answerOf axes mode job work pairs l ≡ Refused 14 p) ((p ≡ 0) × Accepted axes mode job work pairs (λ s. LogFit mode s l × (l .out < storeBytes axes mode s)))
     out-short = row 14 (λ s. LogFit mode s l × (l .out < storeBytes axes mode s)) (omega arith) (λ s. late-out axes mode s l)
 
   -- done: the job is sound, and none of 10 to 14 is given
-  pub is-done : (r : Report) → Exactly (answerOf axes mode job work l ≡ Done r)
-      (Accepted axes mode job work (λ s. OutFit axes mode s l × (r ≡ reportOf axes (coordsOf s) (packedOf mode s))))
+  pub is-done : (r : Report) → Exactly (answerOf axes mode job work pairs l ≡ Done r)
+      (Accepted axes mode job work pairs (λ s. OutFit axes mode s l × (r ≡ reportOf axes (coordsOf s) (packedOf mode s))))
   is-done r = record {
-    given = λ b. answer-done axes mode job work l (b .said) (b .sound) (late-none axes mode (b .said) l .given (b .holds .0)) ∙ ap Done (sym (b .holds .1));
-    only = λ e. go e (answers axes mode job work l);
+    given = λ b. answer-done axes mode job work pairs l (b .said) (b .sound) (late-none axes mode (b .said) l .given (b .holds .0)) ∙ ap Done (sym (b .holds .1));
+    only = λ e. go e (answers axes mode job work pairs l);
   }
     where
-      go : answerOf axes mode job work l ≡ Done r → Answers axes mode job work l
-          → Accepted axes mode job work (λ s. OutFit axes mode s l × (r ≡ reportOf axes (coordsOf s) (packedOf mode s)))
+      go : answerOf axes mode job work pairs l ≡ Done r → Answers axes mode job work pairs l
+          → Accepted axes mode job work pairs (λ s. OutFit axes mode s l × (r ≡ reportOf axes (coordsOf s) (packedOf mode s)))
       go e (by-job n p f g b) = let z : _≡_ {A = ℕ} 0 1 = cc in absurd (omega arith)
       go e (by-late s f b g) = let z : _≡_ {A = ℕ} 0 1 = cc in absurd (omega arith)
       go e (done s f b g) =

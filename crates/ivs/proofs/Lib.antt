@@ -5,6 +5,7 @@ pub mod StepLaws
 pub mod WalkRows
 pub mod OutcomeRows
 pub mod TellLaws
+pub mod Calls
 pub mod EarlyRows
 pub mod LateRows
 pub mod Buffers

@@ -15,9 +15,9 @@ use Rattle.ivs.proofs.OutcomeRows.{numbers}
 pub number-most : (b : Built) (n at : ℕ) → b ≡ Refused n at → numberFew b → n ≤ 14
 number-most b n at e h = subst numberFew e h
 
-pub answer-few : (axes mode : ℕ) (job : List ℕ) (work : ℕ) (l : Lengths) (b : Built) → b ≡ answerOf axes mode job work l → numberFew b
-answer-few axes mode job work l (built.Refused n at) e = numbers axes mode job work l n at (sym e) .1
-answer-few axes mode job work l (built.Done d) e = tt
+pub answer-few : (axes mode : ℕ) (job : List ℕ) (work pairs : ℕ) (l : Lengths) (b : Built) → b ≡ answerOf axes mode job work pairs l → numberFew b
+answer-few axes mode job work pairs l (built.Refused n at) e = numbers axes mode job work pairs l n at (sym e) .1
+answer-few axes mode job work pairs l (built.Done d) e = tt
 
 pub told-refused : (b : Built) (n at : ℕ) → b ≡ Refused n at → (w old : List ℕ) → w ≡ filled 0 (refusedWords n at) old → (n ≡ numberOf b) × (w ≡ filled 0 (reportWords b) old)
 unfolding numberOf reportWords

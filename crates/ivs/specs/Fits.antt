@@ -2,7 +2,7 @@
 -- are not given. Assumes nothing.
 use mathlib.Core.Path.{_≡_}
 use Prim.Native.Nat.{ℕ, _/_, _%_, _≤_, _<_}
-use Rattle.said.specs.Refusals.{publishedWork}
+use Rattle.said.specs.Refusals.{publishedWork, pairRecords}
 
 -- "1 to 64 axes"
 pub record AxesFit (axes : ℕ) : Type 0 where
@@ -19,6 +19,7 @@ pub record LengthFit (axes mode bytes : ℕ) : Type 0 where
   pub whole : bytes % 12 ≡ 0
   pub few : bytes / 12 ≤ 1048576
 
-pub record WorkFit (axes mode bytes work : ℕ) : Type 0 where
+pub record WorkFit (axes mode bytes work pairs : ℕ) : Type 0 where
   pub length-fit : LengthFit axes mode bytes
   pub enough : publishedWork (bytes / 12) ≤ work
+  pub paired : pairRecords ≤ pairs

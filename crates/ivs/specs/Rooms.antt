@@ -10,9 +10,9 @@ use Rattle.finishing.specs.Late.{Lengths, storeFor}
 use Rattle.build.specs.Build.{coordsOf, packedOf}
 
 -- the job is sound, and this holds of what it says
-pub record Accepted (axes mode : ℕ) (job : List ℕ) (work : ℕ) (P : Said → Type 0) : Type 0 where
+pub record Accepted (axes mode : ℕ) (job : List ℕ) (work pairs : ℕ) (P : Said → Type 0) : Type 0 where
   pub said : Said
-  pub sound : outcome axes mode job work ≡ fine said
+  pub sound : outcome axes mode job work pairs ≡ fine said
   pub holds : P said
 
 -- N, the count of distinct shapes; it is 0 in mode 1

@@ -7,16 +7,16 @@ use Rattle.ivs.specs.Fits.{WorkFit}
 use Rattle.ivs.specs.Passing.{Passed}
 
 -- none of 1 to 4; records 0 to i, without i, pass; and this holds of record i
-pub record EarliestBad (axes mode : ℕ) (job : List ℕ) (work i : ℕ) (Why : Type 0) : Type 0 where
-  pub fits : WorkFit axes mode (length job) work
+pub record EarliestBad (axes mode : ℕ) (job : List ℕ) (work pairs i : ℕ) (Why : Type 0) : Type 0 where
+  pub fits : WorkFit axes mode (length job) work pairs
   pub within : i < length job / 12
   pub state : State
   pub before-pass : Passed axes mode job i state
   pub why : Why
 
 -- none of 1 to 4; all records pass; and this holds of the job
-pub record AllPass (axes mode : ℕ) (job : List ℕ) (work : ℕ) (Why : Type 0) : Type 0 where
-  pub fits : WorkFit axes mode (length job) work
+pub record AllPass (axes mode : ℕ) (job : List ℕ) (work pairs : ℕ) (Why : Type 0) : Type 0 where
+  pub fits : WorkFit axes mode (length job) work pairs
   pub state : State
   pub all-pass : Passed axes mode job (length job / 12) state
   pub why : Why

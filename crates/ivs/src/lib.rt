@@ -2,6 +2,7 @@
 mod report;
 
 use crate::report::tell;
+use pairs::Pair;
 use reader::Reading;
 ghost use mathlib.Core.Path.{_≡_};
 ghost use Rattle.laws.specs.Signed.{twos};
@@ -10,7 +11,7 @@ ghost use Rattle.reader.specs.Store.{readStore};
 ghost use lib.ListN.{length};
 ghost use Rattle.job.specs.Check.{workLeft};
 ghost use Rattle.finishing.specs.Lent.{lengths};
-ghost use Rattle.build.specs.Build.{answerOf, outAfter, idsAfter, mapAfter, logAfter};
+ghost use Rattle.build.specs.Build.{answerOf, outAfter, idsAfter, mapAfter, logAfter, pairsLeft};
 ghost use Rattle.ivs.specs.Answers.{readWord, numberOf, reportWords, filled};
 
 // The words of work that a job of so many records needs; 0 above the record limit.
@@ -50,20 +51,22 @@ pub extern "C" fn ivs_build(
     mode: u32,
     job: &[u8],
     work: &mut [u32],
+    pairs: &mut [Pair],
     out: &mut [u8],
     ids: &mut [u32],
     map: &mut [u32],
     log: &mut [u32],
     report: &mut [u64; 16],
 ) -> u32
-    ensures { λ r. ⌜ r ≡ numberOf (answerOf axes mode (now (job .entry)) (length (now (work .entry))) (lengths (now (out .entry)) (now (ids .entry)) (now (map .entry)) (now (log .entry)))) ⌝ }
-    ensures { λ _. ⌜ now (report .exit) ≡ filled 0 (reportWords (answerOf axes mode (now (job .entry)) (length (now (work .entry))) (lengths (now (out .entry)) (now (ids .entry)) (now (map .entry)) (now (log .entry))))) (now (report .entry)) ⌝ }
-    ensures { λ _. ⌜ now (out .exit) ≡ outAfter axes mode (now (job .entry)) (length (now (work .entry))) (lengths (now (out .entry)) (now (ids .entry)) (now (map .entry)) (now (log .entry))) (now (out .entry)) ⌝ }
-    ensures { λ _. ⌜ now (ids .exit) ≡ idsAfter axes mode (now (job .entry)) (length (now (work .entry))) (lengths (now (out .entry)) (now (ids .entry)) (now (map .entry)) (now (log .entry))) (now (ids .entry)) ⌝ }
-    ensures { λ _. ⌜ now (map .exit) ≡ mapAfter axes mode (now (job .entry)) (length (now (work .entry))) (lengths (now (out .entry)) (now (ids .entry)) (now (map .entry)) (now (log .entry))) (now (map .entry)) ⌝ }
-    ensures { λ _. ⌜ now (log .exit) ≡ logAfter axes mode (now (job .entry)) (length (now (work .entry))) (lengths (now (out .entry)) (now (ids .entry)) (now (map .entry)) (now (log .entry))) (now (log .entry)) ⌝ }
-    ensures { λ _. ⌜ now (work .exit) ≡ workLeft axes mode (length (now (job .entry))) (now (work .entry)) ⌝ }
+    ensures { λ r. ⌜ r ≡ numberOf (answerOf axes mode (now (job .entry)) (length (now (work .entry))) (length (now (pairs .entry))) (lengths (now (out .entry)) (now (ids .entry)) (now (map .entry)) (now (log .entry)))) ⌝ }
+    ensures { λ _. ⌜ now (report .exit) ≡ filled 0 (reportWords (answerOf axes mode (now (job .entry)) (length (now (work .entry))) (length (now (pairs .entry))) (lengths (now (out .entry)) (now (ids .entry)) (now (map .entry)) (now (log .entry))))) (now (report .entry)) ⌝ }
+    ensures { λ _. ⌜ now (out .exit) ≡ outAfter axes mode (now (job .entry)) (length (now (work .entry))) (length (now (pairs .entry))) (lengths (now (out .entry)) (now (ids .entry)) (now (map .entry)) (now (log .entry))) (now (out .entry)) ⌝ }
+    ensures { λ _. ⌜ now (ids .exit) ≡ idsAfter axes mode (now (job .entry)) (length (now (work .entry))) (length (now (pairs .entry))) (lengths (now (out .entry)) (now (ids .entry)) (now (map .entry)) (now (log .entry))) (now (ids .entry)) ⌝ }
+    ensures { λ _. ⌜ now (map .exit) ≡ mapAfter axes mode (now (job .entry)) (length (now (work .entry))) (length (now (pairs .entry))) (lengths (now (out .entry)) (now (ids .entry)) (now (map .entry)) (now (log .entry))) (now (map .entry)) ⌝ }
+    ensures { λ _. ⌜ now (log .exit) ≡ logAfter axes mode (now (job .entry)) (length (now (work .entry))) (length (now (pairs .entry))) (lengths (now (out .entry)) (now (ids .entry)) (now (map .entry)) (now (log .entry))) (now (log .entry)) ⌝ }
+    ensures { λ _. ⌜ now (work .exit) ≡ workLeft axes mode (length (now (job .entry))) (length (now (pairs .entry))) (now (work .entry)) ⌝ }
+    ensures { λ _. ⌜ now (pairs .exit) ≡ pairsLeft axes mode (length (now (job .entry))) (length (now (work .entry))) (now (pairs .entry)) ⌝ }
 {
-    let answer = build::build(axes, mode, job, work, out, ids, map, log);
+    let answer = build::build(axes, mode, job, work, pairs, out, ids, map, log);
     tell(report, answer)
 }

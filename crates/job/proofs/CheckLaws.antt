@@ -27,26 +27,26 @@ none-early zero o h = refl
 none-early (suc n) o h = absurd (omega arith)
 
 -- the published work has the words of the tables
-pub room : (axes mode bytes work : ℕ) → Open axes mode bytes work → 16 * (bytes / recordBytes) ≤ work
+pub room : (axes mode bytes work pairs : ℕ) → Open axes mode bytes work pairs → 16 * (bytes / recordBytes) ≤ work
 unfolding publishedWork
-room axes mode bytes work o = omega (arith, o .enough)
+room axes mode bytes work pairs o = omega (arith, o .enough)
 
-module _ (axes mode : ℕ) (job w : List ℕ) (n : ℕ) (e : n ≡ earlyNo axes mode (length job) (length w)) where
-  pub refused-early : (n ≡ 0 → ⊥) → Refused n 0 ≡ checkedOf (outcome axes mode job (length w))
+module _ (axes mode : ℕ) (job w : List ℕ) (pairs n : ℕ) (e : n ≡ earlyNo axes mode (length job) (length w) pairs) where
+  pub refused-early : (n ≡ 0 → ⊥) → Refused n 0 ≡ checkedOf (outcome axes mode job (length w) pairs)
   unfolding outcome checkedOf
   refused-early h =
       let o : Outcome = walk axes mode job job (length job / recordBytes) 0 inAxes in
       sym (ap checkedOf (ap (λ k. outcomeFrom k o) (sym e) ∙ early-first n o h))
 
-  pub left-early : (n ≡ 0 → ⊥) → w ≡ workLeft axes mode (length job) w
+  pub left-early : (n ≡ 0 → ⊥) → w ≡ workLeft axes mode (length job) pairs w
   unfolding workLeft
   left-early h = rw (← e, ne-eqb n 0 h) refl
 
-  pub left-zeros : n ≡ 0 → (long : ℕ) (w′ : List ℕ) → long ≡ length w → w′ ≡ replicate long 0 → w′ ≡ workLeft axes mode (length job) w
+  pub left-zeros : n ≡ 0 → (long : ℕ) (w′ : List ℕ) → long ≡ length w → w′ ≡ replicate long 0 → w′ ≡ workLeft axes mode (length job) pairs w
   unfolding workLeft
   left-zeros z long w′ l c = c ∙ rw (← e, eq-eqb n 0 z, l) refl
 
-  outcome-walk : n ≡ 0 → outcome axes mode job (length w) ≡ walk axes mode job job (length job / recordBytes) 0 inAxes
+  outcome-walk : n ≡ 0 → outcome axes mode job (length w) pairs ≡ walk axes mode job job (length job / recordBytes) 0 inAxes
   unfolding outcome
   outcome-walk z = none-early _ _ (sym e ∙ z)
 
@@ -55,11 +55,11 @@ module _ (axes mode : ℕ) (job w : List ℕ) (n : ℕ) (e : n ≡ earlyNo axes 
     read-by : JobRead axes mode job (length job / recordBytes) w w′ no′ at regions sets values uses
     read-by = subst (λ k. JobRead k mode job (length job / recordBytes) w w′ no′ at regions sets values uses) q read
 
-    pub refused-record : (no′ ≡ 0 → ⊥) → Refused no′ at ≡ checkedOf (outcome axes mode job (length w))
+    pub refused-record : (no′ ≡ 0 → ⊥) → Refused no′ at ≡ checkedOf (outcome axes mode job (length w) pairs)
     unfolding checkedOf
     refused-record h = sym (ap checkedOf (outcome-walk z ∙ read-by .bad h))
 
-    pub sound-all : no′ ≡ 0 → Sound regions sets values ≡ checkedOf (outcome axes mode job (length w))
+    pub sound-all : no′ ≡ 0 → Sound regions sets values ≡ checkedOf (outcome axes mode job (length w) pairs)
     unfolding checkedOf
     sound-all h =
         let g = read-by .good h in

@@ -14,5 +14,5 @@ checkedOf (refused n i) = Refused n i
 checkedOf (fine s) = Sound (length (s .regions)) (length (s .sets)) (s .values)
 
 -- "work untouched by 1 to 4 and all zeros to its last word after every other answer"
-unfoldable pub workLeft : ℕ → ℕ → ℕ → List ℕ → List ℕ
-workLeft axes mode bytes w = pick (eqb (earlyNo axes mode bytes (length w)) 0) (replicate (length w) 0) w
+unfoldable pub workLeft : ℕ → ℕ → ℕ → ℕ → List ℕ → List ℕ
+workLeft axes mode bytes pairs w = pick (eqb (earlyNo axes mode bytes (length w) pairs) 0) (replicate (length w) 0) w

@@ -12,9 +12,9 @@ fn needed(records: usize) -> usize
     ensures { λ r. ⌜ r ≡ publishedWork records ⌝ }
 {
     if records < 1024 {
-        return 16 * records + 4 * (records * records);
+        return 16 * records + records * records;
     }
-    16 * records + 4194304
+    16 * records + 1048576
 }
 
 // The published number for so many records; 0 above the record limit.
@@ -27,10 +27,10 @@ pub fn work_words(records: usize) -> usize
     needed(records)
 }
 
-// Refusals 1 to 4 in that order, or 0.
-pub fn early_no(axes: u32, mode: u32, bytes: usize, work: usize) -> usize
-    ensures { λ r. ⌜ r ≡ earlyNo axes mode bytes work ⌝ }
-    ensures { λ r. ⌜ (r ≡ 0 → Open axes mode bytes work) ⌝ }
+// Refusals 1 to 4 in that order, or 0, of so many bytes, words and pair records.
+pub fn early_no(axes: u32, mode: u32, bytes: usize, work: usize, pairs: usize) -> usize
+    ensures { λ r. ⌜ r ≡ earlyNo axes mode bytes work pairs ⌝ }
+    ensures { λ r. ⌜ (r ≡ 0 → Open axes mode bytes work pairs) ⌝ }
 {
     if axes == 0 {
         return 1;
@@ -49,6 +49,9 @@ pub fn early_no(axes: u32, mode: u32, bytes: usize, work: usize) -> usize
         return 3;
     }
     if work < needed(records) {
+        return 4;
+    }
+    if pairs < 1048576 {
         return 4;
     }
     0

@@ -44,10 +44,10 @@ use Rattle.slots.proofs.tables.Tables.Laws as L′
 use Rattle.waits.specs.declared.Tally.{Tally}
 use Rattle.waits.proofs.Tally as Y
 use Rattle.waits.proofs.Tally.Laws as Y′
+use Rattle.merging.specs.declared.encoder.Merged.{Merged}
 use Rattle.merging.specs.declared.run.Progress.{Progress}
 use Rattle.merging.proofs.run.Progress as Z
 use Rattle.merging.proofs.run.Progress.Laws as Z′
-use Rattle.merging.specs.declared.encoder.Merged.{Merged}
 use Rattle.pairs.proofs.Loan.{Loan, both, Gives, gives, loan-call}
 use Rattle.pairs.proofs.Slices.{ref, Has, lent-mut, lent-shr}
 use Rattle.pairs.proofs.take as take
@@ -82,11 +82,11 @@ mach-tables x = vstruct (vcons (vint w64 (x .regions)) (vcons (vint w64 (x .grou
 abbrev pub mach-tally : Tally → Val
 mach-tally x = vstruct (vcons (vint w64 (x .waiting)) (vcons (vint w64 (x .weighed)) vnil))
 
-abbrev pub mach-progress : Progress → Val
-mach-progress x = vstruct (vcons (vint w64 (x .waiting)) (vcons (vint w64 (x .weighed)) (vcons (vint w64 (x .merges)) (vcons (vint w64 (x .size)) vnil))))
-
 abbrev pub mach-merged : Merged → Val
 mach-merged x = vstruct (vcons (vint w64 (x .merges)) (vcons (vint w64 (x .weighed)) (vcons (vint w64 (x .before)) (vcons (vint w64 (x .after)) vnil))))
+
+abbrev pub mach-progress : Progress → Val
+mach-progress x = vstruct (vcons (vint w64 (x .waiting)) (vcons (vint w64 (x .weighed)) (vcons (vint w64 (x .merges)) (vcons (vint w64 (x .size)) vnil))))
 
 module _ {M : Type 1} (𝓤 : URA M) (H : Heap 𝓤) (A : Atoms 𝓤) (mem : Memory → SProp 𝓤) (run : Routine → Fun 𝓤) where
   abbrev pub Take-of : Contract 𝓤

@@ -34,7 +34,6 @@ use Rattle.pairs.proofs.Pair as T
 use Rattle.slots.specs.declared.tables.Tables.{Tables}
 use Rattle.slots.proofs.tables.Tables as L
 use Rattle.slots.proofs.tables.Tables.Laws as L′
-use Rattle.waits.specs.declared.Tally.{Tally}
 use Rattle.merging.specs.declared.encoder.Merged.{Merged}
 use Rattle.merging.proofs.encoder.Merged as D
 use Rattle.merging.proofs.encoder.Merged.Laws as D′
@@ -50,9 +49,6 @@ mach x = vstruct (vcons (vint w32 (x .gain)) (vcons (vint w32 (x .first)) (vcons
 
 abbrev pub mach-tables : Tables → Val
 mach-tables x = vstruct (vcons (vint w64 (x .regions)) (vcons (vint w64 (x .groups)) (vcons (vint w64 (x .slots)) (vcons (vint w64 (x .order)) (vcons (vint w64 (x .counts)) (vcons (vint w64 (x .place)) (vcons (vint w64 (x .rows)) (vcons (vint w64 (x .columns)) (vcons (vint w64 (x .into)) (vcons (vint w64 (x .log)) vnil))))))))))
-
-abbrev pub mach-tally : Tally → Val
-mach-tally x = vstruct (vcons (vint w64 (x .waiting)) (vcons (vint w64 (x .weighed)) vnil))
 
 abbrev pub mach-merged : Merged → Val
 mach-merged x = vstruct (vcons (vint w64 (x .merges)) (vcons (vint w64 (x .weighed)) (vcons (vint w64 (x .before)) (vcons (vint w64 (x .after)) vnil))))

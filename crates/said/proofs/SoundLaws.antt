@@ -19,7 +19,7 @@ use Rattle.laws.proofs.Cases.Which.{holds, fails}
 use Rattle.laws.proofs.EveryLaws.{all-append, all-imp, all-and}
 use Rattle.sets.specs.Set.{Set}
 use Rattle.said.specs.Records.{recordBytes, mostRecords, mostAxes, kind, axisKind, valueKind, endKind, regionOf, valueZeros, valueWord}
-use Rattle.said.specs.Refusals.{firstFailed, publishedWork, earlyNo, axisNo, valueNo, endNo}
+use Rattle.said.specs.Refusals.{firstFailed, publishedWork, pairRecords, earlyNo, axisNo, valueNo, endNo}
 use Rattle.said.specs.Sets.{Region, coordinates, regionList, firstLike, has, withUse, indexIn, placed, withValue}
 use Rattle.said.specs.Job.{Said, State, inAxes, inSets, Step, stop, on, unless, afterValue, afterEnd, valueStep, endStep, setStep, regionsOnly, step, Outcome, refused, fine, ended, endedSets, follow, walk, outcomeFrom, outcome}
 use Rattle.said.specs.Good.{Good}
@@ -268,17 +268,19 @@ unfolding firstFailed
 first-passed true n l z = (refl, z)
 first-passed false n l z = absurd (omega arith)
 
-open-if : (axes mode bytes work : ℕ) → earlyNo axes mode bytes work ≡ 0 → Open axes mode bytes work
+pub open-if : (axes mode bytes work pairs : ℕ) → earlyNo axes mode bytes work pairs ≡ 0 → Open axes mode bytes work pairs
 unfolding earlyNo
-open-if axes mode bytes work z =
+open-if axes mode bytes work pairs z =
     let axes-test = ltb 0 axes && leb axes mostAxes in
     let mode-test = leb mode 1 in
     let job-test = eqb (bytes % recordBytes) 0 && leb (bytes / recordBytes) mostRecords in
     let work-test = leb (publishedWork (bytes / recordBytes)) work in
-    let a = first-passed axes-test 0 ((mode-test, 2) ∷ (job-test, 3) ∷ (work-test, 4) ∷ []) z in
-    let b = first-passed mode-test 1 ((job-test, 3) ∷ (work-test, 4) ∷ []) (a .1) in
-    let c = first-passed job-test 2 ((work-test, 4) ∷ []) (b .1) in
-    let d = first-passed work-test 3 [] (c .1) in
+    let pair-test = leb pairRecords pairs in
+    let a = first-passed axes-test 0 ((mode-test, 2) ∷ (job-test, 3) ∷ (work-test, 4) ∷ (pair-test, 4) ∷ []) z in
+    let b = first-passed mode-test 1 ((job-test, 3) ∷ (work-test, 4) ∷ (pair-test, 4) ∷ []) (a .1) in
+    let c = first-passed job-test 2 ((work-test, 4) ∷ (pair-test, 4) ∷ []) (b .1) in
+    let d = first-passed work-test 3 ((pair-test, 4) ∷ []) (c .1) in
+    let f = first-passed pair-test 3 [] (d .1) in
     let p = and-true (ltb 0 axes) (leb axes mostAxes) (a .0) in
     let q = and-true (eqb (bytes % recordBytes) 0) (leb (bytes / recordBytes) mostRecords) (c .0) in
     let m = eqb-true (bytes % recordBytes) 0 (q .0) in
@@ -289,6 +291,7 @@ open-if axes mode bytes work z =
       few = leb-true (bytes / recordBytes) mostRecords (q .1);
       whole = omega arith;
       enough = leb-true (publishedWork (bytes / recordBytes)) work (d .0);
+      paired = leb-true pairRecords pairs (f .0);
     }
 
 from-fine : (n : ℕ) (o : Outcome) (s : Said) → outcomeFrom n o ≡ fine s → (n ≡ 0) × (o ≡ fine s)
@@ -297,9 +300,9 @@ from-fine zero o s e = (refl, e)
 from-fine (suc n) o s e = let z : _≡_ {A = ℕ} 0 1 = cc in absurd (omega arith)
 
 -- a job that is taken: no refusal of 1 to 4, and its records say it
-pub fine-walk : (axes mode : ℕ) (job : List ℕ) (work : ℕ) (s : Said) → outcome axes mode job work ≡ fine s
-    → Open axes mode (length job) work × (walk axes mode job job (length job / recordBytes) 0 inAxes ≡ fine s)
+pub fine-walk : (axes mode : ℕ) (job : List ℕ) (work pairs : ℕ) (s : Said) → outcome axes mode job work pairs ≡ fine s
+    → Open axes mode (length job) work pairs × (walk axes mode job job (length job / recordBytes) 0 inAxes ≡ fine s)
 unfolding outcome
-fine-walk axes mode job work s e =
-    let f = from-fine (earlyNo axes mode (length job) work) (walk axes mode job job (length job / recordBytes) 0 inAxes) s e in
-    (open-if axes mode (length job) work (f .0), f .1)
+fine-walk axes mode job work pairs s e =
+    let f = from-fine (earlyNo axes mode (length job) work pairs) (walk axes mode job job (length job / recordBytes) 0 inAxes) s e in
+    (open-if axes mode (length job) work pairs (f .0), f .1)

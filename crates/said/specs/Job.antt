@@ -104,7 +104,7 @@ unfoldable pub outcomeFrom : ℕ → Outcome → Outcome
 outcomeFrom zero o = o
 outcomeFrom (suc n) o = refused (suc n) 0
 
--- of axis count, mode, job and the words of work
-unfoldable pub outcome : ℕ → ℕ → List ℕ → ℕ → Outcome
-outcome axes mode job work =
-    outcomeFrom (earlyNo axes mode (length job) work) (walk axes mode job job (length job / recordBytes) 0 inAxes)
+-- of axis count, mode, job, the words of work and the number of pair records
+unfoldable pub outcome : ℕ → ℕ → List ℕ → ℕ → ℕ → Outcome
+outcome axes mode job work pairs =
+    outcomeFrom (earlyNo axes mode (length job) work pairs) (walk axes mode job job (length job / recordBytes) 0 inAxes)

@@ -2,13 +2,14 @@
 use mathlib.Core.Path.{_≡_}
 use Prim.Native.Nat.{ℕ, _*_, _/_, _≤_, _<_}
 use Rattle.said.specs.Records.{recordBytes, mostRecords, mostAxes}
-use Rattle.said.specs.Refusals.{publishedWork}
+use Rattle.said.specs.Refusals.{publishedWork, pairRecords}
 
 -- what is known where none of refusals 1 to 4 is given
-pub record Open (axes mode bytes work : ℕ) : Type 0 where
+pub record Open (axes mode bytes work pairs : ℕ) : Type 0 where
   pub some : 0 < axes
   pub most : axes ≤ mostAxes
   pub mode-known : mode ≤ 1
   pub few : bytes / recordBytes ≤ mostRecords
   pub whole : recordBytes * (bytes / recordBytes) ≡ bytes
   pub enough : publishedWork (bytes / recordBytes) ≤ work
+  pub paired : pairRecords ≤ pairs

@@ -56,20 +56,25 @@ firstFailed (t ∷ l) = pick (t .0) (firstFailed l) (t .1)
 
 -- "The work needed is a published number of words that depends on the record count alone"
 unfoldable pub publishedWork : ℕ → ℕ
-publishedWork n = 16 * n + 4 * (min n 1024 * min n 1024)
+publishedWork n = 16 * n + min n 1024 * min n 1024
+
+-- and the pair records that are lent beside it: 1,048,576 of them; fewer is WORK_SHORT
+abbrev pub pairRecords : ℕ
+pairRecords = 1048576
 
 -- the published number as it is asked for: 0 above the record limit
 unfoldable pub workWords : ℕ → ℕ
 workWords n = pick (leb n mostRecords) (publishedWork n) 0
 
--- "1 to 4 are tested in that order": axis count, mode, the job's bytes, the words of work
-unfoldable pub earlyNo : ℕ → ℕ → ℕ → ℕ → ℕ
-earlyNo axes mode bytes work =
+-- "1 to 4 are tested in that order": axis count, mode, the job's bytes, the words of work and the pair records
+unfoldable pub earlyNo : ℕ → ℕ → ℕ → ℕ → ℕ → ℕ
+earlyNo axes mode bytes work pairs =
     firstFailed
     ((ltb 0 axes && leb axes mostAxes, badAxes)
     ∷ (leb mode 1, badMode)
     ∷ (eqb (bytes % recordBytes) 0 && leb (bytes / recordBytes) mostRecords, badJobLength)
     ∷ (leb (publishedWork (bytes / recordBytes)) work, workShort)
+    ∷ (leb pairRecords pairs, workShort)
     ∷ [])
 
 -- Record i, an axis record. "BAD_RECORD: .. a zero byte not zero, an axis record out of its order"; "region 0 axis 0, up to its last axis,

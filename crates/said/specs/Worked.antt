@@ -8,7 +8,7 @@ use Rattle.laws.specs.Bytes.{be}
 use Rattle.laws.specs.Signed.{word, signed, zeroWord}
 use Rattle.sets.specs.Set.{Set}
 use Rattle.said.specs.Records.{zeros, axisZeros, valueZeros, endZeros, valueWord}
-use Rattle.said.specs.Refusals.{firstFailed, publishedWork, earlyNo, axisNo, valueNo, endNo}
+use Rattle.said.specs.Refusals.{pairRecords, firstFailed, publishedWork, earlyNo, axisNo, valueNo, endNo}
 use Rattle.said.specs.Sets.{Region, coordinates, regionList, sameRegion, like, firstLike, has, withUse, indexIn, placed, withValue}
 use Rattle.said.specs.Job.{Said, Outcome, refused, fine, unless, afterValue, afterEnd, valueStep, endStep, setStep, regionsOnly, step, ended, endedSets, follow, walk, outcomeFrom, outcome}
 
@@ -40,9 +40,9 @@ r₁ = 0 ∷ 8192 ∷ 16384 ∷ []
 abbrev up : ℕ → ℕ
 up v = zeroWord + v
 
--- a job of one axis, mode 0, with work enough
+-- a job of one axis, mode 0, with work enough, and just so many pairs
 abbrev one : List ℕ → Outcome
-one job = outcome 1 0 job 4096
+one job = outcome 1 0 job 4096 pairRecords
 
 abbrev says : List Region → List ℕ → List Set → ℕ → Outcome
 says regions used sets values = fine (record { regions = regions; used = used; sets = sets; values = values; named = []; begun = [] })
@@ -59,13 +59,14 @@ answers =
     ∷ one (axisRecord 1 0 64)
     ∷ one (two (valueRecord 2 5 ++ endRecord))
     ∷ one (two (valueRecord 0 5))
-    ∷ outcome 2 0 (axisRecord 0 0 64) 4096
-    ∷ outcome 2 0 (axisRecord 0 0 64 ++ endRecord) 4096
-    ∷ outcome 1 1 endRecord 19
-    ∷ outcome 1 1 endRecord 20
-    ∷ outcome 1 1 (1 ∷ []) 4096
-    ∷ outcome 64 2 [] 0
-    ∷ outcome 65 2 [] 0
+    ∷ outcome 2 0 (axisRecord 0 0 64) 4096 pairRecords
+    ∷ outcome 2 0 (axisRecord 0 0 64 ++ endRecord) 4096 pairRecords
+    ∷ outcome 1 1 endRecord 16 pairRecords
+    ∷ outcome 1 1 endRecord 17 pairRecords
+    ∷ outcome 1 1 endRecord 17 1048575
+    ∷ outcome 1 1 (1 ∷ []) 4096 0
+    ∷ outcome 64 2 [] 0 0
+    ∷ outcome 65 2 [] 0 0
     ∷ []
 
 -- no sets; a value; P11, whose two sets are equal; regions numbered by first use; equal regions are one, and may not stand in one set; then
@@ -85,6 +86,7 @@ worked : answers ≡
     ∷ refused 5 1
     ∷ refused 4 0
     ∷ says [] [] ([] ∷ []) 0
+    ∷ refused 4 0
     ∷ refused 3 0
     ∷ refused 2 0
     ∷ refused 1 0

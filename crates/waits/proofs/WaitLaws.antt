@@ -28,6 +28,10 @@ pub room-is : (n : ℕ) → (n - 1) * (n - 1) ≡ room n
 unfolding room
 room-is n = refl
 
+pub room-none : (n : ℕ) → n ≡ 0 → room n ≡ 0
+unfolding room
+room-none n e = rw e
+
 pub room-most : (n : ℕ) → n ≤ 1024 → room n ≤ 1046529
 unfolding room
 room-most n h = product 1023 1023 {a = n - 1} {b = n - 1} (omega arith) (omega arith)

@@ -17,7 +17,7 @@ refuse-requires : tie.Need-refuse-requires
 refuse-requires c κs = search needs
 
 returns : tie.Need-returns
-returns c = opened-early _ _ _ _ _ (c .before .before .early-no .ensures .0) (c .before .if1 .taken) _ (c .refuse .ensures)
+returns c = opened-early _ _ _ _ _ _ (c .before .before .early-no .ensures .0) (c .before .if1 .taken) _ (c .refuse .ensures)
 
 wide-requires : tie.Need-wide-requires
 wide-requires c κs = search needs
@@ -31,7 +31,7 @@ same-length : tie.Need-same-length
 same-length c = search needs
 
 returns-2 : tie.Need-returns-2
-returns-2 c = opened-late _ _ _ _ _ (c .before .before .before .before .before .before .early-no .ensures .0) (c .before .before .before .before .before .if1 .left) _ (c .before .before .before .before .wide .ensures) (c .before .before .open-records .kept .1 .1 .1 .1 .0) (c .before .before .open-records .ensures)
+returns-2 c = opened-late _ _ _ _ _ _ (c .before .before .before .before .before .before .early-no .ensures .0) (c .before .before .before .before .before .if1 .left) _ (c .before .before .before .before .wide .ensures) (c .before .before .open-records .kept .1 .1 .1 .1 .0) (c .before .before .open-records .ensures)
 
 pub open-spec : {M : Type 1} → statement M
 open-spec =

@@ -17,7 +17,7 @@ returns : tie.Need-returns
 returns c =
     let a = c .before .before .before .before .args in
     let n = c .before .early-no in
-    (refused-early (a .axes) (a .mode) (a .job .now) (a .work .now) (n .result) (n .ensures .0) (c .if1 .taken), left-early (a .axes) (a .mode) (a .job .now) (a .work .now) (n .result) (n .ensures .0) (c .if1 .taken))
+    (refused-early (a .axes) (a .mode) (a .job .now) (a .work .now) (a .pairs) (n .result) (n .ensures .0) (c .if1 .taken), left-early (a .axes) (a .mode) (a .job .now) (a .work .now) (a .pairs) (n .result) (n .ensures .0) (c .if1 .taken))
 
 wide-requires : tie.Need-wide-requires
 wide-requires c κs = search needs
@@ -25,7 +25,7 @@ wide-requires c κs = search needs
 read-job-requires : tie.Need-read-job-requires
 read-job-requires c κs =
     let o = c .before .before .before .early-no .ensures .1 (c .before .before .if1 .left) in
-    omega (arith, o .some, o .most, o .few, o .whole, room _ _ _ _ o, c .before .wide .ensures)
+    omega (arith, o .some, o .most, o .few, o .whole, room _ _ _ _ _ o, c .before .wide .ensures)
 
 clear-requires : tie.Need-clear-requires
 clear-requires c κs = search needs
@@ -38,7 +38,7 @@ returns-2 c =
     let a = c .before .before .before .before .before .before .before .before .before .before .before .before .before .before .before .args in
     let n = c .before .before .before .before .before .before .before .before .before .before .before .before .early-no in
     let z = c .before .before .before .before .before .before .before .before .before .before .before .if1 .left in
-    (refused-record (a .axes) (a .mode) (a .job .now) (a .work .now) (n .result) (n .ensures .0) z (c .before .before .before .before .before .before .before .before .before .before .wide .ensures) (c .before .before .before .before .before .before .before .before .read-job .ensures) (c .if2 .taken), left-zeros (a .axes) (a .mode) (a .job .now) (a .work .now) (n .result) (n .ensures .0) z _ _ (c .before .before .before .before .before .before .before .before .read-job .ensures .only .long) (c .before .before .before .before .clear .ensures))
+    (refused-record (a .axes) (a .mode) (a .job .now) (a .work .now) (a .pairs) (n .result) (n .ensures .0) z (c .before .before .before .before .before .before .before .before .before .before .wide .ensures) (c .before .before .before .before .before .before .before .before .read-job .ensures) (c .if2 .taken), left-zeros (a .axes) (a .mode) (a .job .now) (a .work .now) (a .pairs) (n .result) (n .ensures .0) z _ _ (c .before .before .before .before .before .before .before .before .read-job .ensures .only .long) (c .before .before .before .before .clear .ensures))
 
 same-length-2 : tie.Need-same-length-2
 same-length-2 c = search needs
@@ -48,7 +48,7 @@ returns-3 c =
     let a = c .before .before .before .before .before .before .before .before .before .before .before .before .before .before .before .args in
     let n = c .before .before .before .before .before .before .before .before .before .before .before .before .early-no in
     let z = c .before .before .before .before .before .before .before .before .before .before .before .if1 .left in
-    (sound-all (a .axes) (a .mode) (a .job .now) (a .work .now) (n .result) (n .ensures .0) z (c .before .before .before .before .before .before .before .before .before .before .wide .ensures) (c .before .before .before .before .before .before .before .before .read-job .ensures) (c .if2 .left), left-zeros (a .axes) (a .mode) (a .job .now) (a .work .now) (n .result) (n .ensures .0) z _ _ (c .before .before .before .before .before .before .before .before .read-job .ensures .only .long) (c .before .before .before .before .clear .ensures))
+    (sound-all (a .axes) (a .mode) (a .job .now) (a .work .now) (a .pairs) (n .result) (n .ensures .0) z (c .before .before .before .before .before .before .before .before .before .before .wide .ensures) (c .before .before .before .before .before .before .before .before .read-job .ensures) (c .if2 .left), left-zeros (a .axes) (a .mode) (a .job .now) (a .work .now) (a .pairs) (n .result) (n .ensures .0) z _ _ (c .before .before .before .before .before .before .before .before .read-job .ensures .only .long) (c .before .before .before .before .clear .ensures))
 
 pub check-spec : {M : Type 1} → statement M
 check-spec =

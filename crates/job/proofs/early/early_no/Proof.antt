@@ -38,9 +38,13 @@ returns-6 c = (simp (lt-ltb 0 (c .before .before .before .before .before .before
 
 returns-7 : tie.Need-returns-7
 unfolding earlyNo firstFailed
-returns-7 c = (simp (lt-ltb 0 (c .before .before .before .before .before .before .before .args .axes) (omega arith), le-leb (c .before .before .before .before .before .before .before .args .axes) 64 (omega arith), le-leb (c .before .before .before .before .before .before .before .args .mode) 1 (omega arith), eq-eqb (c .before .before .before .before .before .before .before .args .bytes % 12) 0 (omega arith), le-leb (c .before .before .before .before .before .before .before .args .bytes / 12) 1048576 (omega arith), le-leb (publishedWork (c .before .before .before .before .before .before .before .args .bytes / 12)) (c .before .before .before .before .before .before .before .args .work) (omega arith)), (λ e. record { some = omega arith; most = omega arith; mode-known = omega arith; few = omega arith; whole = omega arith; enough = omega arith }))
+returns-7 c = (simp (lt-ltb 0 (c .before .before .before .before .before .before .before .before .args .axes) (omega arith), le-leb (c .before .before .before .before .before .before .before .before .args .axes) 64 (omega arith), le-leb (c .before .before .before .before .before .before .before .before .args .mode) 1 (omega arith), eq-eqb (c .before .before .before .before .before .before .before .before .args .bytes % 12) 0 (omega arith), le-leb (c .before .before .before .before .before .before .before .before .args .bytes / 12) 1048576 (omega arith), le-leb (publishedWork (c .before .before .before .before .before .before .before .before .args .bytes / 12)) (c .before .before .before .before .before .before .before .before .args .work) (omega arith), lt-leb 1048576 (c .before .before .before .before .before .before .before .before .args .pairs) (omega arith)), (λ e. absurd (omega arith)))
+
+returns-8 : tie.Need-returns-8
+unfolding earlyNo firstFailed
+returns-8 c = (simp (lt-ltb 0 (c .before .before .before .before .before .before .before .before .args .axes) (omega arith), le-leb (c .before .before .before .before .before .before .before .before .args .axes) 64 (omega arith), le-leb (c .before .before .before .before .before .before .before .before .args .mode) 1 (omega arith), eq-eqb (c .before .before .before .before .before .before .before .before .args .bytes % 12) 0 (omega arith), le-leb (c .before .before .before .before .before .before .before .before .args .bytes / 12) 1048576 (omega arith), le-leb (publishedWork (c .before .before .before .before .before .before .before .before .args .bytes / 12)) (c .before .before .before .before .before .before .before .before .args .work) (omega arith), le-leb 1048576 (c .before .before .before .before .before .before .before .before .args .pairs) (omega arith)), (λ e. record { some = omega arith; most = omega arith; mode-known = omega arith; few = omega arith; whole = omega arith; enough = omega arith; paired = omega arith }))
 
 pub early-no-spec : {M : Type 1} → statement M
 early-no-spec =
     tie.close
-    (tie.spec returns returns-2 returns-3 returns-4 returns-5 needed-requires returns-6 returns-7)
+    (tie.spec returns returns-2 returns-3 returns-4 returns-5 needed-requires returns-6 returns-7 returns-8)

@@ -17,9 +17,6 @@ mul-result c = search needs
 mul-result-2 : tie.Need-mul-result-2
 mul-result-2 c = omega (arith, small (c .before .args .records) (omega arith))
 
-mul-result-3 : tie.Need-mul-result-3
-mul-result-3 c = omega (arith, small (c .before .args .records) (omega arith))
-
 add-result : tie.Need-add-result
 add-result c = omega (arith, small (c .before .args .records) (omega arith))
 
@@ -27,8 +24,8 @@ returns : tie.Need-returns
 unfolding publishedWork
 returns c = let h : c .before .args .records ≤ 1024 = omega arith in simp (min-eq-left h)
 
-mul-result-4 : tie.Need-mul-result-4
-mul-result-4 c = search needs
+mul-result-3 : tie.Need-mul-result-3
+mul-result-3 c = search needs
 
 add-result-2 : tie.Need-add-result-2
 add-result-2 c = search needs
@@ -43,9 +40,8 @@ needed-spec =
     (tie.spec
     mul-result
     mul-result-2
-    mul-result-3
     add-result
     returns
-    mul-result-4
+    mul-result-3
     add-result-2
     returns-2)

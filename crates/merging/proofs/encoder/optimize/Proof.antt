@@ -48,15 +48,15 @@ use Rattle.slots.proofs.tables.Tables.Laws as L′
 use Rattle.waits.specs.declared.Tally.{Tally}
 use Rattle.waits.proofs.Tally as Y
 use Rattle.waits.proofs.Tally.Laws as Y′
-use Rattle.merging.specs.declared.run.Progress.{Progress}
-use Rattle.merging.proofs.run.Progress as Z
-use Rattle.merging.proofs.run.Progress.Laws as Z′
 use Rattle.merging.specs.declared.encoder.Merged.{Merged}
 use Rattle.merging.proofs.encoder.Merged as D
 use Rattle.merging.proofs.encoder.Merged.Laws as D′
+use Rattle.merging.specs.declared.run.Progress.{Progress}
+use Rattle.merging.proofs.run.Progress as Z
+use Rattle.merging.proofs.run.Progress.Laws as Z′
 use Rattle.pairs.proofs.Slices.{ref, Has}
 use Rattle.pairs.proofs.Clauses.{needs-more}
-use Rattle.merging.proofs.Calls.{mach-tables, mach-tally, mach-progress, mach-merged, MeasureAll-of, Size-of, Settle-of, WeighEach-of, JoinAll-of, Finish-of, finish-call, join-all-call, measure-all-call, settle-call, size-call, weigh-each-call, After-finish-call, After-join-all-call, After-measure-all-call, After-settle-call, After-size-call, After-weigh-each-call}
+use Rattle.merging.proofs.Calls.{mach-tables, mach-tally, mach-merged, mach-progress, MeasureAll-of, Size-of, Settle-of, WeighEach-of, JoinAll-of, Finish-of, finish-call, join-all-call, measure-all-call, settle-call, size-call, weigh-each-call, After-finish-call, After-join-all-call, After-measure-all-call, After-settle-call, After-size-call, After-weigh-each-call}
 use Rattle.slots.proofs.measure_all.Symbol as measure-all-def
 use Rattle.slots.proofs.measure_all.Symbol.{name as #slots·measure-all}
 use Rattle.slots.proofs.measure_all.Met as measure-all-thm
