@@ -63,7 +63,7 @@ pairs-enough {axes} {mode} {pairs} {job} {old} {mid} t {s} q p = go (s .early) r
     go false e =
         let o = open-if axes mode (length job) (length old) pairs (p .after e .0) in
         let f = p .ready .shaped .laid .groups-few in
-        omega (arith, o .paired, room-most (t .groups) (omega arith))
+        omega (arith, o .paired, room-most (t .groups) (omega (arith, same)))
 
 -- and where it has no groups it leaves them as they were
 pub pairs-idle : {axes mode n : ℕ} {job old mid : List ℕ} (t : Tables) {s : Stage} {pairs kept : List Pair} → t ≡ tablesOf (s .places) (s .groups) → OpenedAt axes mode job old n mid s
