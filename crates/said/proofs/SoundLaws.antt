@@ -268,7 +268,7 @@ unfolding firstFailed
 first-passed true n l z = (refl, z)
 first-passed false n l z = absurd (omega arith)
 
-open-if : (axes mode bytes work pairs : ℕ) → earlyNo axes mode bytes work pairs ≡ 0 → Open axes mode bytes work pairs
+pub open-if : (axes mode bytes work pairs : ℕ) → earlyNo axes mode bytes work pairs ≡ 0 → Open axes mode bytes work pairs
 unfolding earlyNo
 open-if axes mode bytes work pairs z =
     let axes-test = ltb 0 axes && leb axes mostAxes in
