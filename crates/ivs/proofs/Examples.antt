@@ -195,61 +195,61 @@ pub examples : answers ≡
     (0 ∷ 1 ∷ 0 ∷ 0 ∷ 0 ∷ 8 ∷ 0 ∷ 0
     ∷ 0 ∷ 1 ∷ 0 ∷ 0
     ∷ x ∷ x ∷ [])
-    (x ∷ []) (x ∷ []) (x ∷ []) 49
+    (x ∷ []) (x ∷ []) (x ∷ []) 37
     -- P2: 16 bytes, one null offset
     ∷ left (counts 16 1 0 0 0 0 0 0 0 16)
     (0 ∷ 1 ∷ 0 ∷ 0 ∷ 0 ∷ 0x0C ∷ 0 ∷ 1 ∷ 0 ∷ 0 ∷ 0 ∷ 0
     ∷ 0 ∷ 1 ∷ 0 ∷ 0
     ∷ x ∷ x ∷ [])
-    (x ∷ []) (x ∷ []) (x ∷ []) 49
+    (x ∷ []) (x ∷ []) (x ∷ []) 37
     -- P3: 31 bytes; map word 0
     ∷ left (counts 31 1 1 1 1 0 0 13 13 31)
     (0 ∷ 1 ∷ 0 ∷ 0 ∷ 0 ∷ 0x0C ∷ 0 ∷ 1 ∷ 0 ∷ 0 ∷ 0 ∷ 0x16
     ∷ 0 ∷ 1 ∷ 0 ∷ 1 ∷ 0 ∷ 0 ∷ 0x40 ∷ 0 ∷ 0x40 ∷ 0
     ∷ 0 ∷ 1 ∷ 0 ∷ 0 ∷ 0 ∷ 1 ∷ 0 ∷ 0 ∷ 0x0A
     ∷ x ∷ x ∷ [])
-    (0 ∷ x ∷ []) (0 ∷ x ∷ []) (x ∷ []) 129
+    (0 ∷ x ∷ []) (0 ∷ x ∷ []) (x ∷ []) 81
     -- P4: 22 bytes, one row of no bytes, no regions kept
     ∷ left (counts 22 1 0 1 1 0 0 10 10 22)
     (0 ∷ 1 ∷ 0 ∷ 0 ∷ 0 ∷ 0x0C ∷ 0 ∷ 1 ∷ 0 ∷ 0 ∷ 0 ∷ 0x10
     ∷ 0 ∷ 1 ∷ 0 ∷ 0
     ∷ 0 ∷ 1 ∷ 0 ∷ 0 ∷ 0 ∷ 0
     ∷ x ∷ x ∷ [])
-    (0 ∷ x ∷ []) (0 ∷ x ∷ []) (x ∷ []) 129
+    (0 ∷ x ∷ []) (0 ∷ x ∷ []) (x ∷ []) 81
     -- P5: columns R1, R0; word count 1; row 0080 80
     ∷ left (counts 41 1 2 1 1 0 0 17 17 41)
     (0 ∷ 1 ∷ 0 ∷ 0 ∷ 0 ∷ 0x0C ∷ 0 ∷ 1 ∷ 0 ∷ 0 ∷ 0 ∷ 0x1C
     ∷ 0 ∷ 1 ∷ 0 ∷ 2 ∷ 0 ∷ 0 ∷ 0x40 ∷ 0 ∷ 0x40 ∷ 0 ∷ 0xC0 ∷ 0 ∷ 0xC0 ∷ 0 ∷ 0 ∷ 0
     ∷ 0 ∷ 1 ∷ 0 ∷ 1 ∷ 0 ∷ 2 ∷ 0 ∷ 1 ∷ 0 ∷ 0 ∷ 0 ∷ 0x80 ∷ 0x80
     ∷ x ∷ x ∷ [])
-    (0 ∷ x ∷ []) (0 ∷ x ∷ []) (x ∷ []) 181
+    (0 ∷ x ∷ []) (0 ∷ x ∷ []) (x ∷ []) 106
     -- P6: word count 0, row 7F; word count 1, row FF7F
     ∷ left (counts 31 1 1 1 1 0 0 13 13 31)
     (0 ∷ 1 ∷ 0 ∷ 0 ∷ 0 ∷ 0x0C ∷ 0 ∷ 1 ∷ 0 ∷ 0 ∷ 0 ∷ 0x16
     ∷ 0 ∷ 1 ∷ 0 ∷ 1 ∷ 0 ∷ 0 ∷ 0x40 ∷ 0 ∷ 0x40 ∷ 0
     ∷ 0 ∷ 1 ∷ 0 ∷ 0 ∷ 0 ∷ 1 ∷ 0 ∷ 0 ∷ 0x7F
     ∷ x ∷ x ∷ [])
-    (0 ∷ x ∷ []) (0 ∷ x ∷ []) (x ∷ []) 129
+    (0 ∷ x ∷ []) (0 ∷ x ∷ []) (x ∷ []) 81
     ∷ left (counts 32 1 1 1 1 0 0 14 14 32)
     (0 ∷ 1 ∷ 0 ∷ 0 ∷ 0 ∷ 0x0C ∷ 0 ∷ 1 ∷ 0 ∷ 0 ∷ 0 ∷ 0x16
     ∷ 0 ∷ 1 ∷ 0 ∷ 1 ∷ 0 ∷ 0 ∷ 0x40 ∷ 0 ∷ 0x40 ∷ 0
     ∷ 0 ∷ 1 ∷ 0 ∷ 1 ∷ 0 ∷ 1 ∷ 0 ∷ 0 ∷ 0xFF ∷ 0x7F
     ∷ x ∷ x ∷ [])
-    (0 ∷ x ∷ []) (0 ∷ x ∷ []) (x ∷ []) 129
+    (0 ∷ x ∷ []) (0 ∷ x ∷ []) (x ∷ []) 81
     -- P7: word count 0x8001; row 00011170 0064
     ∷ left (counts 44 1 2 1 1 0 0 19 19 43)
     (0 ∷ 1 ∷ 0 ∷ 0 ∷ 0 ∷ 0x0C ∷ 0 ∷ 1 ∷ 0 ∷ 0 ∷ 0 ∷ 0x1C
     ∷ 0 ∷ 1 ∷ 0 ∷ 2 ∷ 0 ∷ 0 ∷ 0x40 ∷ 0 ∷ 0x40 ∷ 0 ∷ 0xC0 ∷ 0 ∷ 0xC0 ∷ 0 ∷ 0 ∷ 0
     ∷ 0 ∷ 1 ∷ 0x80 ∷ 1 ∷ 0 ∷ 2 ∷ 0 ∷ 1 ∷ 0 ∷ 0 ∷ 0 ∷ 1 ∷ 0x11 ∷ 0x70 ∷ 0 ∷ 0x64
     ∷ x ∷ x ∷ [])
-    (0 ∷ x ∷ []) (0 ∷ x ∷ []) (x ∷ []) 181
+    (0 ∷ x ∷ []) (0 ∷ x ∷ []) (x ∷ []) 106
     -- P8: log (0, 1, 8), size 26 to 18, 42 bytes; id 0 at (0,1), id 1 at (0,0)
     ∷ left (counts 42 1 2 2 2 1 1 26 18 42)
     (0 ∷ 1 ∷ 0 ∷ 0 ∷ 0 ∷ 0x0C ∷ 0 ∷ 1 ∷ 0 ∷ 0 ∷ 0 ∷ 0x1C
     ∷ 0 ∷ 1 ∷ 0 ∷ 2 ∷ 0 ∷ 0 ∷ 0x40 ∷ 0 ∷ 0x40 ∷ 0 ∷ 0xC0 ∷ 0 ∷ 0xC0 ∷ 0 ∷ 0 ∷ 0
     ∷ 0 ∷ 2 ∷ 0 ∷ 0 ∷ 0 ∷ 2 ∷ 0 ∷ 0 ∷ 0 ∷ 1 ∷ 0 ∷ 1 ∷ 1 ∷ 0
     ∷ x ∷ x ∷ [])
-    (0 ∷ 1 ∷ x ∷ []) (1 ∷ 0 ∷ x ∷ []) (0 ∷ 1 ∷ 8 ∷ x ∷ []) 241
+    (0 ∷ 1 ∷ x ∷ []) (1 ∷ 0 ∷ x ∷ []) (0 ∷ 1 ∷ 8 ∷ x ∷ []) 133
     -- P9: gain 0, two subtables
     ∷ left (counts 58 2 2 10 2 0 1 34 34 58)
     (0 ∷ 1 ∷ 0 ∷ 0 ∷ 0 ∷ 0x10 ∷ 0 ∷ 2 ∷ 0 ∷ 0 ∷ 0 ∷ 0x20 ∷ 0 ∷ 0 ∷ 0 ∷ 0x2D
@@ -257,28 +257,28 @@ pub examples : answers ≡
     ∷ 0 ∷ 5 ∷ 0 ∷ 0 ∷ 0 ∷ 1 ∷ 0 ∷ 0 ∷ 0x0A ∷ 0x14 ∷ 0x1E ∷ 0x28 ∷ 0x32
     ∷ 0 ∷ 5 ∷ 0 ∷ 0 ∷ 0 ∷ 1 ∷ 0 ∷ 1 ∷ 0xFB ∷ 0xFC ∷ 0xFD ∷ 0xFE ∷ 0xFF
     ∷ x ∷ x ∷ [])
-    (0 ∷ 1 ∷ 2 ∷ 3 ∷ 4 ∷ 5 ∷ 6 ∷ 7 ∷ 8 ∷ 9 ∷ x ∷ []) (0 ∷ 1 ∷ 2 ∷ 3 ∷ 4 ∷ 0x1_0004 ∷ 0x1_0003 ∷ 0x1_0002 ∷ 0x1_0001 ∷ 0x1_0000 ∷ x ∷ []) (x ∷ x ∷ x ∷ x ∷ []) 2289
+    (0 ∷ 1 ∷ 2 ∷ 3 ∷ 4 ∷ 5 ∷ 6 ∷ 7 ∷ 8 ∷ 9 ∷ x ∷ []) (0 ∷ 1 ∷ 2 ∷ 3 ∷ 4 ∷ 0x1_0004 ∷ 0x1_0003 ∷ 0x1_0002 ∷ 0x1_0001 ∷ 0x1_0000 ∷ x ∷ []) (x ∷ x ∷ x ∷ x ∷ []) 837
     -- P10: gain 1, one subtable
     ∷ left (counts 56 1 2 9 2 1 1 33 32 56)
     (0 ∷ 1 ∷ 0 ∷ 0 ∷ 0 ∷ 0x0C ∷ 0 ∷ 1 ∷ 0 ∷ 0 ∷ 0 ∷ 0x1C
     ∷ 0 ∷ 1 ∷ 0 ∷ 2 ∷ 0 ∷ 0 ∷ 0x40 ∷ 0 ∷ 0x40 ∷ 0 ∷ 0xC0 ∷ 0 ∷ 0xC0 ∷ 0 ∷ 0 ∷ 0
     ∷ 0 ∷ 9 ∷ 0 ∷ 0 ∷ 0 ∷ 2 ∷ 0 ∷ 0 ∷ 0 ∷ 1 ∷ 0 ∷ 0xFC ∷ 0 ∷ 0xFD ∷ 0 ∷ 0xFE ∷ 0 ∷ 0xFF ∷ 0x0A ∷ 0 ∷ 0x14 ∷ 0 ∷ 0x1E ∷ 0 ∷ 0x28 ∷ 0 ∷ 0x32 ∷ 0
     ∷ x ∷ x ∷ [])
-    (0 ∷ 1 ∷ 2 ∷ 3 ∷ 4 ∷ 5 ∷ 6 ∷ 7 ∷ 8 ∷ x ∷ []) (4 ∷ 5 ∷ 6 ∷ 7 ∷ 8 ∷ 3 ∷ 2 ∷ 1 ∷ 0 ∷ x ∷ []) (0 ∷ 1 ∷ 1 ∷ x ∷ []) 1921
+    (0 ∷ 1 ∷ 2 ∷ 3 ∷ 4 ∷ 5 ∷ 6 ∷ 7 ∷ 8 ∷ x ∷ []) (4 ∷ 5 ∷ 6 ∷ 7 ∷ 8 ∷ 3 ∷ 2 ∷ 1 ∷ 0 ∷ x ∷ []) (0 ∷ 1 ∷ 1 ∷ x ∷ []) 721
     -- P11: both id 0
     ∷ left (counts 31 1 1 1 1 0 0 13 13 31)
     (0 ∷ 1 ∷ 0 ∷ 0 ∷ 0 ∷ 0x0C ∷ 0 ∷ 1 ∷ 0 ∷ 0 ∷ 0 ∷ 0x16
     ∷ 0 ∷ 1 ∷ 0 ∷ 1 ∷ 0 ∷ 0 ∷ 0x40 ∷ 0 ∷ 0x40 ∷ 0
     ∷ 0 ∷ 1 ∷ 0 ∷ 0 ∷ 0 ∷ 1 ∷ 0 ∷ 0 ∷ 1
     ∷ x ∷ x ∷ [])
-    (0 ∷ 0 ∷ x ∷ []) (0 ∷ x ∷ []) (x ∷ []) 309
+    (0 ∷ 0 ∷ x ∷ []) (0 ∷ x ∷ []) (x ∷ []) 162
     -- P12: gain 9, one subtable, the zero row first
     ∷ left (counts 32 1 1 2 2 1 1 23 14 32)
     (0 ∷ 1 ∷ 0 ∷ 0 ∷ 0 ∷ 0x0C ∷ 0 ∷ 1 ∷ 0 ∷ 0 ∷ 0 ∷ 0x16
     ∷ 0 ∷ 1 ∷ 0 ∷ 1 ∷ 0 ∷ 0 ∷ 0x40 ∷ 0 ∷ 0x40 ∷ 0
     ∷ 0 ∷ 2 ∷ 0 ∷ 0 ∷ 0 ∷ 1 ∷ 0 ∷ 0 ∷ 0 ∷ 0x0A
     ∷ x ∷ x ∷ [])
-    (0 ∷ 1 ∷ x ∷ []) (0 ∷ 1 ∷ x ∷ []) (0 ∷ 1 ∷ 9 ∷ x ∷ []) 181
+    (0 ∷ 1 ∷ x ∷ []) (0 ∷ 1 ∷ x ∷ []) (0 ∷ 1 ∷ 9 ∷ x ∷ []) 106
     ∷ []
 unfolding answers setRecords setsRecords jobOf weigh allBelow tabulate be bytesOf compared thenBy isMost fits isZero signed twos word value insert sorted keep widthOf costOf rowCost columns overhead join shapes.widthsOrder shapes.order groupCost joined gain wordOf sameSet sets.byWords sets.orderNone sets.orderHead sets.order place withSet idsFrom distinctFrom groups.shapeOf groups.placed groups.withShape groups.groupsFrom groups.groupsOf coverFrom rule.keepOut rule.outs rule.pairWith rule.keepPair rule.pairs rule.either rule.better rule.lead rule.best rule.worth rule.ifWorth rule.choice rule.entry rule.merge rule.follow rule.step rule.run rule.number rule.start rule.merged rule.total decLt words addIf ofWidth columnsOf wordCount bytesFor wordIn cellsOf rowOf rows.joinAll rows.runCount store.runsOf store.allRuns store.inRun store.idWords store.names rows.indexBytes rows.rowsOf rows.subtableOf store.offsetsOf store.listOf store.placed store.storeOf store.modelOf store.modelled store.forecastOf stored zeros axisZeros valueZeros endZeros valueWord firstFailed publishedWork earlyNo axisNo valueNo endNo said.coordinates said.regionList said.sameRegion said.like said.firstLike said.has said.withUse said.indexIn said.placed said.withValue job.unless job.afterValue job.afterEnd job.valueStep job.endStep job.setStep job.regionsOnly job.step job.endedSets job.ended job.follow job.walk job.outcomeFrom job.outcome workLeft packed.noLater packed.dense packed.sameShape packed.numberOf packed.isAmong packed.belongs packed.finalOf packed.isAhead packed.finalsOf packed.shared packed.oneCost packed.own storeFor regionsKept lateNo reportOf lateAnswer ifDone outLeft idsLeft mapLeft logLeft regionBytes coordsOf packedOf answerFrom answerOf leftFrom outAfter idsAfter mapAfter logAfter
 examples = refl

@@ -13,7 +13,7 @@ use base.Logic.{SProp, ent, sep, emp}
 use base.Fml.{Lft, GName, Share, ftrue, fat, froom, fdies, flft}
 use prog.Memory.{Memory}
 use prog.Routine.{Routine}
-use prog.Wp.{Heap, Env, Calls, Loops, WpFn, Tables}
+use prog.Wp.{Heap, Env, Calls, Loops, WpFn, Tables as AllCalls}
 use ghost.Atoms.{Atoms}
 use contract.Monad.{Fun, fact, factI}
 use contract.Running.{givenOf, tables, tablesOf}
@@ -157,7 +157,7 @@ module _ {M : Type 1} (𝓤 : URA M) (H : Heap 𝓤) (A : Atoms 𝓤) (W : Given
       qed W (Slice job ∷ Slice₂ work′ ∷ Slice₃ pairs′ ∷ Slice₄ out′ ∷ Slice₅ ids′ ∷ Slice₆ map′ ∷ Slice₇ log′ ∷ Slice₈ report′ ∷ []) ∵ suffices ! _ (ends-at 𝓤 H A ivs-build.ended stayed (ivs-build.clauses 𝓤 H A mem run) W bound (vint w32 r) r (tt, (tt, (tt, (work′, (pairs′, (out′, (ids′, (map′, (log′, (report′, tt)))))))))) (tt, (tt, (tt, (long₂, (long₃, (long₄, (long₅, (long₆, (long₇, (tt, tt))))))))))) $
       split ! $ move ! (2 ∷ []) $ split ! $ move ! (4 ∷ []) $ split ! $ move ! (6 ∷ []) $ split ! $ move ! (8 ∷ []) $ split ! $ move ! (10 ∷ []) $ split ! $ move ! (12 ∷ []) $ split ! $ move ! (14 ∷ []) $ split ! $ nothing ! $ move ! (2 ∷ 0 ∷ []) $ join ! $ move ! (3 ∷ 0 ∷ []) $ join ! $ move ! (4 ∷ 0 ∷ []) $ join ! $ move ! (5 ∷ 0 ∷ []) $ join ! $ move ! (6 ∷ 0 ∷ []) $ join ! $ move ! (7 ∷ 0 ∷ []) $ join ! $ move ! (8 ∷ 0 ∷ []) $ join ! $ move ! (9 ∷ 0 ∷ []) $ join ! $ owned ! u32 (Is u32) (uint-makes 𝓤 H A W w32) r _ (refl, g) $ nothing ! $ move ! (3 ∷ 0 ∷ []) $ fjoin ! $ move ! (3 ∷ 0 ∷ []) $ fjoin ! $ move ! (3 ∷ 0 ∷ []) $ fjoin ! $ move ! (3 ∷ 0 ∷ []) $ fjoin ! $ move ! (3 ∷ 0 ∷ []) $ fjoin ! $ move ! (3 ∷ 0 ∷ []) $ fjoin ! $ move ! (3 ∷ 0 ∷ []) $ fjoin ! $ move ! (3 ∷ 0 ∷ []) $ fjoin ! $ owned ! u32 (Is u32) (uint-makes 𝓤 H A W w32) mode _ (refl, g-mode) $ fjoin ! $ owned ! u32 (Is u32) (uint-makes 𝓤 H A W w32) axes _ (refl, g-axes) $ fjoin ! $ join ! $ move ! (1 ∷ 0 ∷ []) $ join ! $ frame ! $ use0 W (raw (fact 𝓤 (pairs′ ≡ pairsLeft axes mode (length job) (length work) pairs))) (factI 𝓤 (pairs′ ≡ pairsLeft axes mode (length job) (length work) pairs) (emp 𝓤) (e .7)) $ use0 W (raw (fact 𝓤 (work′ ≡ workLeft axes mode (length job) (length pairs) work))) (factI 𝓤 (work′ ≡ workLeft axes mode (length job) (length pairs) work) (emp 𝓤) (e .6)) $ use0 W (raw (fact 𝓤 (log′ ≡ logAfter axes mode job (length work) (length pairs) (lengths out ids map log) log))) (factI 𝓤 (log′ ≡ logAfter axes mode job (length work) (length pairs) (lengths out ids map log) log) (emp 𝓤) (e .5)) $ use0 W (raw (fact 𝓤 (map′ ≡ mapAfter axes mode job (length work) (length pairs) (lengths out ids map log) map))) (factI 𝓤 (map′ ≡ mapAfter axes mode job (length work) (length pairs) (lengths out ids map log) map) (emp 𝓤) (e .4)) $ use0 W (raw (fact 𝓤 (ids′ ≡ idsAfter axes mode job (length work) (length pairs) (lengths out ids map log) ids))) (factI 𝓤 (ids′ ≡ idsAfter axes mode job (length work) (length pairs) (lengths out ids map log) ids) (emp 𝓤) (e .3)) $ use0 W (raw (fact 𝓤 (out′ ≡ outAfter axes mode job (length work) (length pairs) (lengths out ids map log) out))) (factI 𝓤 (out′ ≡ outAfter axes mode job (length work) (length pairs) (lengths out ids map log) out) (emp 𝓤) (e .2)) $ use0 W (raw (fact 𝓤 (report′ ≡ filled 0 (reportWords (answerOf axes mode job (length work) (length pairs) (lengths out ids map log))) report))) (factI 𝓤 (report′ ≡ filled 0 (reportWords (answerOf axes mode job (length work) (length pairs) (lengths out ids map log))) report) (emp 𝓤) (e .1)) $ use0 W (raw (fact 𝓤 (r ≡ numberOf (answerOf axes mode job (length work) (length pairs) (lengths out ids map log))))) (factI 𝓤 (r ≡ numberOf (answerOf axes mode job (length work) (length pairs) (lengths out ids map log))) (emp 𝓤) (e .0)) $ done !
 
-  module _ (𝓣 : Tables 𝓤 H) (known-build : Triple 𝓤 (𝓣 .C #build·build) (Build-of 𝓤 H A mem run)) (known-tell : Triple 𝓤 (𝓣 .C #ivs·tell) (Tell-of 𝓤 H A mem run)) (room : Room u8 ν) (room₂ : Room u32 ν₂) (room₃ : Room T.the-row ν₃) (room₄ : Room u8 ν₄) (room₅ : Room u32 ν₅) (room₆ : Room u32 ν₆) (room₇ : Room u32 ν₇) where
+  module _ (𝓣 : AllCalls 𝓤 H) (known-build : Triple 𝓤 (𝓣 .C #build·build) (Build-of 𝓤 H A mem run)) (known-tell : Triple 𝓤 (𝓣 .C #ivs·tell) (Tell-of 𝓤 H A mem run)) (sized : Room u8 ν) (sized₂ : Room u32 ν₂) (sized₃ : Room T.the-row ν₃) (sized₄ : Room u8 ν₄) (sized₅ : Room u32 ν₅) (sized₆ : Room u32 ν₆) (sized₇ : Room u32 ν₇) where
     abbrev C : Calls 𝓤 H
     C = 𝓣 .C
 
@@ -168,7 +168,7 @@ module _ {M : Type 1} (𝓤 : URA M) (H : Heap 𝓤) (A : Atoms 𝓤) (W : Given
     fm = fmOf 𝓤 H (W .laws) 𝓣
 
     small : (k : ℕ) → k ≤ ν → k < 2 ^ 64
-    small k l = let r = room .0 in omega arith
+    small k l = let r = sized .0 in omega arith
 
     module _ (l₀ l₁ l₂ l₃ l₄ l₅ l₆ l₇ l₈ l₉ l₁₀ l₁₁ l₁₂ l₁₃ l₁₄ l₁₅ l₁₆ l₁₇ l₁₈ l₁₉ l₂₀ l₂₁ l₂₂ l₂₃ l₂₄ : ℕ) where
       abbrev En : Env 𝓤 H
@@ -180,17 +180,17 @@ module _ {M : Type 1} (𝓤 : URA M) (H : Heap 𝓤) (A : Atoms 𝓤) (W : Given
       body : Sq W Start (runs C Λ En code-mir.t-1 (atRet En Post))
       body =
           assigns ! (addr ! (from ! (fld ! refl (hop ! (look-in ! 48 (sub ! 0 refl (whole !))) (stop !))))) (from ! (stop !)) (init ! 32 refl (tt, tt)) $
-          assigns ! (agg ! (and-then ! (load ! (from ! (stop !)) (look ! 32 refl)) (and-then ! (load ! (from ! (fld ! refl (stop !))) (look-in ! 48 (sub ! 1 refl (whole !)))) (no-more !)))) (from ! (stop !)) (init ! 30 refl (tt, (tt, (record { fits = room₂ .0 }, tt)))) $
+          assigns ! (agg ! (and-then ! (load ! (from ! (stop !)) (look ! 32 refl)) (and-then ! (load ! (from ! (fld ! refl (stop !))) (look-in ! 48 (sub ! 1 refl (whole !)))) (no-more !)))) (from ! (stop !)) (init ! 30 refl (tt, (tt, (record { fits = sized₂ .0 }, tt)))) $
           assigns ! (addr ! (from ! (fld ! refl (hop ! (look-in ! 46 (sub ! 0 refl (whole !))) (stop !))))) (from ! (stop !)) (init ! 28 refl (tt, tt)) $
-          assigns ! (agg ! (and-then ! (load ! (from ! (stop !)) (look ! 28 refl)) (and-then ! (load ! (from ! (fld ! refl (stop !))) (look-in ! 46 (sub ! 1 refl (whole !)))) (no-more !)))) (from ! (stop !)) (init ! 26 refl (tt, (tt, (record { fits = room₃ .0 }, tt)))) $
+          assigns ! (agg ! (and-then ! (load ! (from ! (stop !)) (look ! 28 refl)) (and-then ! (load ! (from ! (fld ! refl (stop !))) (look-in ! 46 (sub ! 1 refl (whole !)))) (no-more !)))) (from ! (stop !)) (init ! 26 refl (tt, (tt, (record { fits = sized₃ .0 }, tt)))) $
           assigns ! (addr ! (from ! (fld ! refl (hop ! (look-in ! 44 (sub ! 0 refl (whole !))) (stop !))))) (from ! (stop !)) (init ! 24 refl (tt, tt)) $
-          assigns ! (agg ! (and-then ! (load ! (from ! (stop !)) (look ! 24 refl)) (and-then ! (load ! (from ! (fld ! refl (stop !))) (look-in ! 44 (sub ! 1 refl (whole !)))) (no-more !)))) (from ! (stop !)) (init ! 22 refl (tt, (tt, (record { fits = room₄ .0 }, tt)))) $
+          assigns ! (agg ! (and-then ! (load ! (from ! (stop !)) (look ! 24 refl)) (and-then ! (load ! (from ! (fld ! refl (stop !))) (look-in ! 44 (sub ! 1 refl (whole !)))) (no-more !)))) (from ! (stop !)) (init ! 22 refl (tt, (tt, (record { fits = sized₄ .0 }, tt)))) $
           assigns ! (addr ! (from ! (fld ! refl (hop ! (look-in ! 42 (sub ! 0 refl (whole !))) (stop !))))) (from ! (stop !)) (init ! 20 refl (tt, tt)) $
-          assigns ! (agg ! (and-then ! (load ! (from ! (stop !)) (look ! 20 refl)) (and-then ! (load ! (from ! (fld ! refl (stop !))) (look-in ! 42 (sub ! 1 refl (whole !)))) (no-more !)))) (from ! (stop !)) (init ! 18 refl (tt, (tt, (record { fits = room₅ .0 }, tt)))) $
+          assigns ! (agg ! (and-then ! (load ! (from ! (stop !)) (look ! 20 refl)) (and-then ! (load ! (from ! (fld ! refl (stop !))) (look-in ! 42 (sub ! 1 refl (whole !)))) (no-more !)))) (from ! (stop !)) (init ! 18 refl (tt, (tt, (record { fits = sized₅ .0 }, tt)))) $
           assigns ! (addr ! (from ! (fld ! refl (hop ! (look-in ! 40 (sub ! 0 refl (whole !))) (stop !))))) (from ! (stop !)) (init ! 16 refl (tt, tt)) $
-          assigns ! (agg ! (and-then ! (load ! (from ! (stop !)) (look ! 16 refl)) (and-then ! (load ! (from ! (fld ! refl (stop !))) (look-in ! 40 (sub ! 1 refl (whole !)))) (no-more !)))) (from ! (stop !)) (init ! 14 refl (tt, (tt, (record { fits = room₆ .0 }, tt)))) $
+          assigns ! (agg ! (and-then ! (load ! (from ! (stop !)) (look ! 16 refl)) (and-then ! (load ! (from ! (fld ! refl (stop !))) (look-in ! 40 (sub ! 1 refl (whole !)))) (no-more !)))) (from ! (stop !)) (init ! 14 refl (tt, (tt, (record { fits = sized₆ .0 }, tt)))) $
           assigns ! (addr ! (from ! (fld ! refl (hop ! (look-in ! 38 (sub ! 0 refl (whole !))) (stop !))))) (from ! (stop !)) (init ! 12 refl (tt, tt)) $
-          assigns ! (agg ! (and-then ! (load ! (from ! (stop !)) (look ! 12 refl)) (and-then ! (load ! (from ! (fld ! refl (stop !))) (look-in ! 38 (sub ! 1 refl (whole !)))) (no-more !)))) (from ! (stop !)) (init ! 10 refl (tt, (tt, (record { fits = room₇ .0 }, tt)))) $
+          assigns ! (agg ! (and-then ! (load ! (from ! (stop !)) (look ! 12 refl)) (and-then ! (load ! (from ! (fld ! refl (stop !))) (look-in ! 38 (sub ! 1 refl (whole !)))) (no-more !)))) (from ! (stop !)) (init ! 10 refl (tt, (tt, (record { fits = sized₇ .0 }, tt)))) $
           move ! (5 ∷ 6 ∷ []) $
           join ! $
           move ! (5 ∷ 0 ∷ []) $
@@ -203,7 +203,7 @@ module _ {M : Type 1} (𝓤 : URA M) (H : Heap 𝓤) (A : Atoms 𝓤) (W : Given
           join ! $
           move ! (1 ∷ 0 ∷ []) $
           join ! $
-          use1 W (later (raw (C #build·build (vint w32 axes ∷ vint w32 mode ∷ σ ∷ σ₂ ∷ σ₃ ∷ σ₄ ∷ σ₅ ∷ σ₆ ∷ σ₇ ∷ []) (λ w. mean 𝓤 H A (After-build-see-mut-mut-mut-mut-mut-mut 𝓤 H A W mem run C fm known-build κ θ γ β ι ν job κ₂ θ₂ γ₂ β₂ ι₂ ν₂ work κ₃ θ₃ γ₃ β₃ ι₃ ν₃ pairs κ₄ θ₄ γ₄ β₄ ι₄ ν₄ out κ₅ θ₅ γ₅ β₅ ι₅ ν₅ ids κ₆ θ₆ γ₆ β₆ ι₆ ν₆ map κ₇ θ₇ γ₇ β₇ ι₇ ν₇ log axes mode w))))) (build-see-mut-mut-mut-mut-mut-mut 𝓤 H A W mem run C fm known-build κ θ γ β ι ν job κ₂ θ₂ γ₂ β₂ ι₂ ν₂ work κ₃ θ₃ γ₃ β₃ ι₃ ν₃ pairs κ₄ θ₄ γ₄ β₄ ι₄ ν₄ out κ₅ θ₅ γ₅ β₅ ι₅ ν₅ ids κ₆ θ₆ γ₆ β₆ ι₆ ν₆ map κ₇ θ₇ γ₇ β₇ ι₇ ν₇ log axes mode refl refl refl refl refl refl room₂ room₃ room₄ room₅ room₆ room₇ g-axes g-mode) $ await ! tt $
+          use1 W (later (raw (C #build·build (vint w32 axes ∷ vint w32 mode ∷ σ ∷ σ₂ ∷ σ₃ ∷ σ₄ ∷ σ₅ ∷ σ₆ ∷ σ₇ ∷ []) (λ w. mean 𝓤 H A (After-build-see-mut-mut-mut-mut-mut-mut 𝓤 H A W mem run C fm known-build κ θ γ β ι ν job κ₂ θ₂ γ₂ β₂ ι₂ ν₂ work κ₃ θ₃ γ₃ β₃ ι₃ ν₃ pairs κ₄ θ₄ γ₄ β₄ ι₄ ν₄ out κ₅ θ₅ γ₅ β₅ ι₅ ν₅ ids κ₆ θ₆ γ₆ β₆ ι₆ ν₆ map κ₇ θ₇ γ₇ β₇ ι₇ ν₇ log axes mode w))))) (build-see-mut-mut-mut-mut-mut-mut 𝓤 H A W mem run C fm known-build κ θ γ β ι ν job κ₂ θ₂ γ₂ β₂ ι₂ ν₂ work κ₃ θ₃ γ₃ β₃ ι₃ ν₃ pairs κ₄ θ₄ γ₄ β₄ ι₄ ν₄ out κ₅ θ₅ γ₅ β₅ ι₅ ν₅ ids κ₆ θ₆ γ₆ β₆ ι₆ ν₆ map κ₇ θ₇ γ₇ β₇ ι₇ ν₇ log axes mode refl refl refl refl refl refl sized₂ sized₃ sized₄ sized₅ sized₆ sized₇ g-axes g-mode) $ await ! tt $
           calls ! fm (After-build-see-mut-mut-mut-mut-mut-mut 𝓤 H A W mem run C fm known-build κ θ γ β ι ν job κ₂ θ₂ γ₂ β₂ ι₂ ν₂ work κ₃ θ₃ γ₃ β₃ ι₃ ν₃ pairs κ₄ θ₄ γ₄ β₄ ι₄ ν₄ out κ₅ θ₅ γ₅ β₅ ι₅ ν₅ ids κ₆ θ₆ γ₆ β₆ ι₆ ν₆ map κ₇ θ₇ γ₇ β₇ ι₇ ν₇ log axes mode) (and-then ! (load ! (from ! (stop !)) (look ! 48 refl)) (and-then ! (load ! (from ! (stop !)) (look ! 46 refl)) (and-then ! (load ! (from ! (stop !)) (look ! 44 refl)) (and-then ! (load ! (from ! (stop !)) (look ! 24 refl)) (and-then ! (load ! (from ! (stop !)) (look ! 20 refl)) (and-then ! (load ! (from ! (stop !)) (look ! 16 refl)) (and-then ! (load ! (from ! (stop !)) (look ! 12 refl)) (and-then ! (load ! (from ! (stop !)) (look ! 8 refl)) (and-then ! (load ! (from ! (stop !)) (look ! 4 refl)) (no-more !)))))))))) (λ r-b. await ! tt $ pick ! (λ b. pick ! (λ x-b. learn ! (λ e-b. split ! $ move ! (1 ∷ []) $ facts ! D.the-row (Is D.the-row) (shows 𝓤 H A D.the-row) b (r-b ∷ []) (λ g-b.
           land ! (from ! (stop !)) (init ! 28 refl (EL.lawful D.the-type D′.the-laws 𝓤 H A W tt .typed b _ g-b .0)) $
           rewrite ! 28 (λ (u : Val). ‵ (fat fullShare (D′.mir) l₁₁ 0 u)) (spelt-D b r-b g-b) refl $
@@ -234,7 +234,7 @@ module _ {M : Type 1} (𝓤 : URA M) (H : Heap 𝓤) (A : Atoms 𝓤) (W : Given
     walk =
         qed W ((‵ (flft κ θ) ⊛ ‵ (flft κ₂ θ₂) ⊛ ‵ (flft κ₃ θ₃) ⊛ ‵ (flft κ₄ θ₄) ⊛ ‵ (flft κ₅ θ₅) ⊛ ‵ (flft κ₆ θ₆) ⊛ ‵ (flft κ₇ θ₇) ⊛ ‵ (flft κ₈ θ₈) ⊛ ‵ ftrue) ∷ ‵ (owns (u32 ∷ u32 ∷ ShrSlice (named 0) κ u8 ∷ MutSlice (named 1) κ₂ u32 ∷ MutSlice (named 2) κ₃ T.the-row ∷ MutSlice (named 3) κ₄ u8 ∷ MutSlice (named 4) κ₅ u32 ∷ MutSlice (named 5) κ₆ u32 ∷ MutSlice (named 6) κ₇ u32 ∷ MutRef (named 7) κ₈ (Array u64 tt 16) ∷ []) (bound .0 .3) (bound .0 .4)) ∷ []) ∵ enter ! C Λ code.function (vint w32 axes ∷ vint w32 mode ∷ σ ∷ σ₂ ∷ σ₃ ∷ σ₄ ∷ σ₅ ∷ σ₆ ∷ σ₇ ∷ σ₈ ∷ []) _ $
         alloc1 ! (λ l₀. alloc1 ! (λ l₁. alloc1 ! (λ l₂. alloc1 ! (λ l₃. alloc1 ! (λ l₄. alloc1 ! (λ l₅. alloc1 ! (λ l₆. alloc1 ! (λ l₇. alloc1 ! (λ l₈. alloc1 ! (λ l₉. alloc1 ! (λ l₁₀. alloc1 ! (λ l₁₁. alloc1 ! (λ l₁₂. alloc1 ! (λ l₁₃. alloc1 ! (λ l₁₄. alloc1 ! (λ l₁₅. alloc1 ! (λ l₁₆. alloc1 ! (λ l₁₇. alloc1 ! (λ l₁₈. alloc1 ! (λ l₁₉. alloc1 ! (λ l₂₀. alloc1 ! (λ l₂₁. alloc1 ! (λ l₂₂. alloc1 ! (λ l₂₃. alloc1 ! (λ l₂₄. alloc0 ! $ params1 ! $
-        pass1 ! (init ! 46 refl (tt, record { fits = g-axes })) $ pass1 ! (init ! 44 refl (tt, record { fits = g-mode })) $ pass1 ! (init ! 42 refl (tt, (tt, (record { fits = room .0 }, tt)))) $ pass1 ! (init ! 40 refl (tt, (tt, (record { fits = room₂ .0 }, tt)))) $ pass1 ! (init ! 38 refl (tt, (tt, (record { fits = room₃ .0 }, tt)))) $ pass1 ! (init ! 36 refl (tt, (tt, (record { fits = room₄ .0 }, tt)))) $ pass1 ! (init ! 34 refl (tt, (tt, (record { fits = room₅ .0 }, tt)))) $ pass1 ! (init ! 32 refl (tt, (tt, (record { fits = room₆ .0 }, tt)))) $ pass1 ! (init ! 30 refl (tt, (tt, (record { fits = room₇ .0 }, tt)))) $ pass1 ! (init ! 28 refl (tt, tt)) $ pass0 ! $
+        pass1 ! (init ! 46 refl (tt, record { fits = g-axes })) $ pass1 ! (init ! 44 refl (tt, record { fits = g-mode })) $ pass1 ! (init ! 42 refl (tt, (tt, (record { fits = sized .0 }, tt)))) $ pass1 ! (init ! 40 refl (tt, (tt, (record { fits = sized₂ .0 }, tt)))) $ pass1 ! (init ! 38 refl (tt, (tt, (record { fits = sized₃ .0 }, tt)))) $ pass1 ! (init ! 36 refl (tt, (tt, (record { fits = sized₄ .0 }, tt)))) $ pass1 ! (init ! 34 refl (tt, (tt, (record { fits = sized₅ .0 }, tt)))) $ pass1 ! (init ! 32 refl (tt, (tt, (record { fits = sized₆ .0 }, tt)))) $ pass1 ! (init ! 30 refl (tt, (tt, (record { fits = sized₇ .0 }, tt)))) $ pass1 ! (init ! 28 refl (tt, tt)) $ pass0 ! $
         move ! (51 ∷ []) $
         fsplit ! $
         move ! (1 ∷ []) $
@@ -302,10 +302,10 @@ module _ {M : Type 1} (𝓤 : URA M) (H : Heap 𝓤) (A : Atoms 𝓤) (W : Given
   abbrev Entry : SProp 𝓤
   Entry = onEntry 𝓤 H A ivs-build.signature (κ, (κ₂, (κ₃, (κ₄, (κ₅, (κ₆, (κ₇, (κ₈, tt)))))))) (θ, (θ₂, (θ₃, (θ₄, (θ₅, (θ₆, (θ₇, (θ₈, tt)))))))) (bound .0 .3) (bound .0 .4)
 
-  starts : (𝓣 : Tables 𝓤 H) → Triple 𝓤 (𝓣 .C #build·build) (Build-of 𝓤 H A mem run) → Triple 𝓤 (𝓣 .C #ivs·tell) (Tell-of 𝓤 H A mem run) → Room u8 ν → Room u32 ν₂ → Room T.the-row ν₃ → Room u8 ν₄ → Room u32 ν₅ → Room u32 ν₆ → Room u32 ν₇ → ent 𝓤 (sep 𝓤 Entry (emp 𝓤)) (WpFn 𝓤 H (𝓣 .C) (𝓣 .Λ) code.function (vint w32 axes ∷ vint w32 mode ∷ σ ∷ σ₂ ∷ σ₃ ∷ σ₄ ∷ σ₅ ∷ σ₆ ∷ σ₇ ∷ σ₈ ∷ []) Post)
-  starts 𝓣 k-build k-tell room room₂ room₃ room₄ room₅ room₆ room₇ = needs-none 𝓤 Entry (emp 𝓤) (walk 𝓣 k-build k-tell room room₂ room₃ room₄ room₅ room₆ room₇)
+  starts : (𝓣 : AllCalls 𝓤 H) → Triple 𝓤 (𝓣 .C #build·build) (Build-of 𝓤 H A mem run) → Triple 𝓤 (𝓣 .C #ivs·tell) (Tell-of 𝓤 H A mem run) → Room u8 ν → Room u32 ν₂ → Room T.the-row ν₃ → Room u8 ν₄ → Room u32 ν₅ → Room u32 ν₆ → Room u32 ν₇ → ent 𝓤 (sep 𝓤 Entry (emp 𝓤)) (WpFn 𝓤 H (𝓣 .C) (𝓣 .Λ) code.function (vint w32 axes ∷ vint w32 mode ∷ σ ∷ σ₂ ∷ σ₃ ∷ σ₄ ∷ σ₅ ∷ σ₆ ∷ σ₇ ∷ σ₈ ∷ []) Post)
+  starts 𝓣 k-build k-tell sized sized₂ sized₃ sized₄ sized₅ sized₆ sized₇ = needs-none 𝓤 Entry (emp 𝓤) (walk 𝓣 k-build k-tell sized sized₂ sized₃ sized₄ sized₅ sized₆ sized₇)
 
-module _ {M : Type 1} (𝓤 : URA M) (H : Heap 𝓤) (A : Atoms 𝓤) (W : Given 𝓤 H A) (mem : Memory → SProp 𝓤) (run : Routine → Fun 𝓤) (𝓣 : Tables 𝓤 H) where
+module _ {M : Type 1} (𝓤 : URA M) (H : Heap 𝓤) (A : Atoms 𝓤) (W : Given 𝓤 H A) (mem : Memory → SProp 𝓤) (run : Routine → Fun 𝓤) (𝓣 : AllCalls 𝓤 H) where
   ivs-build-walks : Triple 𝓤 (𝓣 .C #build·build) (Build-of 𝓤 H A mem run) → Triple 𝓤 (𝓣 .C #ivs·tell) (Tell-of 𝓤 H A mem run) → Walks 𝓤 H A ivs-build.ended stayed (WpFn 𝓤 H (𝓣 .C) (𝓣 .Λ) code.function) (ivs-build.clauses 𝓤 H A mem run)
   ivs-build-walks k-build k-tell = walked 𝓤 H A ivs-build.ended stayed (ivs-build.clauses 𝓤 H A mem run) (WpFn 𝓤 H (𝓣 .C) (𝓣 .Λ) code.function) (λ κs. (uint-vals w32, (uint-vals w32, (slice-vals, (slice-vals, (slice-vals, (slice-vals, (slice-vals, (slice-vals, (slice-vals, (ptr-vals, tt))))))))))) (λ κs. (uint-tells w32, (uint-tells w32, (shr-slice-tells (named 0) (κs .0) u8, (mut-slice-tells (named 1) (κs .1 .0) u32, (mut-slice-tells (named 2) (κs .1 .1 .0) T.the-row, (mut-slice-tells (named 3) (κs .1 .1 .1 .0) u8, (mut-slice-tells (named 4) (κs .1 .1 .1 .1 .0) u32, (mut-slice-tells (named 5) (κs .1 .1 .1 .1 .1 .0) u32, (mut-slice-tells (named 6) (κs .1 .1 .1 .1 .1 .1 .0) u32, (mut-tells (named 7) (κs .1 .1 .1 .1 .1 .1 .1 .0) (Array u64 tt 16), tt)))))))))))
       (λ κs qs bounds a g are. starts 𝓤 H A W mem run (κs .0) (qs .0) (a .1 .1 .0 .name) (a .1 .1 .0 .ptr .0) (a .1 .1 .0 .ptr .1) (a .1 .1 .0 .now) (κs .1 .0) (qs .1 .0) (a .1 .1 .1 .0 .name) (a .1 .1 .1 .0 .ptr .0) (a .1 .1 .1 .0 .ptr .1) (a .1 .1 .1 .0 .now) (κs .1 .1 .0) (qs .1 .1 .0) (a .1 .1 .1 .1 .0 .name) (a .1 .1 .1 .1 .0 .ptr .0) (a .1 .1 .1 .1 .0 .ptr .1) (a .1 .1 .1 .1 .0 .now) (κs .1 .1 .1 .0) (qs .1 .1 .1 .0) (a .1 .1 .1 .1 .1 .0 .name) (a .1 .1 .1 .1 .1 .0 .ptr .0) (a .1 .1 .1 .1 .1 .0 .ptr .1) (a .1 .1 .1 .1 .1 .0 .now) (κs .1 .1 .1 .1 .0) (qs .1 .1 .1 .1 .0) (a .1 .1 .1 .1 .1 .1 .0 .name) (a .1 .1 .1 .1 .1 .1 .0 .ptr .0) (a .1 .1 .1 .1 .1 .1 .0 .ptr .1) (a .1 .1 .1 .1 .1 .1 .0 .now) (κs .1 .1 .1 .1 .1 .0) (qs .1 .1 .1 .1 .1 .0) (a .1 .1 .1 .1 .1 .1 .1 .0 .name) (a .1 .1 .1 .1 .1 .1 .1 .0 .ptr .0) (a .1 .1 .1 .1 .1 .1 .1 .0 .ptr .1) (a .1 .1 .1 .1 .1 .1 .1 .0 .now) (κs .1 .1 .1 .1 .1 .1 .0) (qs .1 .1 .1 .1 .1 .1 .0) (a .1 .1 .1 .1 .1 .1 .1 .1 .0 .name) (a .1 .1 .1 .1 .1 .1 .1 .1 .0 .ptr .0) (a .1 .1 .1 .1 .1 .1 .1 .1 .0 .ptr .1) (a .1 .1 .1 .1 .1 .1 .1 .1 .0 .now) (κs .1 .1 .1 .1 .1 .1 .1 .0) (qs .1 .1 .1 .1 .1 .1 .1 .0) (a .1 .1 .1 .1 .1 .1 .1 .1 .1 .0 .name) (a .1 .1 .1 .1 .1 .1 .1 .1 .1 .0 .ptr .0) (a .1 .1 .1 .1 .1 .1 .1 .1 .1 .0 .ptr .1) (a .1 .1 .1 .1 .1 .1 .1 .1 .1 .0 .now) (a .0) (a .1 .0) (are .0 .1) (are .1 .0 .1) 𝓣 k-build k-tell (are .1 .1 .0 .0 .1) (are .1 .1 .1 .0 .0 .1) (are .1 .1 .1 .1 .0 .0 .1) (are .1 .1 .1 .1 .1 .0 .0 .1) (are .1 .1 .1 .1 .1 .1 .0 .0 .1) (are .1 .1 .1 .1 .1 .1 .1 .0 .0 .1) (are .1 .1 .1 .1 .1 .1 .1 .1 .0 .0 .1))
