@@ -272,3 +272,8 @@ class Fn:
 
     def req(s):
         return " × ".join(f"({t})" if len(s.requires) > 1 else t for _, t in s.requires)
+
+
+def walked(fn, **walk):
+    """A function that others are told of, with its walk."""
+    fn.walk = walk
