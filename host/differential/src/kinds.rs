@@ -48,14 +48,22 @@ pub fn axes_and_modes() -> Run {
     Run::over(Share { noisy: 7, ..ALL }, cases::axes_and_modes)
 }
 
-/// All small jobs.
+/// All small jobs; those of up to two sets go through the library without exception.
 pub fn small() -> Run {
-    Run::over(some(201, 401), cases::small)
+    let share = Share {
+        short: |job| job.chunks(12).filter(|record| record[0] == 3).count() <= 2,
+        ..some(401, 2_001)
+    };
+    Run::over(share, cases::small)
 }
 
-/// All short sequences of records.
+/// All short sequences of records; those of up to three without exception.
 pub fn records() -> Run {
-    Run::over(some(601, 2_001), cases::records)
+    let share = Share {
+        short: |job| job.len() <= 3 * 12,
+        ..some(1_201, 4_001)
+    };
+    Run::over(share, cases::records)
 }
 
 /// Every damage to one job.
@@ -108,6 +116,7 @@ pub fn stores(seeds: &Range<u64>) -> Run {
 const ALL: Share = Share {
     linked: 1,
     emulated: 1,
+    short: |_| true,
     around: 1,
     noisy: 1,
 };
@@ -117,6 +126,7 @@ fn some(linked: usize, emulated: usize) -> Share {
     Share {
         linked,
         emulated,
+        short: |_| false,
         around: 0,
         noisy: NOISY,
     }

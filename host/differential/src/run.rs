@@ -27,6 +27,8 @@ pub struct Share {
     pub linked: usize,
     /// One in so many where the library is emulated (odd, too).
     pub emulated: usize,
+    /// And every job that is short by this.
+    pub short: fn(&[u8]) -> bool,
     /// One in so many of all jobs with memory around each size, where it is taken at all,
     /// and not just over it; 0: none.
     pub around: usize,
@@ -64,7 +66,7 @@ impl Run {
         self.plain.count(check::case(case, &known));
         let number = self.cases;
         self.cases += 1;
-        if number % share.taken() != 0 {
+        if number % share.taken() != 0 && !(share.short)(case.job) {
             return;
         }
         // Cases come in pairs, one of each mode.
