@@ -1,3 +1,6 @@
 pub mod Alike
 pub mod Groups
 pub mod Rows
+pub mod Stores
+pub mod Done
+pub mod Builds
