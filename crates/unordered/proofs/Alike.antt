@@ -3,8 +3,8 @@
 use mathlib.Core.Path.{_≡_, refl, sym, ap, ap₂, subst, _∙_}
 use mathlib.Core.Bool.{Bool, true, false}
 use mathlib.Core.Logic.{⊎-elim}
-use mathlib.Core.List.{List, [], _∷_, _++_, map, List·Memᴰ, Memᴰ·cast, List·Memᴰ·cases-cons, List·Memᴰ·not-nil}
-use Prim.Native.Nat.{ℕ, zero, suc, _+_, _≤_, _<_}
+use mathlib.Core.List.{List, [], _∷_, List·Memᴰ, Memᴰ·cast, List·Memᴰ·cases-cons, List·Memᴰ·not-nil}
+use Prim.Native.Nat.{ℕ, _<_}
 use native.Mathlib.Omega.{arith}
 use lib.Dec.{ltb}
 use borrow.Author.Tests.{ltb-false}
@@ -29,14 +29,14 @@ use Rattle.encoder.proofs.NumberLaws.{at-mem, mem-sorted}
 
 module _ {A : Type 0} where
   -- what holds of each holds of a member
-  pub all-mem : (P : A → Type 0) (l : List A) (x : A) → All P l → List·Memᴰ x l → P x
+  all-mem : (P : A → Type 0) (l : List A) (x : A) → All P l → List·Memᴰ x l → P x
   all-mem P [] x h m = absurd (List·Memᴰ·not-nil m)
   all-mem P (y ∷ l) x h m = ⊎-elim
       (λ (e : x ≡ y). subst P (sym e) (h .0))
       (λ t. all-mem P l x (h .1) t)
       (List·Memᴰ·cases-cons m)
 
-  pub all-members : (l : List A) (d : A) → All (λ x. List·Memᴰ x l) l
+  all-members : (l : List A) (d : A) → All (λ x. List·Memᴰ x l) l
   all-members l d = all-intro (λ x. List·Memᴰ x l) l d (λ i h. at-mem l d i h)
 
   module _ (R : A → A → Type 0) (asym : (x y : A) → R x y → R y x → ⊥) where

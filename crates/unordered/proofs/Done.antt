@@ -33,7 +33,7 @@ use Rattle.finishing.specs.declared.answers.Built.{Built}
 use Rattle.finishing.specs.declared.answers.Built.the-variants.{Refused, Done}
 use Rattle.finishing.specs.Late.{Lengths, storeFor, lateNo, reportOf, lateAnswer, ifDone, outLeft, idsLeft, mapLeft, logLeft}
 use Rattle.build.specs.Build.{coordsOf, packedOf, answerFrom, answerOf, leftFrom, outAfter, idsAfter, mapAfter, logAfter}
-use Rattle.build.proofs.PackedLaws.{Words, Good, shared-good}
+use Rattle.build.proofs.PackedLaws.{Good, shared-good}
 use Rattle.unordered.specs.Same.{Lending, saidBy, answerTo, outOf, idsOf, mapOf, logOf}
 use Rattle.unordered.proofs.Alike.{Fine}
 

@@ -1,14 +1,14 @@
 -- Groups are fixed by how many sets each shape has: so two jobs that say the same sets have the same groups. Assumes nothing.
 use mathlib.Core.Path.{_≡_, refl, sym, ap, ap₂, _∙_}
 use mathlib.Core.List.{List, [], _∷_, map, List·Memᴰ}
-use Prim.Native.Nat.{ℕ, zero, suc, _+_, _≤_, _<_}
+use Prim.Native.Nat.{ℕ, _+_, _<_}
 use native.Mathlib.Omega.{arith}
 use lib.ListN.{length}
 use Rattle.laws.specs.declared.Order.{Order}
 use Rattle.laws.specs.declared.Order.the-variants.{Less, Equal, Greater}
 use Rattle.laws.specs.Every.{All, EachTwo}
-use Rattle.laws.specs.Bag.{weigh, SameBag}
-use Rattle.laws.proofs.EveryLaws.{all, all-imp, all-map}
+use Rattle.laws.specs.Bag.{weigh}
+use Rattle.laws.proofs.EveryLaws.{all, all-map}
 use Rattle.shapes.specs.Shape.{Shape}
 use Rattle.shapes.specs.Order.{order}
 use Rattle.shapes.specs.Group.{Group}

@@ -3,4 +3,5 @@ pub mod Groups
 pub mod Rows
 pub mod Stores
 pub mod Done
-pub mod Builds
+pub mod Unordered
+pub mod Worked

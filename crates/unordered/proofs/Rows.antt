@@ -1,9 +1,9 @@
 -- The rows of the final groups are the sorted distinct sets, by the places that these have as ids: so two jobs that say the same sets have the same final
 -- groups, with other numbers for their sets. Assumes nothing.
 use mathlib.Core.Path.{_≡_, refl, sym, ap, ap₂, _∙_}
-use mathlib.Core.Bool.{Bool, true}
+use mathlib.Core.Bool.{Bool}
 use mathlib.Core.List.{List, [], _∷_, map, List·Memᴰ}
-use Prim.Native.Nat.{ℕ, zero, suc, _+_, _<_}
+use Prim.Native.Nat.{ℕ, _<_}
 use native.Mathlib.Omega.{arith}
 use lib.ListN.{length, getD, length-map}
 use lib.Seq.{ext-getD}
@@ -26,12 +26,12 @@ use Rattle.store.specs.Placing.{Final}
 use Rattle.encoder.specs.Packed.{Packed, noLater, dense, belongs, finalOf, isAhead, finalsOf, shared}
 use Rattle.encoder.specs.Lent.{relabel}
 use Rattle.encoder.proofs.NumberLaws.{mem-at}
-use Rattle.unordered.proofs.Alike.{notLater, line, Fine, all-mem, all-members, place-own, distinct-differ, distinct-in, line-same, distinct-bag}
+use Rattle.unordered.proofs.Alike.{notLater, line, Fine, place-own, distinct-differ, distinct-in, line-same, distinct-bag}
 use Rattle.unordered.proofs.Groups.{groups-same}
 
 -- ---- lists
 
-map-map : {A B C : Type 0} (g : B → C) (f : A → B) (l : List A) → map g (map f l) ≡ map (λ x. g (f x)) l
+pub map-map : {A B C : Type 0} (g : B → C) (f : A → B) (l : List A) → map g (map f l) ≡ map (λ x. g (f x)) l
 map-map g f [] = refl
 map-map g f (x ∷ l) = ap (λ (m : List _). g (f x) ∷ m) (map-map g f l)
 

@@ -1,7 +1,7 @@
 -- Packed sets that differ by the numbers of the sets alone have one store, one report, and one map word for each set. Assumes nothing.
-use mathlib.Core.Path.{_≡_, refl, sym, ap, _∙_}
-use mathlib.Core.List.{List, [], _∷_, map}
-use Prim.Native.Nat.{ℕ, _+_, _*_, _≤_, _<_}
+use mathlib.Core.Path.{_≡_, sym, ap, _∙_}
+use mathlib.Core.List.{List, [], map}
+use Prim.Native.Nat.{ℕ, _≤_, _<_}
 use native.Mathlib.Omega.{arith}
 use lib.ListN.{length, getD, length-map}
 use Rattle.laws.specs.Every.{All, EachTwo}
@@ -12,7 +12,6 @@ use Rattle.store.specs.Lent.{stored}
 use Rattle.readback.proofs.MapBack.{map-at}
 use Rattle.encoder.specs.Packed.{Packed}
 use Rattle.encoder.specs.Lent.{relabel}
-use Rattle.finishing.specs.declared.answers.Report.{Report}
 use Rattle.finishing.specs.Late.{storeFor, regionsKept, reportOf}
 use Rattle.finishing.proofs.StoreLaws.{runs-relabel, runs-count, kept-relabel, forecast-relabel, store-relabel}
 use Rattle.build.proofs.PackedLaws.{Good}
@@ -37,8 +36,7 @@ module _ (f : ℕ → ℕ) (rs : List Final) where
   relabel-spot : (x : ℕ) (p : Spot rs x) → (p .inner < length (getD (relabel f rs) (p .outer) none .ids)) × (getD (getD (relabel f rs) (p .outer) none .ids) (p .inner) 0 ≡ f x)
   relabel-spot x p =
       let l = getD rs (p .outer) none .ids in
-      let e = relabel-ids (p .outer) (p .outer-below) in
-      (
+      let e = relabel-ids (p .outer) (p .outer-below) in (
         omega (arith, ap length e, length-map l f, p .inner-below),
         ap (λ (m : List ℕ). getD m (p .inner) 0) e ∙ getD-map-in f l (p .inner) 0 0 (p .inner-below) ∙ ap f (p .is),
       )

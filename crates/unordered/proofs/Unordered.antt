@@ -1,16 +1,14 @@
 -- The order of glyphs does not show: two builds in mode 0 that are done, of jobs that say the same sets over the same regions. Assumes nothing.
-use mathlib.Core.Path.{_≡_, refl, sym, ap, subst, _∙_}
+use mathlib.Core.Path.{_≡_, sym, ap, subst, _∙_}
 use mathlib.Core.List.{List, [], map}
-use Prim.Native.Nat.{ℕ, _*_, _<_}
+use Prim.Native.Nat.{ℕ, _<_}
 use native.Mathlib.Omega.{arith}
-use lib.ListN.{length, getD, take}
+use lib.ListN.{length, getD}
 use Rattle.laws.specs.Every.{All}
 use Rattle.sets.specs.Set.{Set}
 use Rattle.sets.specs.Ids.{place, distinct}
 use Rattle.sets.proofs.IdLaws.{id-below, place-here}
-use Rattle.rule.specs.Model.{Entry}
 use Rattle.rule.specs.Told.{words}
-use Rattle.said.specs.Sets.{Region}
 use Rattle.said.specs.Job.{Said, fine}
 use Rattle.said.proofs.SoundLaws.{Bytes}
 use Rattle.encoder.specs.Packed.{Packed, shared}
@@ -19,9 +17,9 @@ use Rattle.finishing.specs.declared.answers.Built.the-variants.{Done}
 use Rattle.finishing.specs.Late.{storeFor, reportOf}
 use Rattle.build.specs.Build.{regionBytes, coordsOf, packedOf}
 use Rattle.build.proofs.PackedLaws.{Good}
-use Rattle.unordered.specs.Same.{SameSets, Lending, saidBy, answerTo, outOf, idsOf, mapOf, logOf, placeOf, SameBuild}
+use Rattle.unordered.specs.Same.{SameSets, Lending, saidBy, answerTo, mapOf, placeOf, SameBuild}
 use Rattle.unordered.proofs.Alike.{Fine}
-use Rattle.unordered.proofs.Rows.{Renamed, shared-same}
+use Rattle.unordered.proofs.Rows.{map-map, Renamed, shared-same}
 use Rattle.unordered.proofs.Stores.{store-same, report-same, word-same}
 use Rattle.unordered.proofs.Done.{shared-of, coords-long, sets-are, IsDone, is-done}
 
@@ -82,6 +80,12 @@ module _ (axes : ℕ) (a b : Lending) (s t : Said) (c d : Report) (same : SameSe
     log = p .log-is ∙ ap words (renamed .log-is) ∙ sym (q .log-is);
     places = places-same;
   }
+
+-- "with equal coordinates": where the regions in use, by first use, have these numbers as coordinates, their bytes are equal
+pub regions-same : (s t : Said) → map (λ q. getD (s .regions) q []) (s .used) ≡ map (λ q. getD (t .regions) q []) (t .used) → coordsOf s ≡ coordsOf t
+unfolding coordsOf
+regions-same s t e =
+    sym (map-map regionBytes (λ q. getD (s .regions) q []) (s .used)) ∙ ap (map regionBytes) e ∙ map-map regionBytes (λ q. getD (t .regions) q []) (t .used)
 
 -- THE THEOREM: "two accepted jobs over the same axis count, whose sets have the same contents as a collection (repeats ignored) and whose regions come into
 -- first use in the same order with equal coordinates, give the same store bytes, log and counts, and equal sets map to equal places", in mode 0,
