@@ -1,0 +1,163 @@
+-- Two jobs of one axis that say the same three sets, in another order and one of them twice: what they are asked can be met, their ids differ, and the
+-- theorem has what they share. Assumes nothing.
+use mathlib.Core.Path.{_≡_, refl}
+use mathlib.Core.Bool.{Bool, true, _&&_}
+use mathlib.Core.Logic.{⊎-elim}
+use mathlib.Core.List.{List, [], _∷_, _++_, List·Memᴰ, List·Memᴰ·head, List·Memᴰ·tail, List·Memᴰ·cases-cons, List·Memᴰ·not-nil}
+use Prim.Native.Nat.{ℕ, zero, suc, _+_, _<_}
+use native.Mathlib.Decide.{decLt}
+use native.Mathlib.Omega.{arith}
+use lib.Dec.{ltb}
+use lib.ListN.{length, getD, replicate}
+use borrow.Author.Tests.{ltb-true}
+use Rattle.laws.specs.Bag.{weigh}
+use Rattle.laws.specs.Bounded.{allBelow, tabulate}
+use Rattle.laws.specs.Bytes.{be, bytesOf}
+use Rattle.laws.specs.Order.{compared, thenBy, isMost}
+use Rattle.laws.specs.Signed.{fits, isZero, signed, twos, word, value, zeroWord}
+use Rattle.laws.specs.Sorting.{insert, sorted, keep}
+use Rattle.laws.proofs.Cases.{and-true}
+use Rattle.shapes.specs.Width.{widthOf, costOf}
+use Rattle.shapes.specs.Shape.{rowCost, columns, overhead, join}
+use Rattle.shapes.specs.Order as shapes
+use Rattle.shapes.specs.Group.{groupCost, joined, gain}
+use Rattle.sets.specs.Set.{Set, wordOf, sameSet}
+use Rattle.sets.specs.Order as sets
+use Rattle.sets.specs.Ids.{place, withSet, idsFrom, distinctFrom}
+use Rattle.groups.specs.Groups as groups
+use Rattle.rule.specs.Model as rule
+use Rattle.rule.specs.Told.{words}
+use Rattle.rows.specs.Columns.{addIf, ofWidth, columnsOf, wordCount, bytesFor}
+use Rattle.rows.specs.Row.{wordIn, cellsOf, rowOf}
+use Rattle.rows.specs.Subtable as rows
+use Rattle.store.specs.Placing as store
+use Rattle.store.specs.Lent.{stored}
+use Rattle.said.specs.Records.{zeros, axisZeros, valueZeros, endZeros, valueWord}
+use Rattle.said.specs.Refusals.{firstFailed, publishedWork, pairRecords, earlyNo, axisNo, valueNo, endNo}
+use Rattle.said.specs.Sets as said
+use Rattle.said.specs.Job as job
+use Rattle.said.proofs.SoundLaws.{Bytes}
+use Rattle.encoder.specs.Packed as packed
+use Rattle.finishing.specs.declared.answers.Report.{Report}
+use Rattle.finishing.specs.declared.answers.Built.the-variants.{Done}
+use Rattle.finishing.specs.Late.{storeFor, regionsKept, lateNo, reportOf, lateAnswer, ifDone, outLeft, idsLeft, mapLeft, logLeft}
+use Rattle.build.specs.Build.{regionBytes, coordsOf, packedOf, answerFrom, answerOf, leftFrom, outAfter, idsAfter, mapAfter, logAfter}
+use Rattle.unordered.specs.Same.{SameSets, Lending, saidBy, answerTo, outOf, idsOf, mapOf, logOf, SameBuild}
+use Rattle.unordered.proofs.Unordered.{unordered}
+
+-- ---- jobs
+
+abbrev axisRecord : ℕ → ℕ → List ℕ
+axisRecord region peak = 1 ∷ region ∷ 0 ∷ 0 ∷ 0 ∷ 0 ∷ peak ∷ 0 ∷ 64 ∷ 0 ∷ 0 ∷ 0 ∷ []
+
+-- a value of two bytes
+abbrev valueRecord : ℕ → ℕ → ℕ → List ℕ
+valueRecord region high low = 2 ∷ region ∷ 0 ∷ 0 ∷ 0 ∷ 0 ∷ high ∷ low ∷ 0 ∷ 0 ∷ 0 ∷ 0 ∷ []
+
+abbrev endRecord : List ℕ
+endRecord = 3 ∷ 0 ∷ 0 ∷ 0 ∷ 0 ∷ 0 ∷ 0 ∷ 0 ∷ 0 ∷ 0 ∷ 0 ∷ 0 ∷ []
+
+-- {R0:1, R1:1}, {R0:300}, {}
+abbrev job-a : List ℕ
+job-a =
+    axisRecord 0 64 ++ (axisRecord 1 32
+    ++ (valueRecord 0 0 1 ++ (valueRecord 1 0 1 ++ (endRecord
+    ++ (valueRecord 0 1 44 ++ (endRecord
+    ++ endRecord))))))
+
+-- {R0:300}, {}, {R0:1, R1:1}, {R0:300}
+abbrev job-b : List ℕ
+job-b =
+    axisRecord 0 64 ++ (axisRecord 1 32
+    ++ (valueRecord 0 1 44 ++ (endRecord
+    ++ (endRecord
+    ++ (valueRecord 0 0 1 ++ (valueRecord 1 0 1 ++ (endRecord
+    ++ (valueRecord 0 1 44 ++ endRecord))))))))
+
+abbrev a : Lending
+a = record { job = job-a; work = 4096; pairs = pairRecords; out = replicate 64 0; ids = replicate 3 0; map = replicate 3 0; log = replicate 6 0 }
+
+abbrev b : Lending
+b = record { job = job-b; work = 4096; pairs = pairRecords; out = replicate 60 9; ids = replicate 5 9; map = replicate 4 9; log = replicate 7 9 }
+
+-- ---- what they say
+
+abbrev one : Set
+one = (0, zeroWord + 1) ∷ (1, zeroWord + 1) ∷ []
+
+abbrev wide : Set
+wide = (0, zeroWord + 300) ∷ []
+
+abbrev says : List Set → ℕ → job.Said
+says l n = record {
+  regions = (0 ∷ 16384 ∷ 16384 ∷ []) ∷ (0 ∷ 8192 ∷ 16384 ∷ []) ∷ [];
+  used = 0 ∷ 1 ∷ [];
+  sets = l;
+  values = n;
+  named = [];
+  begun = [];
+}
+
+abbrev s : job.Said
+s = says (one ∷ wide ∷ [] ∷ []) 3
+
+abbrev t : job.Said
+t = says (wide ∷ [] ∷ one ∷ wide ∷ []) 4
+
+said-both : (saidBy 1 a ≡ job.fine s) × (saidBy 1 b ≡ job.fine t)
+unfolding allBelow be signed word zeros axisZeros valueZeros endZeros valueWord firstFailed publishedWork earlyNo axisNo valueNo endNo said.coordinates said.regionList said.sameRegion said.like said.firstLike said.has said.withUse said.indexIn said.placed said.withValue job.unless job.afterValue job.afterEnd job.valueStep job.endStep job.setStep job.regionsOnly job.step job.endedSets job.ended job.follow job.walk job.outcomeFrom job.outcome
+said-both = (refl, refl)
+
+there : (x : Set) → List·Memᴰ x (s .sets) → List·Memᴰ x (t .sets)
+there x m = ⊎-elim
+    (λ e. List·Memᴰ·tail (List·Memᴰ·tail (List·Memᴰ·head e)))
+    (λ n. ⊎-elim
+    (λ e. List·Memᴰ·head e)
+    (λ o. ⊎-elim (λ e. List·Memᴰ·tail (List·Memᴰ·head e)) (λ p. absurd (List·Memᴰ·not-nil p)) (List·Memᴰ·cases-cons o))
+    (List·Memᴰ·cases-cons n))
+    (List·Memᴰ·cases-cons m)
+
+back : (x : Set) → List·Memᴰ x (t .sets) → List·Memᴰ x (s .sets)
+back x m = ⊎-elim
+    (λ e. List·Memᴰ·tail (List·Memᴰ·head e))
+    (λ n. ⊎-elim
+    (λ e. List·Memᴰ·tail (List·Memᴰ·tail (List·Memᴰ·head e)))
+    (λ o. ⊎-elim
+    (λ e. List·Memᴰ·head e)
+    (λ p. ⊎-elim (λ e. List·Memᴰ·tail (List·Memᴰ·head e)) (λ q. absurd (List·Memᴰ·not-nil q)) (List·Memᴰ·cases-cons p))
+    (List·Memᴰ·cases-cons o))
+    (List·Memᴰ·cases-cons n))
+    (List·Memᴰ·cases-cons m)
+
+same : SameSets s t
+same = record { regions-same = unfold coordsOf in refl; there = there; back = back }
+
+-- ---- they are bytes
+
+abbrev allLow : List ℕ → Bool
+allLow [] = true
+allLow (x ∷ l) = ltb x 256 && allLow l
+
+bytes-of : (l : List ℕ) → allLow l ≡ true → Bytes l
+bytes-of [] h k = omega arith
+bytes-of (x ∷ l) h zero = ltb-true x 256 (and-true (ltb x 256) (allLow l) h .0)
+bytes-of (x ∷ l) h (suc k) = bytes-of l (and-true (ltb x 256) (allLow l) h .1) k
+
+-- ---- both are done, with the same counts; {R0:1, R1:1} is id 0 of the one job and id 2 of the other
+
+abbrev c : Report
+c = record { bytes = 47; subtables = 1; regions = 2; ids = 3; groups = 3; merges = 2; weighed = 4; before = 40; after = 23; forecast = 47 }
+
+abbrev Answers : Type 0
+Answers =
+    (answerTo 1 a ≡ Done c) × (answerTo 1 b ≡ Done c)
+    × (idsOf 1 a ≡ 0 ∷ 1 ∷ 2 ∷ []) × (idsOf 1 b ≡ 0 ∷ 1 ∷ 2 ∷ 0 ∷ 9 ∷ [])
+    × (mapOf 1 a ≡ 1 ∷ 2 ∷ 0 ∷ []) × (mapOf 1 b ≡ 2 ∷ 0 ∷ 1 ∷ 9 ∷ [])
+    × (logOf 1 a ≡ 1 ∷ 2 ∷ 10 ∷ 0 ∷ 3 ∷ 7 ∷ []) × (logOf 1 b ≡ 1 ∷ 2 ∷ 10 ∷ 0 ∷ 3 ∷ 7 ∷ 9 ∷ [])
+
+answers : Answers
+unfolding weigh allBelow tabulate be bytesOf compared thenBy isMost fits isZero signed twos word value insert sorted keep widthOf costOf rowCost columns overhead join shapes.widthsOrder shapes.order groupCost joined gain wordOf sameSet sets.byWords sets.orderNone sets.orderHead sets.order place withSet idsFrom distinctFrom groups.shapeOf groups.placed groups.withShape groups.groupsFrom groups.groupsOf rule.keepOut rule.outs rule.pairWith rule.keepPair rule.pairs rule.either rule.better rule.lead rule.best rule.worth rule.ifWorth rule.choice rule.entry rule.merge rule.follow rule.step rule.run rule.number rule.start rule.merged rule.total decLt words addIf ofWidth columnsOf wordCount bytesFor wordIn cellsOf rowOf rows.joinAll rows.runCount store.runsOf store.allRuns store.inRun store.idWords store.names rows.indexBytes rows.rowsOf rows.subtableOf store.offsetsOf store.listOf store.placed store.storeOf store.modelOf store.modelled store.forecastOf stored zeros axisZeros valueZeros endZeros valueWord firstFailed publishedWork earlyNo axisNo valueNo endNo said.coordinates said.regionList said.sameRegion said.like said.firstLike said.has said.withUse said.indexIn said.placed said.withValue job.unless job.afterValue job.afterEnd job.valueStep job.endStep job.setStep job.regionsOnly job.step job.endedSets job.ended job.follow job.walk job.outcomeFrom job.outcome packed.noLater packed.dense packed.sameShape packed.numberOf packed.isAmong packed.belongs packed.finalOf packed.isAhead packed.finalsOf packed.shared storeFor regionsKept lateNo reportOf lateAnswer ifDone outLeft idsLeft mapLeft logLeft regionBytes coordsOf packedOf answerFrom answerOf leftFrom outAfter idsAfter mapAfter logAfter
+answers = (refl, refl, refl, refl, refl, refl, refl, refl)
+
+pub worked : SameBuild 1 a b s t c c
+worked = unordered 1 a b s t c c (bytes-of job-a refl) (bytes-of job-b refl) (said-both .0) (said-both .1) same (answers .0) (answers .1)
