@@ -50,17 +50,17 @@ pub fn axes_and_modes() -> Run {
 
 /// All small jobs.
 pub fn small() -> Run {
-    Run::over(some(201, 401), cases::small)
+    Run::over(some(201, 801), cases::small)
 }
 
 /// All short sequences of records.
 pub fn records() -> Run {
-    Run::over(some(601, 2_001), cases::records)
+    Run::over(some(601, 6_001), cases::records)
 }
 
 /// Every damage to one job.
 pub fn each_damage() -> Run {
-    Run::over(some(5, 101), cases::each_damage)
+    Run::over(some(5, 501), cases::each_damage)
 }
 
 /// The random jobs of some seeds.
