@@ -1,11 +1,9 @@
 -- The turns of the run, and its end. Assumes nothing.
 use mathlib.Core.Path.{_≡_, refl, ap₂, subst, _∙_}
-use mathlib.Core.Bool.{Bool, true, false}
 use mathlib.Core.Logic.{_⊎_, ⊎-elim}
 use mathlib.Core.List.{List, [], _∷_, List·Memᴰ}
 use Prim.Native.Nat.{ℕ, _+_, _-_, _*_, _≤_, _<_}
 use native.Mathlib.Omega.{arith}
-use lib.Dec.{T}
 use lib.ListN.{length}
 use Rattle.laws.specs.Bag.{sum}
 use Rattle.laws.specs.Range.{Only}
@@ -19,24 +17,11 @@ use Rattle.pairs.specs.declared.Pair.{Pair}
 use Rattle.pairs.specs.Queue.{HeapOrdered, SameFrom, Popped}
 use Rattle.slots.specs.declared.tables.Tables.{Tables}
 use Rattle.slots.specs.Lent.{Laid}
-use Rattle.waits.specs.Waits.{room, placeOf, groupOf, alive, Reached, Asked, OfferedAll}
-use Rattle.merging.specs.Held.{written, Lives, Standing, Chosen, BothLive, Joinable, JoinedAt, SomeStanding, Turned, Ran}
-use Rattle.waits.proofs.WaitLaws.{room-is, room-most}
+use Rattle.waits.specs.Waits.{room, placeOf, groupOf, alive, Reached, Asked, OfferedAll, Numbered, KeptLiving}
+use Rattle.merging.specs.Held.{written, Lives, Standing, Chosen, Joinable, JoinedAt, SomeStanding, Turned, Tidied, Ran}
+use Rattle.waits.proofs.WaitLaws.{room-is, waits-kept, waits-numbered}
 use Rattle.merging.proofs.HeldLaws.{merges-few, merges-less, chosen-taken, chosen-dead}
 use Rattle.merging.proofs.MergeLaws.{joinable, joined-asked, joined-room, joined-stands, joined-less, gain-fits}
-
--- ---- what a test of the code says
-
-holds : (b : Bool) → T b → b ≡ true
-holds true _ = refl
-holds false a = absurd a
-
-module _ {t : Tables} {p : Pair} {w : List ℕ} {b : Bool} (l : BothLive t p b w) (h : T b) where
-  pub first-lives : 0 < placeOf t w (p .first)
-  first-lives = l .yes-live (holds b h) .0
-
-  pub second-lives : 0 < placeOf t w (p .second)
-  second-lives = l .yes-live (holds b h) .1
 
 -- ---- a turn
 
@@ -108,6 +93,34 @@ module _ {t : Tables} {n m j z : ℕ} {w : List ℕ} {ps : List Pair} (s : SomeS
           rest = λ i l. q .rest i l ∙ same-rest i l;
         }
 
+-- ---- dead pairs dropped
+
+pub tidied-none : {t : Tables} {n m j z : ℕ} {w : List ℕ} {ps : List Pair} → Tidied t n m j z n m j z w ps ps
+tidied-none = record { stands = λ xs s. s; fewer = omega arith; weighed-same = refl; rest = λ i _. refl }
+
+module _ {t : Tables} {n m j z : ℕ} {w : List ℕ} {ps : List Pair} (s : SomeStanding t n m j z w ps) where
+  pub tidy-merges : j ≤ t .groups
+  tidy-merges = omega (arith, turn-merges s)
+
+  pub tidy-numbered : Numbered t n ps
+  tidy-numbered = waits-numbered (turn-merges s) (s .standing .waits)
+
+  pub tidied-kept : {n′ : ℕ} {ps′ : List Pair} → KeptLiving t n n′ w ps ps′ → Tidied t n m j z n′ m j z w ps ps′
+  tidied-kept u = record {
+    stands = λ xs q. record {
+      many = q .many;
+      sets-few = q .sets-few;
+      held = q .held;
+      waits = waits-kept (q .waits) u;
+      weighed = q .weighed;
+      few = omega (arith, q .few, u .fewer);
+      size-is = q .size-is;
+    };
+    fewer = u .fewer;
+    weighed-same = refl;
+    rest = λ i l. u .rest i (omega (arith, turn-room s));
+  }
+
 -- ---- the run
 
 pub record Running (t : Tables) (n₀ m₀ j₀ z₀ n m j z : ℕ) (w₀ w : List ℕ) (ps₀ ps : List Pair) : Type 0 where
@@ -121,20 +134,24 @@ running-start {t} {w = w} s = record { only = only-refl (written t) w; some = s;
 
 module _ {t : Tables} {n₀ m₀ j₀ z₀ n m j z : ℕ} {w₀ w : List ℕ} {ps₀ ps : List Pair} (r : Running t n₀ m₀ j₀ z₀ n m j z w₀ w ps₀ ps) where
   module _ {n′ m′ j′ z′ : ℕ} {w′ : List ℕ} {ps′ : List Pair} (d : Turned t n m j z n′ m′ j′ z′ w w′ ps ps′) where
-    pub running-more : Running t n₀ m₀ j₀ z₀ n′ m′ j′ z′ w₀ w′ ps₀ ps′
-    running-more = record {
-      only = only-trans (r .only) (d .only);
-      some = record { groups = r .some .groups; standing = d .stands (r .some .groups) (r .some .standing) };
-      stands = λ xs s. d .stands xs (r .stands xs s);
-      rest = λ i l. d .rest i l ∙ r .rest i l;
-    }
+    pub turned-some : SomeStanding t n′ m′ j′ z′ w′ ps′
+    turned-some = record { groups = r .some .groups; standing = d .stands (r .some .groups) (r .some .standing) }
 
-    -- each turn there is less to come
-    pub running-less : room (t .groups) - m′ + n′ < room (t .groups) - m + n
-    running-less =
-        let a = weighed-room t (r .some .groups) n m j z w ps (r .some .standing) in
-        let b = weighed-room t (r .some .groups) n′ m′ j′ z′ w′ ps′ (d .stands (r .some .groups) (r .some .standing)) in
-        omega (arith, d .less)
+    module _ {n″ m″ j″ z″ : ℕ} {ps″ : List Pair} (u : Tidied t n′ m′ j′ z′ n″ m″ j″ z″ w′ ps′ ps″) where
+      pub running-more : Running t n₀ m₀ j₀ z₀ n″ m″ j″ z″ w₀ w′ ps₀ ps″
+      running-more = record {
+        only = only-trans (r .only) (d .only);
+        some = record { groups = r .some .groups; standing = u .stands (r .some .groups) (d .stands (r .some .groups) (r .some .standing)) };
+        stands = λ xs s. u .stands xs (d .stands xs (r .stands xs s));
+        rest = λ i l. u .rest i l ∙ d .rest i l ∙ r .rest i l;
+      }
+
+      -- each turn there is less to come
+      pub running-less : room (t .groups) - m″ + n″ < room (t .groups) - m + n
+      running-less =
+          let a = weighed-room t (r .some .groups) n m j z w ps (r .some .standing) in
+          let b = weighed-room t (r .some .groups) n′ m′ j′ z′ w′ ps′ (d .stands (r .some .groups) (r .some .standing)) in
+          omega (arith, d .less, u .fewer, u .weighed-same)
 
   pub running-done : n ≤ 0 → Ran t n₀ m₀ j₀ z₀ n m j z w₀ w ps₀ ps
   running-done l = record { only = r .only; stands = r .stands; done = omega arith; rest = r .rest }

@@ -1,6 +1,5 @@
 -- A state of the rule (rule's specs/Model.antt) in lent words and pair records. Assumes nothing.
 use mathlib.Core.Path.{_≡_}
-use mathlib.Core.Bool.{Bool, true, false}
 use mathlib.Core.Logic.{_≢_, _⊎_}
 use mathlib.Core.List.{List, [], _∷_}
 use Prim.Native.Nat.{ℕ, _+_, _-_, _*_, _≤_, _<_}
@@ -133,11 +132,6 @@ pub record JoinedAt (t : Tables) (p : Pair) (n m j z n′ m′ j′ z′ : ℕ) 
   pub one-more : j′ ≡ j + 1
   pub falls : z′ ≡ z - p .gain
 
--- whether the two of p live
-pub record BothLive (t : Tables) (p : Pair) (r : Bool) (w : List ℕ) : Type 0 where
-  pub yes-live : r ≡ true → (0 < placeOf t w (p .first)) × (0 < placeOf t w (p .second))
-  pub one-dead : r ≡ false → (placeOf t w (p .first) ≡ 0) ⊎ (placeOf t w (p .second) ≡ 0)
-
 -- ---- The groups that a run started from are known to no function below `optimize`: what each asks holds of some groups, and what each does of
 -- any that hold.
 
@@ -150,6 +144,13 @@ pub record Turned (t : Tables) (n m j z n′ m′ j′ z′ : ℕ) (w w′ : Lis
   pub only : Only (written t) w w′
   pub stands : (xs : List Group) → Standing t xs n m j z w ps → Standing t xs n′ m′ j′ z′ w′ ps′
   pub less : n′ + m < n + m′
+  pub rest : SameFrom ps (room (t .groups)) ps′
+
+-- fewer pairs wait, and none is lost whose two live
+pub record Tidied (t : Tables) (n m j z n′ m′ j′ z′ : ℕ) (w : List ℕ) (ps ps′ : List Pair) : Type 0 where
+  pub stands : (xs : List Group) → Standing t xs n m j z w ps → Standing t xs n′ m′ j′ z′ w ps′
+  pub fewer : n′ ≤ n
+  pub weighed-same : m′ ≡ m
   pub rest : SameFrom ps (room (t .groups)) ps′
 
 -- the whole run: nothing waits

@@ -5,12 +5,15 @@ use pairs::Pair;
 use pairs::take;
 use slots::Tables;
 use waits::Tally;
+use waits::keep_living;
+use waits::living;
 use waits::offer_all;
-ghost use Prim.Native.Nat.{_*_, _≤_, _<_};
+ghost use mathlib.Core.Path.{_≡_};
+ghost use Prim.Native.Nat.{_-_, _*_, _≤_, _<_};
+ghost use lib.Dec.{ltb};
 ghost use lib.ListN.{length};
-ghost use Rattle.slots.specs.Lent.{Laid};
 ghost use Rattle.waits.specs.Waits.{room};
-ghost use Rattle.merging.specs.Held.{BothLive, Joinable, JoinedAt, SomeStanding, Turned, Ran};
+ghost use Rattle.merging.specs.Held.{Joinable, JoinedAt, SomeStanding, Turned, Tidied, Ran};
 
 // How many pairs wait, were weighed and were joined, and what the groups cost together.
 pub struct Progress {
@@ -33,25 +36,6 @@ pub fn join(work: &mut [u32], t: Tables, s: Progress, p: Pair) -> Progress
         merges: s.merges + 1,
         size: s.size - p.gain as u64,
     }
-}
-
-// Whether both groups of the pair p live.
-pub fn living(work: &[u32], t: Tables, p: Pair) -> bool
-    requires { ⌜ Laid t (length (now work)) ⌝ }
-    requires { ⌜ p .first < 2 * t .groups ⌝ }
-    requires { ⌜ p .second < 2 * t .groups ⌝ }
-    ensures { λ r. ⌜ BothLive t p r (now (work .entry)) ⌝ }
-{
-    let place = t.place;
-    let first = p.first as usize;
-    let second = p.second as usize;
-    if work[place + first] == 0 {
-        return false;
-    }
-    if work[place + second] == 0 {
-        return false;
-    }
-    true
 }
 
 // Takes the best pair. Where both of its groups live it is joined, and what they become is weighed with each living group; else it is passed over.
@@ -85,6 +69,34 @@ pub fn turn(pairs: &mut [Pair], work: &mut [u32], t: Tables, s: Progress) -> Pro
     left
 }
 
+// Whether more pairs wait than twice those of the living groups: then half of them and more are of dead ones.
+pub fn crowded(t: Tables, s: Progress) -> bool
+    requires { ⌜ t .groups ≤ 1024 ⌝ }
+    requires { ⌜ s .merges ≤ t .groups ⌝ }
+    ensures { λ r. ⌜ r ≡ ltb ((t .groups - s .merges) * (t .groups - s .merges)) (s .waiting) ⌝ }
+{
+    let living = t.groups - s.merges;
+    living * living < s.waiting
+}
+
+// Where it is crowded, what waits of dead groups goes: else most of what is taken would be passed over.
+pub fn tidy(pairs: &mut [Pair], work: &[u32], t: Tables, s: Progress) -> Progress
+    requires { ⌜ SomeStanding t (s .waiting) (s .weighed) (s .merges) (s .size) (now work) (now pairs) ⌝ }
+    requires { ⌜ room (t .groups) ≤ length (now pairs) ⌝ }
+    ensures { λ r. ⌜ Tidied t (s .waiting) (s .weighed) (s .merges) (s .size) (r .waiting) (r .weighed) (r .merges) (r .size) (now (work .entry)) (now (pairs .entry)) (now (pairs .exit)) ⌝ }
+{
+    if crowded(t, s) {
+        let waiting = keep_living(pairs, work, t, s.waiting);
+        return Progress {
+            waiting,
+            weighed: s.weighed,
+            merges: s.merges,
+            size: s.size,
+        };
+    }
+    s
+}
+
 // Joins the best pair, until nothing waits.
 pub fn join_all(pairs: &mut [Pair], work: &mut [u32], t: Tables, start: Progress) -> Progress
     requires { ⌜ SomeStanding t (start .waiting) (start .weighed) (start .merges) (start .size) (now work) (now pairs) ⌝ }
@@ -93,7 +105,8 @@ pub fn join_all(pairs: &mut [Pair], work: &mut [u32], t: Tables, start: Progress
 {
     let mut s = start;
     while 0 < s.waiting {
-        s = turn(pairs, work, t, s);
+        let turned = turn(pairs, work, t, s);
+        s = tidy(pairs, work, t, turned);
     }
     s
 }

@@ -48,27 +48,28 @@ pub fn axes_and_modes() -> Run {
     Run::over(Share { noisy: 7, ..ALL }, cases::axes_and_modes)
 }
 
-/// All small jobs; those of up to two sets go through the library without exception.
+/// All small jobs; those of up to two sets (emulated: one) go through the library without
+/// exception.
 pub fn small() -> Run {
     let share = Share {
-        short: |job| job.chunks(12).filter(|record| record[0] == 3).count() <= 2,
+        short: |job| ends(job) <= 2 - usize::from(ivs::EMULATED),
         ..some(401, 2_001)
     };
     Run::over(share, cases::small)
 }
 
-/// All short sequences of records; those of up to three without exception.
+/// All short sequences of records; those of up to three (emulated: two) without exception.
 pub fn records() -> Run {
     let share = Share {
-        short: |job| job.len() <= 3 * 12,
-        ..some(1_201, 4_001)
+        short: |job| job.len() <= 12 * (3 - usize::from(ivs::EMULATED)),
+        ..some(1_201, 6_001)
     };
     Run::over(share, cases::records)
 }
 
 /// Every damage to one job.
 pub fn each_damage() -> Run {
-    Run::over(some(5, 101), cases::each_damage)
+    Run::over(some(5, 501), cases::each_damage)
 }
 
 /// The random jobs of some seeds.
@@ -120,6 +121,11 @@ const ALL: Share = Share {
     around: 1,
     noisy: 1,
 };
+
+/// The end records of a job.
+fn ends(job: &[u8]) -> usize {
+    job.chunks(12).filter(|record| record[0] == 3).count()
+}
 
 /// Some of the jobs, with memory just over each size.
 fn some(linked: usize, emulated: usize) -> Share {

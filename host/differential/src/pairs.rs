@@ -56,7 +56,11 @@ impl Pairs {
     pub fn ready(&mut self, count: usize) -> Result<(), String> {
         self.calls += 1;
         self.lent = std::mem::replace(&mut self.hold, Hold::Anything);
-        if self.calls < self.every && self.lent == Hold::Zeros {
+        if self.calls < self.every && self.lent != Hold::Anything {
+            if self.lent == Hold::Noise {
+                self.records.lend().fill(Pair::default());
+                self.lent = Hold::Zeros;
+            }
             self.records.again(count);
             return Ok(());
         }
@@ -165,6 +169,18 @@ mod tests {
         let mut pairs = ready(9);
         pairs.lend()[LOOKED].first ^= 1;
         pairs.ready(COUNT).unwrap();
+        assert_ne!(pairs.lend()[LOOKED], Pair::default());
         assert_eq!(pairs.left(true), Ok(()));
+    }
+
+    #[test]
+    fn noise_that_was_left_is_not_lent_again() {
+        let mut pairs = ready(2);
+        assert_eq!(pairs.left(true), Ok(()));
+        for noisy in [false, true] {
+            pairs.ready(COUNT).unwrap();
+            assert_eq!(pairs.lend()[COUNT - 1] != Pair::default(), noisy);
+            assert_eq!(pairs.left(true), Ok(()));
+        }
     }
 }

@@ -39,7 +39,8 @@ use denote.Triple.Walked.{needs, Stays, stay-slice, stay-none, walkOf, goes-slic
 use denote.Exit.{yes}
 use Rattle.waits.specs.Waits.{room}
 use Rattle.merging.specs.Held.{SomeStanding, Turned}
-use Rattle.merging.proofs.RunLaws.{first-lives, second-lives, turn-laid, turn-room, turn-merges, turn-ordered, turn-known, turned-dead, turn-joinable, turn-gain, turn-asked, turn-more, turned-joined}
+use Rattle.waits.proofs.WaitLaws.{first-lives, second-lives}
+use Rattle.merging.proofs.RunLaws.{turn-laid, turn-room, turn-merges, turn-ordered, turn-known, turned-dead, turn-joinable, turn-gain, turn-asked, turn-more, turned-joined}
 use Rattle.pairs.specs.declared.Pair.{Pair}
 use Rattle.pairs.proofs.Pair as T
 use Rattle.pairs.proofs.Pair.Laws as T′
@@ -59,9 +60,9 @@ use Rattle.merging.proofs.Calls.{mach, mach-tables, mach-tally, mach-pr
 use Rattle.pairs.proofs.take.Symbol as take-def
 use Rattle.pairs.proofs.take.Symbol.{name as #pairs·take}
 use Rattle.pairs.proofs.take.Met as take-thm
-use Rattle.merging.proofs.run.living.Symbol as living-def
-use Rattle.merging.proofs.run.living.Symbol.{name as #merging·living}
-use Rattle.merging.proofs.run.living.Met as living-thm
+use Rattle.waits.proofs.living.Symbol as living-def
+use Rattle.waits.proofs.living.Symbol.{name as #waits·living}
+use Rattle.waits.proofs.living.Met as living-thm
 use Rattle.merging.proofs.run.join.Symbol as join-def
 use Rattle.merging.proofs.run.join.Symbol.{name as #merging·join}
 use Rattle.merging.proofs.run.join.Met as join-thm
@@ -132,7 +133,7 @@ module _ {M : Type 1} (𝓤 : URA M) (H : Heap 𝓤) (A : Atoms 𝓤) (W : Given
       qed W (Slice pairs′ ∷ Slice₂ work′ ∷ []) ∵ suffices ! _ (ends-at 𝓤 H A turn.ended stayed (turn.clauses 𝓤 H A mem run) W bound (mach-progress r) r (pairs′, (work′, (tt, (tt, tt)))) (long, (long₂, (tt, (tt, tt))))) $
       split ! $ move ! (2 ∷ []) $ split ! $ nothing ! $ move ! (2 ∷ 0 ∷ []) $ join ! $ move ! (3 ∷ 0 ∷ []) $ join ! $ owned ! Z.the-row (Is Z.the-row) (LL.makes Z.the-type Z′.the-plain 𝓤 H A) r _ g $ nothing ! $ owned ! Z.the-row (Is Z.the-row) (LL.makes Z.the-type Z′.the-plain 𝓤 H A) s _ g-s $ fjoin ! $ owned ! L.the-row (Is L.the-row) (LL.makes L.the-type L′.the-plain 𝓤 H A) tb _ g-tb $ fjoin ! $ move ! (3 ∷ 0 ∷ []) $ fjoin ! $ move ! (3 ∷ 0 ∷ []) $ fjoin ! $ join ! $ move ! (1 ∷ 0 ∷ []) $ join ! $ frame ! $ use0 W (raw (fact 𝓤 (Turned tb (s .waiting) (s .weighed) (s .merges) (s .size) (r .waiting) (r .weighed) (r .merges) (r .size) work work′ pairs pairs′))) (factI 𝓤 (Turned tb (s .waiting) (s .weighed) (s .merges) (s .size) (r .waiting) (r .weighed) (r .merges) (r .size) work work′ pairs pairs′) (emp 𝓤) e) $ done !
 
-  module _ (𝓣 : AllCalls 𝓤 H) (known-take : Triple 𝓤 (𝓣 .C #pairs·take) (Take-of 𝓤 H A mem run)) (known-living : Triple 𝓤 (𝓣 .C #merging·living) (Living-of 𝓤 H A mem run)) (known-join : Triple 𝓤 (𝓣 .C #merging·join) (Join-of 𝓤 H A mem run)) (known-offer-all : Triple 𝓤 (𝓣 .C #waits·offer-all) (OfferAll-of 𝓤 H A mem run)) (sized : Room T.the-row ν) (sized₂ : Room u32 ν₂) (some : SomeStanding tb (s .waiting) (s .weighed) (s .merges) (s .size) work pairs) (waits-one : 0 < s .waiting) (enough : room (tb .groups) ≤ length pairs) where
+  module _ (𝓣 : AllCalls 𝓤 H) (known-take : Triple 𝓤 (𝓣 .C #pairs·take) (Take-of 𝓤 H A mem run)) (known-living : Triple 𝓤 (𝓣 .C #waits·living) (Living-of 𝓤 H A mem run)) (known-join : Triple 𝓤 (𝓣 .C #merging·join) (Join-of 𝓤 H A mem run)) (known-offer-all : Triple 𝓤 (𝓣 .C #waits·offer-all) (OfferAll-of 𝓤 H A mem run)) (sized : Room T.the-row ν) (sized₂ : Room u32 ν₂) (some : SomeStanding tb (s .waiting) (s .weighed) (s .merges) (s .size) work pairs) (waits-one : 0 < s .waiting) (enough : room (tb .groups) ≤ length pairs) where
     abbrev C : Calls 𝓤 H
     C = 𝓣 .C
 
@@ -168,7 +169,7 @@ module _ {M : Type 1} (𝓤 : URA M) (H : Heap 𝓤) (A : Atoms 𝓤) (W : Given
           assigns ! (addr ! (from ! (fld ! refl (hop ! (look-in ! 42 (sub ! 0 refl (whole !))) (stop !))))) (from ! (stop !)) (init ! 18 refl (tt, tt)) $
           assigns ! (agg ! (and-then ! (load ! (from ! (stop !)) (look ! 18 refl)) (and-then ! (load ! (from ! (fld ! refl (stop !))) (look-in ! 42 (sub ! 1 refl (whole !)))) (no-more !)))) (from ! (stop !)) (init ! 16 refl (tt, (tt, (record { fits = sized₂ .0 }, tt)))) $
           move ! (1 ∷ []) $
-          use1 W (later (raw (C #merging·living (σ₂ ∷ mach-tables tb ∷ mach p ∷ []) (λ w. mean 𝓤 H A (After-living-call 𝓤 H A W mem run C fm known-living κ₂ θ₂ γ₂ β₂ ι₂ ν₂ work tb p w))))) (living-call 𝓤 H A W mem run C fm known-living κ₂ θ₂ γ₂ β₂ ι₂ ν₂ work tb p refl g-tb (at-T p r-p g-p) ((turn-laid some, turn-known some (e-p .1) .0, turn-known some (e-p .1) .1))) $ await ! tt $
+          use1 W (later (raw (C #waits·living (σ₂ ∷ mach-tables tb ∷ mach p ∷ []) (λ w. mean 𝓤 H A (After-living-call 𝓤 H A W mem run C fm known-living κ₂ θ₂ γ₂ β₂ ι₂ ν₂ work tb p w))))) (living-call 𝓤 H A W mem run C fm known-living κ₂ θ₂ γ₂ β₂ ι₂ ν₂ work tb p refl g-tb (at-T p r-p g-p) ((turn-laid some, turn-known some (e-p .1) .0, turn-known some (e-p .1) .1))) $ await ! tt $
           calls ! fm (After-living-call 𝓤 H A W mem run C fm known-living κ₂ θ₂ γ₂ β₂ ι₂ ν₂ work tb p) (and-then ! (load ! (from ! (stop !)) (look ! 16 refl)) (and-then ! (load ! (from ! (stop !)) (look ! 40 refl)) (and-then ! (load ! (from ! (stop !)) (look ! 36 refl)) (no-more !)))) (λ r-both. await ! tt $ pick ! (λ both. pick ! (λ x-both. learn ! (λ e-both. split ! $ move ! (1 ∷ []) $ facts ! Boolean (Is Boolean) (shows 𝓤 H A Boolean) both (r-both ∷ []) (λ g-both.
           land ! (from ! (stop !)) (init ! 20 refl (bool-lawful 𝓤 H A W .typed both _ g-both .0)) $
           rewrite ! 20 (λ (u : Val). ‵ (fat fullShare (tyBool) l₁₃ 0 u)) (ap only g-both) refl $
@@ -244,15 +245,15 @@ module _ {M : Type 1} (𝓤 : URA M) (H : Heap 𝓤) (A : Atoms 𝓤) (W : Given
   abbrev Entry : SProp 𝓤
   Entry = onEntry 𝓤 H A turn.signature (κ, (κ₂, tt)) (θ, (θ₂, tt)) (bound .0 .3) (bound .0 .4)
 
-  starts : (𝓣 : AllCalls 𝓤 H) → Triple 𝓤 (𝓣 .C #pairs·take) (Take-of 𝓤 H A mem run) → Triple 𝓤 (𝓣 .C #merging·living) (Living-of 𝓤 H A mem run) → Triple 𝓤 (𝓣 .C #merging·join) (Join-of 𝓤 H A mem run) → Triple 𝓤 (𝓣 .C #waits·offer-all) (OfferAll-of 𝓤 H A mem run) → Room T.the-row ν → Room u32 ν₂ → ent 𝓤 (sep 𝓤 Entry (sep 𝓤 (fact 𝓤 (SomeStanding tb (s .waiting) (s .weighed) (s .merges) (s .size) work pairs)) (sep 𝓤 (fact 𝓤 (0 < s .waiting)) (fact 𝓤 (room (tb .groups) ≤ length pairs))))) (WpFn 𝓤 H (𝓣 .C) (𝓣 .Λ) code.function (σ ∷ σ₂ ∷ mach-tables tb ∷ mach-progress s ∷ []) Post)
+  starts : (𝓣 : AllCalls 𝓤 H) → Triple 𝓤 (𝓣 .C #pairs·take) (Take-of 𝓤 H A mem run) → Triple 𝓤 (𝓣 .C #waits·living) (Living-of 𝓤 H A mem run) → Triple 𝓤 (𝓣 .C #merging·join) (Join-of 𝓤 H A mem run) → Triple 𝓤 (𝓣 .C #waits·offer-all) (OfferAll-of 𝓤 H A mem run) → Room T.the-row ν → Room u32 ν₂ → ent 𝓤 (sep 𝓤 Entry (sep 𝓤 (fact 𝓤 (SomeStanding tb (s .waiting) (s .weighed) (s .merges) (s .size) work pairs)) (sep 𝓤 (fact 𝓤 (0 < s .waiting)) (fact 𝓤 (room (tb .groups) ≤ length pairs))))) (WpFn 𝓤 H (𝓣 .C) (𝓣 .Λ) code.function (σ ∷ σ₂ ∷ mach-tables tb ∷ mach-progress s ∷ []) Post)
   starts 𝓣 k-take k-living k-join k-offer-all sized sized₂ = needs-more 𝓤 (SomeStanding tb (s .waiting) (s .weighed) (s .merges) (s .size) work pairs) Entry (sep 𝓤 (fact 𝓤 (0 < s .waiting)) (fact 𝓤 (room (tb .groups) ≤ length pairs))) (λ l₀. needs-more 𝓤 (0 < s .waiting) Entry (fact 𝓤 (room (tb .groups) ≤ length pairs)) (λ l₁. needs 𝓤 (room (tb .groups) ≤ length pairs) Entry (λ l₂. walk 𝓣 k-take k-living k-join k-offer-all sized sized₂ l₀ l₁ l₂)))
 
 module _ {M : Type 1} (𝓤 : URA M) (H : Heap 𝓤) (A : Atoms 𝓤) (W : Given 𝓤 H A) (mem : Memory → SProp 𝓤) (run : Routine → Fun 𝓤) (𝓣 : AllCalls 𝓤 H) where
-  turn-walks : Triple 𝓤 (𝓣 .C #pairs·take) (Take-of 𝓤 H A mem run) → Triple 𝓤 (𝓣 .C #merging·living) (Living-of 𝓤 H A mem run) → Triple 𝓤 (𝓣 .C #merging·join) (Join-of 𝓤 H A mem run) → Triple 𝓤 (𝓣 .C #waits·offer-all) (OfferAll-of 𝓤 H A mem run) → Walks 𝓤 H A turn.ended stayed (WpFn 𝓤 H (𝓣 .C) (𝓣 .Λ) code.function) (turn.clauses 𝓤 H A mem run)
+  turn-walks : Triple 𝓤 (𝓣 .C #pairs·take) (Take-of 𝓤 H A mem run) → Triple 𝓤 (𝓣 .C #waits·living) (Living-of 𝓤 H A mem run) → Triple 𝓤 (𝓣 .C #merging·join) (Join-of 𝓤 H A mem run) → Triple 𝓤 (𝓣 .C #waits·offer-all) (OfferAll-of 𝓤 H A mem run) → Walks 𝓤 H A turn.ended stayed (WpFn 𝓤 H (𝓣 .C) (𝓣 .Λ) code.function) (turn.clauses 𝓤 H A mem run)
   turn-walks k-take k-living k-join k-offer-all = walked 𝓤 H A turn.ended stayed (turn.clauses 𝓤 H A mem run) (WpFn 𝓤 H (𝓣 .C) (𝓣 .Λ) code.function) (λ κs. (slice-vals, (slice-vals, (LL.vals L.the-type L′.the-laws, (LL.vals Z.the-type Z′.the-laws, tt))))) (λ κs. (mut-slice-tells (named 0) (κs .0) T.the-row, (mut-slice-tells (named 1) (κs .1 .0) u32, (LL.tells L.the-type L′.the-laws, (LL.tells Z.the-type Z′.the-laws, tt)))))
       (λ κs qs bounds a g are. starts 𝓤 H A W mem run (κs .0) (qs .0) (a .0 .name) (a .0 .ptr .0) (a .0 .ptr .1) (a .0 .now) (κs .1 .0) (qs .1 .0) (a .1 .0 .name) (a .1 .0 .ptr .0) (a .1 .0 .ptr .1) (a .1 .0 .now) (a .1 .1 .0) (a .1 .1 .1 .0) (are .1 .1 .0) (are .1 .1 .1 .0) 𝓣 k-take k-living k-join k-offer-all (are .0 .0 .1) (are .1 .0 .0 .1))
 
-  turn-meets : Triple 𝓤 (𝓣 .C #pairs·take) (Take-of 𝓤 H A mem run) → Triple 𝓤 (𝓣 .C #merging·living) (Living-of 𝓤 H A mem run) → Triple 𝓤 (𝓣 .C #merging·join) (Join-of 𝓤 H A mem run) → Triple 𝓤 (𝓣 .C #waits·offer-all) (OfferAll-of 𝓤 H A mem run) → Meets 𝓤 H A turn.signature (WpFn 𝓤 H (𝓣 .C) (𝓣 .Λ) code.function) (turn.spec 𝓤 H A mem run)
+  turn-meets : Triple 𝓤 (𝓣 .C #pairs·take) (Take-of 𝓤 H A mem run) → Triple 𝓤 (𝓣 .C #waits·living) (Living-of 𝓤 H A mem run) → Triple 𝓤 (𝓣 .C #merging·join) (Join-of 𝓤 H A mem run) → Triple 𝓤 (𝓣 .C #waits·offer-all) (OfferAll-of 𝓤 H A mem run) → Meets 𝓤 H A turn.signature (WpFn 𝓤 H (𝓣 .C) (𝓣 .Λ) code.function) (turn.spec 𝓤 H A mem run)
   turn-meets k-take k-living k-join k-offer-all = walk-meets 𝓤 H A turn.ended stayed W (goes-slice 𝓤 H A W 2 0 tt (plain (λ _. T.the-row)), (goes-slice 𝓤 H A W 2 1 tt (plain (λ _. u32)), (goes-none 𝓤 H A W 2 (λ _. L.the-row) yes (λ κs x f. refl), (goes-none 𝓤 H A W 2 (λ _. Z.the-row) yes (λ κs x f. refl), tt)))) (turn.clauses 𝓤 H A mem run) (WpFn 𝓤 H (𝓣 .C) (𝓣 .Λ) code.function) (WpFn-mono 𝓤 H (W .laws) 𝓣 code.function) (turn-walks k-take k-living k-join k-offer-all)
 
 pub turn-spec : {M : Type 1} → stated.statement M
@@ -262,6 +263,6 @@ turn-spec 𝓤 H 𝓜 𝓖 𝓡 =
     (tables 𝓤 H 𝓜 𝓡 code.env .C) (tables 𝓤 H 𝓜 𝓡 code.env .Λ) #merging·turn code.function (code.unfolded 𝓤 H 𝓜 𝓡)
     (turn-meets 𝓤 H (𝓖 .A) (givenOf 𝓤 H 𝓜 𝓖) (𝓜 .mem) (𝓡 .run) (tablesOf 𝓤 H 𝓜 (tables 𝓤 H 𝓜 𝓡 code.env))
     (cited 𝓤 H (Take-of 𝓤 H (𝓖 .A) (𝓜 .mem) (𝓡 .run)) 𝓜 𝓡 code.env #pairs·take take-def.routine code.calls-pairs·take (take-thm.met 𝓤 H 𝓜 𝓖 𝓡))
-    (cited 𝓤 H (Living-of 𝓤 H (𝓖 .A) (𝓜 .mem) (𝓡 .run)) 𝓜 𝓡 code.env #merging·living living-def.routine code.calls-merging·run·living (living-thm.met 𝓤 H 𝓜 𝓖 𝓡))
+    (cited 𝓤 H (Living-of 𝓤 H (𝓖 .A) (𝓜 .mem) (𝓡 .run)) 𝓜 𝓡 code.env #waits·living living-def.routine code.calls-waits·living (living-thm.met 𝓤 H 𝓜 𝓖 𝓡))
     (cited 𝓤 H (Join-of 𝓤 H (𝓖 .A) (𝓜 .mem) (𝓡 .run)) 𝓜 𝓡 code.env #merging·join join-def.routine code.calls-merging·run·join (join-thm.met 𝓤 H 𝓜 𝓖 𝓡))
     (cited 𝓤 H (OfferAll-of 𝓤 H (𝓖 .A) (𝓜 .mem) (𝓡 .run)) 𝓜 𝓡 code.env #waits·offer-all offer-all-def.routine code.calls-waits·offer-all (offer-all-thm.met 𝓤 H 𝓜 𝓖 𝓡)))

@@ -3,8 +3,8 @@ use mathlib.Core.Logic.{inl, inr}
 use Prim.Native.Nat.{ℕ}
 use native.Mathlib.Omega.{arith}
 use borrow.Author.Needs.{needs}
-use Rattle.merging.proofs.run.living.Statement.{statement}
-use Rattle.merging.proofs.run.living.Tie as tie
+use Rattle.waits.proofs.living.Statement.{statement}
+use Rattle.waits.proofs.living.Tie as tie
 
 cast-first : tie.Need-cast-first
 cast-first c = search needs
