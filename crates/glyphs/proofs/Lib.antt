@@ -6,3 +6,4 @@ pub mod AnswerLaws
 pub mod ReadLaws
 pub mod BackLaws
 pub mod Worked
+pub mod SmallLaws
