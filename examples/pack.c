@@ -13,10 +13,12 @@
 uint32_t build(uint32_t axes, const uint8_t *job, size_t records, uint8_t *out, size_t out_len, uint32_t *ids,
                uint32_t *map, size_t sets, uint64_t report[16]) {
     static uint32_t log[3 * 1023];
+    static ivs_pair pairs[IVS_PAIRS]; /* 12 MiB, for every job */
     size_t words = ivs_work_words(records);
     uint32_t *work = malloc(4 * words + 4); /* never null, also for no words */
     if (!work) abort();
-    uint32_t number = ivs_build(axes, 0, job, 12 * records, work, words, out, out_len, ids, sets, map, sets, log, 3 * 1023, report);
+    uint32_t number = ivs_build(axes, 0, job, 12 * records, work, words, pairs, IVS_PAIRS, out, out_len, ids, sets, map, sets,
+                                log, 3 * 1023, report);
     free(work);
     return number; /* 0, or the refusal, with its place in report[1] */
 }

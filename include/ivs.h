@@ -12,24 +12,33 @@
 extern "C" {
 #endif
 
-/* The 32-bit words of work that a job of so many records needs; 0 above the record limit (1,048,576). */
+/* The 32-bit words of work that a job of r records needs, 16 r + min(r, 1,024)^2; 0 above the record limit (1,048,576). */
 size_t ivs_work_words(size_t records);
+
+/* A record for a pair of groups that waits to be merged: room that is lent, with nothing in it for who lends it. */
+typedef struct {
+    uint32_t gain, first, second;
+} ivs_pair;
+
+/* The pair records that a build needs, whatever its job is. */
+#define IVS_PAIRS 1048576
 
 /* One build: a job (records of 12 bytes) into a store. The mode is 0 deduplicating or 1 implicit indices. The answer is the refusal number,
  * 0 for done (1 BAD_AXES, 2 BAD_MODE, 3 BAD_JOB_LENGTH, 4 WORK_SHORT, 5 BAD_RECORD, 6 UNKNOWN_REGION, 7 REGION_TWICE, 8 UNFINISHED,
  * 9 SETS_FULL, 10 SHAPES_FULL, 11 IDS_SHORT, 12 MAP_SHORT, 13 LOG_SHORT, 14 OUT_SHORT).
  *
- * Lent: work, as many words as ivs_work_words says; out, for the store's bytes; ids, a word for each set, its id; map, a word for each
- * distinct id, outer x 65,536 + inner; log, 3 words for each shape but one, of which each merge fills 3: first number, second number, gain.
- * What they hold before does not matter. What is not written is left as it was, and a refusal writes nothing to out, ids, map and log. Work is
- * left as it was by 1 to 4, and all zeros after every other answer.
+ * Lent: work, as many words as ivs_work_words says; pairs, at least IVS_PAIRS records; out, for the store's bytes; ids, a word for each set,
+ * its id; map, a word for each distinct id, outer x 65,536 + inner; log, 3 words for each shape but one, of which each merge fills 3: first
+ * number, second number, gain. What they hold before does not matter. What is not written is left as it was, and a refusal writes nothing to
+ * out, ids, map and log. Work and pairs are left as they were by 1 to 4, and all zeros, to the last word and record, after every other answer.
+ * Too few words of work and too few pairs are both WORK_SHORT.
  *
  * The report has 16 words, and all are written: 0 the number, 1 the place (the record's index from 0 for 5, 6, 7 and 9, the record count for
  * 8, else 0), 2 store bytes, 3 subtables, 4 regions kept, 5 distinct ids, 6 N (shapes before merging), 7 merges, 8 pairs weighed, 9 modelled
  * size before merging, 10 after, 11 forecast, 12 to 15 zero. A refusal has zeros from 2 on. */
-uint32_t ivs_build(uint32_t axes, uint32_t mode, const uint8_t *job, size_t job_len, uint32_t *work, size_t work_len, uint8_t *out,
-                   size_t out_len, uint32_t *ids, size_t ids_len, uint32_t *map, size_t map_len, uint32_t *log, size_t log_len,
-                   uint64_t *report);
+uint32_t ivs_build(uint32_t axes, uint32_t mode, const uint8_t *job, size_t job_len, uint32_t *work, size_t work_len, ivs_pair *pairs,
+                   size_t pairs_len, uint8_t *out, size_t out_len, uint32_t *ids, size_t ids_len, uint32_t *map, size_t map_len,
+                   uint32_t *log, size_t log_len, uint64_t *report);
 
 /* The value of a region of the store's list in row `inner` of subtable `outer`. High half: 0 written, 1 no column (which means zero), else
  * the refusal number (20 BAD_STORE, 21 NO_ROW, 22 NO_REGION); low half: the value's 32 bits, 0 unless written. Any bytes may be read. */

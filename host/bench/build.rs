@@ -8,11 +8,12 @@ use std::path::PathBuf;
 use std::process::Command;
 
 /// The crate, and those that it reaches.
-const CRATES: [&str; 8] = [
+const CRATES: [&str; 9] = [
     "laws",
     "shapes",
     "rule",
     "queue",
+    "pairs",
     "slots",
     "waits",
     "merging",

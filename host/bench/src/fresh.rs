@@ -1,12 +1,15 @@
-//! Words as the system gives them: newly mapped, all zeros, no page touched yet. An
-//! allocator would soon lend the same pages again.
+//! Words and pair records as the system gives them: newly mapped, all zeros, no page touched
+//! yet. An allocator would soon lend the same pages again.
 
 // It calls what is not Rust.
 #![allow(unsafe_code)]
 
 use std::ffi::c_void;
+use std::mem::size_of;
 use std::ptr;
 use std::slice;
+
+use ivs::Pair;
 
 extern "C" {
     /// POSIX.
@@ -29,16 +32,30 @@ const READ_AND_WRITE: i32 = 1 | 2;
 /// Linux's `MAP_PRIVATE | MAP_ANONYMOUS`.
 const PRIVATE_AND_ANONYMOUS: i32 = 0x02 | 0x20;
 
-/// Words that are mapped for this alone, and given back when it is dropped.
-pub struct Fresh {
-    at: *mut u32,
+/// Words or records that are mapped for this alone, and given back when it is dropped.
+pub struct Fresh<T> {
+    at: *mut T,
     count: usize,
 }
 
-impl Fresh {
+impl Fresh<u32> {
     /// So many words, at least one.
-    pub fn words(count: usize) -> Fresh {
-        let bytes = 4 * count;
+    pub fn words(count: usize) -> Fresh<u32> {
+        Fresh::zeros(count)
+    }
+}
+
+impl Fresh<Pair> {
+    /// So many pair records, at least one.
+    pub fn pairs(count: usize) -> Fresh<Pair> {
+        Fresh::zeros(count)
+    }
+}
+
+impl<T> Fresh<T> {
+    /// So many of a type of which zeros are one: the two above.
+    fn zeros(count: usize) -> Fresh<T> {
+        let bytes = size_of::<T>() * count;
         // SAFETY: the system chooses where, so nothing that is there already is mapped over.
         let at = unsafe {
             mmap(
@@ -57,18 +74,18 @@ impl Fresh {
         }
     }
 
-    /// The words.
-    pub fn all(&mut self) -> &mut [u32] {
-        // SAFETY: as many words are mapped, zeros or what was written to them, at the start
-        // of a page; they are this one's alone until it is dropped.
+    /// All of them.
+    pub fn all(&mut self) -> &mut [T] {
+        // SAFETY: as many are mapped, zeros or what was written to them, at the start of a
+        // page; they are this one's alone until it is dropped.
         unsafe { slice::from_raw_parts_mut(self.at, self.count) }
     }
 }
 
-impl Drop for Fresh {
+impl<T> Drop for Fresh<T> {
     fn drop(&mut self) {
         // SAFETY: it was mapped with this length, and no borrow of it is left.
-        let status = unsafe { munmap(self.at.cast(), 4 * self.count) };
+        let status = unsafe { munmap(self.at.cast(), size_of::<T>() * self.count) };
         debug_assert_eq!(status, 0, "what was mapped is given back");
     }
 }

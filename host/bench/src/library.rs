@@ -1,13 +1,15 @@
 //! The proved merging (`crates/merging`), called through `crates/merging_bench`.
 //!
 //! The contract asks for tables in lent words (`Ready` in `crates/merging/specs`,
-//! with `Laid` in `crates/slots/specs`); [`optimize`] lays them out anew before each
-//! call, so that it is met.
+//! with `Laid` in `crates/slots/specs`) and for pair records; [`optimize`] lays the tables
+//! out anew before each call and lends as many records as a build does, so that it is met.
 
 // It calls what is not Rust.
 #![allow(unsafe_code)]
 
 use std::time::Duration;
+
+use ivs::{Pair, PAIRS};
 
 use crate::clock::cpu_time;
 
@@ -34,6 +36,8 @@ pub struct Outcome {
 extern "C" {
     /// `crates/merging_bench/src/lib.rt`; a slice is a pointer and a length.
     fn fenikezo_optimize(
+        pairs: *mut Pair,
+        pairs_len: usize,
         work: *mut u32,
         work_len: usize,
         regions: usize,
@@ -46,7 +50,6 @@ extern "C" {
         columns: usize,
         into: usize,
         log: usize,
-        heap: usize,
         told: *mut u64,
         told_len: usize,
     ) -> usize;
@@ -64,7 +67,6 @@ struct Tables {
     columns: usize,
     into: usize,
     log: usize,
-    heap: usize,
     end: usize,
 }
 
@@ -78,8 +80,6 @@ impl Tables {
         let columns = rows + groups;
         let into = columns + groups;
         let log = into + 2 * groups;
-        let heap = log + 3 * groups;
-        let waiting = groups.saturating_sub(1).pow(2);
         Tables {
             order,
             counts,
@@ -88,25 +88,46 @@ impl Tables {
             columns,
             into,
             log,
-            heap,
-            end: heap + 3 * waiting,
+            end: log + 3 * groups,
         }
     }
 }
 
+/// What is lent, used again from call to call.
+#[derive(Default)]
+pub struct Memory {
+    pairs: Vec<Pair>,
+    work: Vec<u32>,
+}
+
+impl Memory {
+    /// Noise in all pair records, and in so many words.
+    fn noise(&mut self, words: usize) {
+        let pair = Pair {
+            gain: NOISE,
+            first: NOISE,
+            second: NOISE,
+        };
+        self.pairs.clear();
+        self.pairs.resize(PAIRS, pair);
+        self.work.clear();
+        self.work.resize(words, NOISE);
+    }
+}
+
 /// Merges the groups, which lie in slots as they are given and are numbered as
-/// `order` says: number i is group `order[i]`. `work` is used again from call to
-/// call, and is filled with noise before the tables are laid out in it.
+/// `order` says: number i is group `order[i]`. What is lent is filled with noise
+/// before the tables are laid out in it.
 ///
 /// # Panics
 /// Where the groups are not as the contract asks.
-pub fn optimize(groups: &[Group], order: &[usize], work: &mut Vec<u32>) -> Outcome {
+pub fn optimize(groups: &[Group], order: &[usize], lent: &mut Memory) -> Outcome {
     let count = groups.len();
     let regions = groups.first().map_or(0, |g| g.shape.len());
     check(groups, order, regions);
     let t = Tables::new(count, regions);
-    work.clear();
-    work.resize(t.end, NOISE);
+    lent.noise(t.end);
+    let Memory { pairs, work } = lent;
     for (s, group) in groups.iter().enumerate() {
         work[s * regions..(s + 1) * regions].copy_from_slice(&group.shape);
         work[t.counts + s] = group.sets;
@@ -116,13 +137,15 @@ pub fn optimize(groups: &[Group], order: &[usize], work: &mut Vec<u32>) -> Outco
     }
     let mut told = [0; 3];
     let began = cpu_time();
-    // SAFETY: both pointers come with the lengths of what they point to, which
+    // SAFETY: all pointers come with the lengths of what they point to, which
     // nothing else holds, and the contract's `requires` are met: `check` has seen
     // few groups and regions, narrow shapes, a slot of its own for each number and
-    // few sets, `Tables::new` lays the tables one behind the other, and `told` has
-    // three words.
+    // few sets, `Tables::new` lays the tables one behind the other, there are as many
+    // pair records as 1,024 groups ask for, and `told` has three words.
     let merges = unsafe {
         fenikezo_optimize(
+            pairs.as_mut_ptr(),
+            pairs.len(),
             work.as_mut_ptr(),
             work.len(),
             regions,
@@ -135,7 +158,6 @@ pub fn optimize(groups: &[Group], order: &[usize], work: &mut Vec<u32>) -> Outco
             t.columns,
             t.into,
             t.log,
-            t.heap,
             told.as_mut_ptr(),
             told.len(),
         )

@@ -5,7 +5,7 @@ use std::time::{Duration, Instant};
 
 use crate::clock::cpu_time;
 use crate::inputs::{input, Input, Kind};
-use crate::library;
+use crate::library::{self, Memory};
 
 /// Kind, shapes, regions.
 const INPUTS: [(Kind, usize, usize); 8] = [
@@ -68,7 +68,7 @@ fn same(input: &Input) -> (usize, u64) {
     let job = &input.job;
     let (_, trace) = oracle::build_traced(job.axes as u16, 0, &job.regions, &job.sets)
         .expect("the source is there");
-    let ours = library::optimize(&input.groups, &input.order, &mut Vec::new());
+    let ours = library::optimize(&input.groups, &input.order, &mut Memory::default());
     assert_eq!(trace.shapes, input.groups.len() as u64, "groups");
     assert!(trace.log == ours.log, "the merges differ");
     assert_eq!([trace.size_before, trace.size_after], ours.sizes, "sizes");
@@ -78,7 +78,7 @@ fn same(input: &Input) -> (usize, u64) {
 /// The best times of several runs, in turn, so that both meet the same machine.
 fn times(input: &Input) -> Best {
     let job = &input.job;
-    let mut work = Vec::new();
+    let mut lent = Memory::default();
     let mut best = Best {
         library: Duration::MAX,
         optimize: Duration::MAX,
@@ -91,7 +91,7 @@ fn times(input: &Input) -> Best {
         }
         let source = oracle::build_timed(job.axes as u16, &job.regions, &job.sets, cpu_time)
             .expect("the source is there");
-        let ours = library::optimize(&input.groups, &input.order, &mut work);
+        let ours = library::optimize(&input.groups, &input.order, &mut lent);
         best.optimize = best.optimize.min(source.optimize);
         best.build = best.build.min(source.build);
         best.library = best.library.min(ours.took);

@@ -3,7 +3,7 @@
 use std::time::{Duration, Instant};
 
 use differential::known::Source;
-use ivs::{Done, Lent, Packed};
+use ivs::{Done, Lent, Packed, Pair, PAIRS};
 
 use crate::clearing::split;
 use crate::clock::{cpu_time, time};
@@ -24,13 +24,13 @@ pub const MOST: usize = 400;
 pub struct Best {
     /// The source, from its empty builder to store and map.
     pub source: Duration,
-    /// The library, with the same work lent each time.
+    /// The library, with the same work and pair records lent each time.
     pub warm: Duration,
-    /// Of it the clearing of work.
+    /// Of it the clearing of both.
     pub clearing: Duration,
     /// And the rest.
     pub rest: Duration,
-    /// The library, with work newly mapped.
+    /// The library, with work and pair records newly mapped.
     pub fresh: Duration,
 }
 
@@ -79,7 +79,7 @@ fn same(workload: &Workload, packed: Packed) {
     held.unwrap_or_else(|what| panic!("{}: {what}", workload.name));
 }
 
-/// What is lent beside work.
+/// What is lent beside work and pair records.
 struct Buffers {
     out: Vec<u8>,
     ids: Vec<u32>,
@@ -98,9 +98,10 @@ impl Buffers {
         }
     }
 
-    fn lent<'a>(&'a mut self, work: &'a mut [u32]) -> Lent<'a> {
+    fn lent<'a>(&'a mut self, work: &'a mut [u32], pairs: &'a mut [Pair]) -> Lent<'a> {
         Lent {
             work,
+            pairs,
             out: &mut self.out,
             ids: &mut self.ids,
             map: &mut self.map,
@@ -119,12 +120,12 @@ fn times(
 ) -> Best {
     let Workload { mode, job, .. } = workload;
     let axes = job.axes as u32;
-    let mut build = |work: &mut [u32]| {
-        let done = ivs::build_into(axes, *mode, bytes, &mut buffers.lent(work));
+    let mut build = |work: &mut [u32], pairs: &mut [Pair]| {
+        let done = ivs::build_into(axes, *mode, bytes, &mut buffers.lent(work, pairs));
         assert_eq!(done, Ok(due), "the same each time");
     };
-    let mut warm = vec![0; words];
-    build(&mut warm);
+    let (mut work, mut pairs) = (vec![0; words], vec![Pair::default(); PAIRS]);
+    build(&mut work, &mut pairs);
     let mut best = Best {
         source: Duration::MAX,
         warm: Duration::MAX,
@@ -139,16 +140,16 @@ fn times(
         }
         let took = oracle::build_whole(axes as u16, *mode, &job.regions, &job.sets, cpu_time);
         best.source = best.source.min(took.expect("the source is there"));
-        let took = split(&mut warm, &mut build);
+        let took = split(&mut work, &mut pairs, &mut build);
         best.warm = best.warm.min(took.whole);
-        best.clearing = best.clearing.min(took.whole - took.before);
-        best.rest = best.rest.min(took.before);
-        let (work, took) = time(|| {
-            let mut work = Fresh::words(words);
-            build(work.all());
-            work
+        best.clearing = best.clearing.min(took.whole - took.rest);
+        best.rest = best.rest.min(took.rest);
+        let (mapped, took) = time(|| {
+            let (mut work, mut pairs) = (Fresh::words(words), Fresh::pairs(PAIRS));
+            build(work.all(), pairs.all());
+            (work, pairs)
         });
-        drop(work);
+        drop(mapped);
         best.fresh = best.fresh.min(took);
     }
     best

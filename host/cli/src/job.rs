@@ -1,6 +1,6 @@
 //! A job taken apart.
 
-use ivs::{Lent, Refused, Tent};
+use ivs::{Lent, Pair, Refused, Tent};
 
 const RECORD: usize = 12;
 /// The first refusal that is about lent memory or about building, and not about the job.
@@ -43,6 +43,7 @@ impl Job {
 fn check(axes: u32, bytes: &[u8]) -> Result<(), Refused> {
     let mut lent = Lent {
         work: &mut vec![0; ivs::work_words(bytes.len() / RECORD)],
+        pairs: &mut vec![Pair::default(); ivs::PAIRS],
         out: &mut [],
         ids: &mut [],
         map: &mut [],

@@ -2,10 +2,7 @@
 
 use ivs::{Refused, Tent};
 
-const BAD_STORE: Refused = Refused {
-    number: 20,
-    place: 0,
-};
+const BAD_STORE: Refused = Refused::bare(20);
 
 pub struct Store<'a> {
     bytes: &'a [u8],

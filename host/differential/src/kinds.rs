@@ -1,19 +1,32 @@
 //! The runs, one for each kind of jobs: the program and the tests make the same.
 
 use crate::run::{Run, Share};
-use crate::{cases, replay, sizes, stores, Case};
+use crate::{built, cases, replay, sizes, stores, Case};
 use std::ops::Range;
 
 /// The seeds of a run: 20,000 random jobs, and as many damaged ones.
 pub const SEEDS: Range<u64> = 0..20_000;
 
 /// One random job in so many has its lent memory around each size, and so has one damaged
-/// job in so many: together 20,000 of a run, both modes counted.
-const AROUND: usize = 4;
+/// job in so many of those that are taken.
+const AROUND: usize = 20;
+
+/// Where there are many calls, the pair records hold noise in one of so many. A prime, so
+/// that no size of lent memory falls in step with it.
+const NOISY: usize = 61;
 
 /// The source's recorded answers.
 pub fn recorded() -> Run {
-    replay::all(&replay::folder()).unwrap_or_else(|what| {
+    replayed(replay::all(&replay::folder()))
+}
+
+/// The list of cases with all that a build answers and leaves.
+pub fn built() -> Run {
+    replayed(built::all(&replay::folder()))
+}
+
+fn replayed(run: Result<Run, String>) -> Run {
+    run.unwrap_or_else(|what| {
         let mut run = Run::default();
         run.plain.count(Err(what));
         run
@@ -22,52 +35,56 @@ pub fn recorded() -> Run {
 
 /// Document 01's examples.
 pub fn examples() -> Run {
-    Run::over(share(1, 1), cases::examples)
+    Run::over(ALL, cases::examples)
 }
 
 /// The edges of document 01.
 pub fn edges() -> Run {
-    Run::over(share(1, 0), cases::edges)
+    Run::over(Share { around: 0, ..ALL }, cases::edges)
 }
 
 /// Axis counts and modes, good and bad.
 pub fn axes_and_modes() -> Run {
-    Run::over(share(1, 1), cases::axes_and_modes)
+    Run::over(Share { noisy: 7, ..ALL }, cases::axes_and_modes)
 }
 
 /// All small jobs.
 pub fn small() -> Run {
-    Run::over(share(77, 0), cases::small)
+    Run::over(some(201, 801), cases::small)
 }
 
 /// All short sequences of records.
 pub fn records() -> Run {
-    Run::over(share(211, 0), cases::records)
+    Run::over(some(601, 6_001), cases::records)
 }
 
 /// Every damage to one job.
 pub fn each_damage() -> Run {
-    Run::over(share(25, 0), cases::each_damage)
+    Run::over(some(5, 501), cases::each_damage)
 }
 
 /// The random jobs of some seeds.
 pub fn random(seeds: &Range<u64>) -> Run {
-    Run::over(share(31, AROUND), |visit| {
-        cases::random(seeds.clone(), visit)
-    })
+    let share = Share {
+        around: AROUND,
+        ..some(1, 31)
+    };
+    Run::over(share, |visit| cases::random(seeds.clone(), visit))
 }
 
 /// The same jobs, damaged.
 pub fn damaged(seeds: &Range<u64>) -> Run {
-    Run::over(share(31, AROUND), |visit| {
-        cases::damaged(seeds.clone(), visit);
-    })
+    let share = Share {
+        around: AROUND,
+        ..some(3, 31)
+    };
+    Run::over(share, |visit| cases::damaged(seeds.clone(), visit))
 }
 
 /// Large random jobs, one for four hundred of the others.
 pub fn large(seeds: &Range<u64>) -> Run {
-    let some = seeds.start..seeds.start + (seeds.end - seeds.start) / 400;
-    Run::over(share(11, 0), |visit| cases::large(some, visit))
+    let few = seeds.start..seeds.start + (seeds.end - seeds.start) / 400;
+    Run::over(some(1, 11), |visit| cases::large(few, visit))
 }
 
 /// The plain reading in memory around each size, on one random job in twenty.
@@ -87,6 +104,20 @@ pub fn stores(seeds: &Range<u64>) -> Run {
     stores::damaged(some, 120)
 }
 
-fn share(emulated: usize, around: usize) -> Share {
-    Share { emulated, around }
+/// All jobs, with memory around each size, and noise in all of it in every call.
+const ALL: Share = Share {
+    linked: 1,
+    emulated: 1,
+    around: 1,
+    noisy: 1,
+};
+
+/// Some of the jobs, with memory just over each size.
+fn some(linked: usize, emulated: usize) -> Share {
+    Share {
+        linked,
+        emulated,
+        around: 0,
+        noisy: NOISY,
+    }
 }

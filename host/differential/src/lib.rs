@@ -7,19 +7,23 @@
 //! * [`known`]: what the plain reading and the source say of one job.
 //! * [`check`]: what is compared of that.
 //! * [`laws`]: what must hold of an answer, whoever gave it.
-//! * [`proved`]: the proved build and reader, in lent memory that holds [`noise`].
-//! * [`replay`]: the recorded answers, without the source.
+//! * [`proved`]: the proved build and reader, in lent memory that holds [`noise`];
+//!   [`pairs`]: the part of it that is large for every job.
+//! * [`replay`]: the recorded answers, without the source; [`built`]: a list of cases with
+//!   all that a build answers and leaves.
 //! * [`run`]: all of it over some jobs, counted; [`kinds`]: the runs that are made.
 //! * [`sizes`]: lent memory around each size that is asked for.
 //! * [`stores`]: the reader on damaged stores.
 //! * [`Tally`]: how many comparisons held.
 
+pub mod built;
 pub mod cases;
 pub mod check;
 pub mod kinds;
 pub mod known;
 pub mod laws;
 pub mod noise;
+pub mod pairs;
 pub mod proved;
 pub mod replay;
 pub mod run;

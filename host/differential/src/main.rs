@@ -22,17 +22,21 @@ fn main() -> ExitCode {
     if !oracle::PRESENT {
         println!("built without the source: recorded answers and laws only");
     }
-    if ivs::EMULATED {
-        println!("the proved library is emulated: it is asked some of the jobs only");
-    }
+    let fewer = if ivs::EMULATED {
+        ", and fewer since it is emulated"
+    } else {
+        ""
+    };
+    println!("the proved library is asked some of the jobs{fewer}");
     println!("{:30} {:^17} {:^28}", "", "plain reading", "proved library");
     println!(
         "{:30} {:>9} {:>7} {:>9} {:>7} {:>11} {:>8}",
         "", "passed", "failed", "passed", "failed", "with source", "seconds"
     );
     let mut all = Tally::default();
-    let runs: [(&str, &dyn Fn() -> Run); 12] = [
+    let runs: [(&str, &dyn Fn() -> Run); 13] = [
         ("recorded answers", &kinds::recorded),
+        ("built cases", &kinds::built),
         ("examples", &kinds::examples),
         ("edges", &kinds::edges),
         ("axis counts and modes", &kinds::axes_and_modes),

@@ -1,12 +1,13 @@
 //! What lent memory holds before a call: noise, which is told apart from anything that a
 //! call leaves there. It repeats after so many words, so that it is copied and not made.
 
+use ivs::Pair;
 use std::sync::OnceLock;
 
 /// A prime, so that no table of a call falls in step with it.
 const PERIOD: usize = 16_381;
 
-/// A word or byte of lent memory.
+/// A word, byte or record of lent memory.
 pub trait Noisy: Copy + PartialEq + std::fmt::Debug + 'static {
     /// Zero.
     const ZERO: Self;
@@ -39,6 +40,24 @@ impl Noisy for u8 {
     }
 }
 
+impl Noisy for Pair {
+    const ZERO: Pair = Pair {
+        gain: 0,
+        first: 0,
+        second: 0,
+    };
+
+    fn noise() -> &'static [Pair] {
+        static PAIRS: OnceLock<Vec<Pair>> = OnceLock::new();
+        let pair = |&word: &u32| Pair {
+            gain: word,
+            first: !word,
+            second: word.rotate_left(7),
+        };
+        PAIRS.get_or_init(|| words().iter().map(pair).collect())
+    }
+}
+
 /// So many words of noise to lend, with more of it on both sides.
 #[derive(Default)]
 pub struct Guarded<T> {
@@ -52,6 +71,16 @@ const SIDE: usize = 19;
 impl<T: Noisy> Guarded<T> {
     /// Noise everywhere, of which so many words are lent.
     pub fn fill(&mut self, count: usize) {
+        self.words.clear();
+        fill(&mut self.words, SIDE + count + SIDE);
+        self.count = count;
+    }
+
+    /// So many words are lent: as many as before stay as they are, more are zeros. Noise on
+    /// both sides.
+    pub fn again(&mut self, count: usize) {
+        self.words.truncate(SIDE + self.count.min(count));
+        self.words.resize(SIDE + count, T::ZERO);
         fill(&mut self.words, SIDE + count + SIDE);
         self.count = count;
     }
@@ -61,9 +90,9 @@ impl<T: Noisy> Guarded<T> {
         &mut self.words[SIDE..SIDE + self.count]
     }
 
-    /// What is lent.
+    /// What is lent; nothing at first.
     pub fn lent(&self) -> &[T] {
-        &self.words[SIDE..SIDE + self.count]
+        self.words.get(SIDE..SIDE + self.count).unwrap_or_default()
     }
 
     /// The first word past the first `count` that are lent, or on a side, that does not
@@ -75,13 +104,13 @@ impl<T: Noisy> Guarded<T> {
     }
 }
 
-/// So many words of noise.
+/// Noise behind what there is, up to so many words.
 fn fill<T: Noisy>(words: &mut Vec<T>, count: usize) {
-    words.clear();
-    words.reserve(count);
+    words.reserve(count - words.len());
     while words.len() < count {
-        let part = PERIOD.min(count - words.len());
-        words.extend_from_slice(&T::noise()[..part]);
+        let noise = &T::noise()[words.len() % PERIOD..];
+        let part = noise.len().min(count - words.len());
+        words.extend_from_slice(&noise[..part]);
     }
 }
 
@@ -132,6 +161,12 @@ mod tests {
         for (at, place) in [(SIDE + 5, 5), (SIDE - 1, -1)] {
             lent.words[at] ^= 1;
             assert_eq!(lent.spoilt_past(5), Some(place));
+        }
+        lent.fill(5);
+        lent.lend().fill(1);
+        for (count, due) in [(7, &[1, 1, 1, 1, 1, 0, 0][..]), (3, &[1, 1, 1])] {
+            lent.again(count);
+            assert_eq!((lent.lent(), lent.spoilt_past(count)), (due, None));
         }
         let mut zeros = vec![0u8; 3_000];
         assert_eq!(not_zero(&zeros), None);

@@ -5,6 +5,7 @@
 use crate::check::same;
 use crate::known::{Known, Source};
 use crate::noise::{not_zero, Guarded, Noisy};
+use crate::pairs::Pairs;
 use crate::{laws, sizes, Case};
 use ivs::Lent;
 use jobs::{hex, RECORD};
@@ -13,14 +14,30 @@ use plain::{Done, Refused, Sizes};
 /// What the plain reading answers.
 type Said = Result<Done, Refused>;
 
-/// Lent memory, used again from call to call.
+/// Lent memory, used again from call to call; of itself with noise in all of it each time.
 #[derive(Default)]
 pub struct Buffers {
     work: Guarded<u32>,
+    pairs: Pairs,
     out: Guarded<u8>,
     ids: Guarded<u32>,
     map: Guarded<u32>,
     log: Guarded<u32>,
+}
+
+impl Buffers {
+    /// Noise in every call, but in the pair records only in the first of every so many.
+    pub fn noisy_in_one_of(every: usize) -> Buffers {
+        Buffers {
+            pairs: Pairs::noisy_in_one_of(every),
+            ..Buffers::default()
+        }
+    }
+
+    /// What the last calls left in the pair records, where that was not looked at in full.
+    pub fn unseen(&self) -> Result<(), String> {
+        self.pairs.unseen()
+    }
 }
 
 /// Compares on one job with a little more memory than it asks for.
@@ -35,7 +52,7 @@ pub fn case(case: &Case<'_>, known: &Known, buffers: &mut Buffers) -> Result<(),
 pub fn around(case: &Case<'_>, known: &Known, buffers: &mut Buffers) -> Result<(), String> {
     let said = &known.said;
     for (lent, refusal) in sizes::around(&least(case, said)) {
-        // Of an unsound job the refusal shows whatever is lent, work excepted.
+        // Of an unsound job the refusal shows whatever is lent, work and pairs excepted.
         let short = refusal.filter(|&number| said.is_ok() || number == plain::number::WORK_SHORT);
         let held = match short {
             Some(number) if tests_work(said) => {
@@ -104,6 +121,7 @@ fn least(case: &Case<'_>, said: &Said) -> Sizes {
         Ok(done) => sizes::least(case.job, done),
         Err(_) => Sizes {
             work: plain::work_words(case.job.len() / RECORD),
+            pairs: plain::PAIRS,
             out: 40,
             ids: 6,
             map: 5,
@@ -116,6 +134,7 @@ fn least(case: &Case<'_>, said: &Said) -> Sizes {
 fn over(least: &Sizes) -> Sizes {
     Sizes {
         work: least.work + 3,
+        pairs: least.pairs + 6,
         out: least.out + 5,
         ids: least.ids + 2,
         map: least.map + 1,
@@ -132,6 +151,7 @@ fn compare(
     buffers: &mut Buffers,
 ) -> Result<(), String> {
     buffers.work.fill(sizes.work);
+    buffers.pairs.ready(sizes.pairs)?;
     buffers.out.fill(sizes.out);
     buffers.ids.fill(sizes.ids);
     buffers.map.fill(sizes.map);
@@ -139,6 +159,7 @@ fn compare(
     let mut report: [u64; 16] = std::array::from_fn(|i| u64::from(u32::noise()[i]) << 17);
     let mut lent = Lent {
         work: buffers.work.lend(),
+        pairs: buffers.pairs.lend(),
         out: buffers.out.lend(),
         ids: buffers.ids.lend(),
         map: buffers.map.lend(),
@@ -152,7 +173,7 @@ fn compare(
 }
 
 /// What stands in the lent memory: what was due, then noise.
-fn left(buffers: &Buffers, due: &Said) -> Result<(), String> {
+fn left(buffers: &mut Buffers, due: &Said) -> Result<(), String> {
     let (store, ids, map, log): (&[u8], &[u32], &[u32], &[u32]) = match due {
         Ok(done) => (&done.store, &done.ids, &done.map, &done.log),
         Err(_) => (&[], &[], &[], &[]),
@@ -161,18 +182,16 @@ fn left(buffers: &Buffers, due: &Said) -> Result<(), String> {
     begins("ids", &buffers.ids, ids)?;
     begins("map", &buffers.map, map)?;
     begins("log", &buffers.log, log)?;
-    match due {
-        Err(refused) if refused.number <= plain::number::WORK_SHORT => {
-            begins("work", &buffers.work, &[])
-        }
-        _ => {
-            let work = buffers.work.lent();
-            past("work", &buffers.work, work.len())?;
-            match not_zero(work) {
-                None => Ok(()),
-                Some(at) => Err(format!("work: {} at {at}", work[at])),
-            }
-        }
+    let early = matches!(due, Err(refused) if refused.number <= plain::number::WORK_SHORT);
+    buffers.pairs.left(early)?;
+    if early {
+        return begins("work", &buffers.work, &[]);
+    }
+    let work = buffers.work.lent();
+    past("work", &buffers.work, work.len())?;
+    match not_zero(work) {
+        None => Ok(()),
+        Some(at) => Err(format!("work: {} at {at}", work[at])),
     }
 }
 

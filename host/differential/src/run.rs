@@ -22,17 +22,40 @@ pub struct Run {
 /// How many of the jobs that are shown go through the proved build.
 #[derive(Clone, Copy)]
 pub struct Share {
-    /// Where the library is emulated, one in so many (odd, so that both modes come up).
+    /// One in so many (odd, so that both modes come up): a build clears 12 MiB of pair
+    /// records, whatever its job is.
+    pub linked: usize,
+    /// One in so many where the library is emulated (odd, too).
     pub emulated: usize,
-    /// One in so many of them with memory around each size, and not just over it; 0: none.
+    /// One in so many of all jobs with memory around each size, where it is taken at all,
+    /// and not just over it; 0: none.
     pub around: usize,
+    /// The pair records hold noise in one call of so many, and are looked at in full.
+    pub noisy: usize,
+}
+
+impl Share {
+    /// One in so many goes through the proved build here.
+    fn taken(self) -> usize {
+        if ivs::EMULATED {
+            self.emulated
+        } else {
+            self.linked
+        }
+    }
 }
 
 impl Run {
     /// Compares on all cases that are shown.
     pub fn over(share: Share, cases: impl FnOnce(&mut dyn FnMut(&Case<'_>))) -> Run {
-        let mut run = Run::default();
+        let mut run = Run {
+            buffers: Buffers::noisy_in_one_of(share.noisy),
+            ..Run::default()
+        };
         cases(&mut |case| run.case(share, case));
+        if let Err(what) = run.buffers.unseen() {
+            run.proved.count(Err(what));
+        }
         run
     }
 
@@ -41,7 +64,7 @@ impl Run {
         self.plain.count(check::case(case, &known));
         let number = self.cases;
         self.cases += 1;
-        if ivs::EMULATED && number % share.emulated != 0 {
+        if number % share.taken() != 0 {
             return;
         }
         // Cases come in pairs, one of each mode.

@@ -9,6 +9,7 @@ use plain::{number, Counts, Done, Sizes};
 pub fn least(job: &[u8], done: &Done) -> Sizes {
     Sizes {
         work: plain::work_words(job.len() / RECORD),
+        pairs: plain::PAIRS,
         out: done.store.len(),
         ids: done.ids.len(),
         map: done.map.len(),
@@ -26,8 +27,9 @@ fn log_words(counts: &Counts) -> usize {
 /// answers.
 pub fn around(least: &Sizes) -> Vec<(Sizes, Option<u32>)> {
     type Field = fn(&mut Sizes) -> &mut usize;
-    let fields: [(u32, Field); 5] = [
+    let fields: [(u32, Field); 6] = [
         (number::WORK_SHORT, |s| &mut s.work),
+        (number::WORK_SHORT, |s| &mut s.pairs),
         (number::IDS_SHORT, |s| &mut s.ids),
         (number::MAP_SHORT, |s| &mut s.map),
         (number::LOG_SHORT, |s| &mut s.log),

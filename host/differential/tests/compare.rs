@@ -21,6 +21,14 @@ fn recorded_answers() {
 }
 
 #[test]
+fn built_cases() {
+    let run = kinds::built();
+    held("built cases", &run);
+    let few = "few built cases";
+    assert!(run.proved.passed >= 60, "{few}: {}", run.proved.passed);
+}
+
+#[test]
 fn examples_of_the_document() {
     held("examples", &kinds::examples());
 }

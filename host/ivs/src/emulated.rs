@@ -1,8 +1,11 @@
 //! As raw.rs, for machines other than x86-64, where `libivs.a` cannot be linked: the
 //! calls go through a pipe to src/served.c, which runs under the emulator of Rattle's kit.
 //! Slow, and meant for trying and testing only.
+//!
+//! Pair records are 12 MiB for every build, and mostly zeros before and after it: zeros are
+//! told by a word and not sent.
 
-use crate::Lent;
+use crate::{Lent, Pair};
 use std::io::{BufReader, BufWriter, Read, Write};
 use std::process::{ChildStdin, ChildStdout, Command, Stdio};
 use std::sync::{Mutex, OnceLock};
@@ -34,6 +37,7 @@ pub fn read(store: &[u8], outer: u32, inner: u32, region: u32) -> u64 {
 fn ask_alone(what: [u64; 4], bytes: &[u8]) -> u64 {
     let nothing = &mut Lent {
         work: &mut [],
+        pairs: &mut [],
         out: &mut [],
         ids: &mut [],
         map: &mut [],
@@ -78,17 +82,22 @@ impl Server {
         let lengths = [
             job.len(),
             lent.work.len(),
+            lent.pairs.len(),
             lent.out.len(),
             lent.ids.len(),
             lent.map.len(),
             lent.log.len(),
         ];
+        let held = lent.pairs.iter().any(|pair| *pair != Pair::default());
         let head = what.into_iter().chain(lengths.map(|length| length as u64));
-        for word in head {
+        for word in head.chain([held.into()]) {
             self.to.write_all(&word.to_le_bytes())?;
         }
         self.to.write_all(job)?;
         self.give_words(lent.work)?;
+        if held {
+            self.give_pairs(lent.pairs)?;
+        }
         self.to.write_all(lent.out)?;
         self.give_words(lent.ids)?;
         self.give_words(lent.map)?;
@@ -100,6 +109,11 @@ impl Server {
         let answer = self.take_word()?;
         if what[0] == BUILD {
             self.take_words(lent.work)?;
+            match self.take_word()? {
+                0 if held => lent.pairs.fill(Pair::default()),
+                0 => {}
+                _ => self.take_pairs(lent.pairs)?,
+            }
             self.from.read_exact(lent.out)?;
             self.take_words(lent.ids)?;
             self.take_words(lent.map)?;
@@ -121,6 +135,21 @@ impl Server {
         self.from.read_exact(&mut bytes)?;
         for (word, bytes) in words.iter_mut().zip(bytes.chunks_exact(4)) {
             *word = u32::from_le_bytes([bytes[0], bytes[1], bytes[2], bytes[3]]);
+        }
+        Ok(())
+    }
+
+    fn give_pairs(&mut self, pairs: &[Pair]) -> std::io::Result<()> {
+        let words = |pair: &Pair| [pair.gain, pair.first, pair.second];
+        let words: Vec<u32> = pairs.iter().flat_map(words).collect();
+        self.give_words(&words)
+    }
+
+    fn take_pairs(&mut self, pairs: &mut [Pair]) -> std::io::Result<()> {
+        let mut words = vec![0; 3 * pairs.len()];
+        self.take_words(&mut words)?;
+        for (pair, words) in pairs.iter_mut().zip(words.chunks_exact(3)) {
+            [pair.gain, pair.first, pair.second] = [words[0], words[1], words[2]];
         }
         Ok(())
     }

@@ -2,7 +2,8 @@
 //!
 //! * [`JobWriter`]: a job's bytes out of regions and sets.
 //! * [`pack`]: a job into a store, in memory of its own.
-//! * [`build_into`]: the same in lent memory; [`build_report`] with the bare report.
+//! * [`build_into`]: the same in lent memory, which may be lent again from build to build;
+//!   [`build_report`] with the bare report.
 //! * [`read`]: one value of a store, whatever its bytes are.
 //!
 //! No input makes a call go wrong: it is done exactly, or refused by number and place
@@ -23,20 +24,38 @@ mod raw;
 mod refusals;
 mod writer;
 
-pub use refusals::Refused;
+pub use refusals::{Refused, Short};
 pub use writer::{JobError, JobWriter, Tent};
 
-use refusals::{OUT_SHORT, RECORD};
+use refusals::{OUT_SHORT, RECORD, WORK_SHORT};
 
 /// The library runs under an emulator, since this machine is no x86-64: slow, so that
 /// tests take fewer jobs.
 pub const EMULATED: bool = cfg!(not(target_arch = "x86_64"));
+
+/// A record for a pair of groups that waits to be merged: room that is lent, with nothing
+/// in it for who lends it.
+#[repr(C)]
+#[derive(Clone, Copy, Debug, Default, PartialEq, Eq)]
+pub struct Pair {
+    /// The bytes that joining the two would save.
+    pub gain: u32,
+    /// The smaller of the two groups' numbers.
+    pub first: u32,
+    /// The other.
+    pub second: u32,
+}
+
+/// The pair records that a build needs, whatever its job is: 12 MiB.
+pub const PAIRS: usize = 1_048_576;
 
 /// Memory lent to a build.
 pub struct Lent<'a> {
     /// As many words as [`work_words`] says; all zeros after a call that was not refused
     /// by 1 to 4.
     pub work: &'a mut [u32],
+    /// At least [`PAIRS`] records; all zeros after a call that was not refused by 1 to 4.
+    pub pairs: &'a mut [Pair],
     /// The store's bytes.
     pub out: &'a mut [u8],
     /// The n-th word is the n-th set's id.
@@ -100,8 +119,8 @@ pub enum Reading {
 /// The words of work that a job of so many records needs; 0 above the record limit.
 ///
 /// ```
-/// assert_eq!(ivs::work_words(1), 20);
-/// assert_eq!(ivs::work_words(1_048_576), 16 * 1_048_576 + 4_194_304);
+/// assert_eq!(ivs::work_words(1), 17);
+/// assert_eq!(ivs::work_words(1_048_576), 16 * 1_048_576 + 1_048_576);
 /// assert_eq!(ivs::work_words(1_048_577), 0);
 /// ```
 pub fn work_words(records: usize) -> usize {
@@ -117,9 +136,11 @@ pub fn work_words(records: usize) -> usize {
 /// let job = writer.finish();
 ///
 /// let mut work = vec![0; ivs::work_words(job.len() / 12)];
+/// let mut pairs = vec![ivs::Pair::default(); ivs::PAIRS];
 /// let (mut out, mut ids, mut map) = ([0xFF; 40], [0; 1], [0; 1]);
 /// let mut lent = ivs::Lent {
 ///     work: &mut work,
+///     pairs: &mut pairs,
 ///     out: &mut out,
 ///     ids: &mut ids,
 ///     map: &mut map,
@@ -127,7 +148,18 @@ pub fn work_words(records: usize) -> usize {
 /// };
 /// let done = ivs::build_into(1, 0, &job, &mut lent)?;
 /// assert_eq!((done.store_bytes, done.forecast), (31, 31));
-/// assert_eq!(out[29..33], [0, 10, 0xFF, 0xFF]);      // past the store nothing is written
+/// assert_eq!(lent.out[29..33], [0, 10, 0xFF, 0xFF]); // past the store nothing is written
+/// assert_eq!(ivs::build_into(1, 0, &job, &mut lent), Ok(done)); // the same memory, once more
+///
+/// lent.pairs = &mut lent.pairs[1..];
+/// let refused = ivs::build_into(1, 0, &job, &mut lent).unwrap_err();
+/// assert_eq!((refused.number, refused.short), (4, Some(ivs::Short::Pairs(1_048_576))));
+/// lent.work = &mut lent.work[1..];                   // tested before the pair records
+/// let refused = ivs::build_into(1, 0, &job, &mut lent).unwrap_err();
+/// assert_eq!(
+///     refused.to_string(),
+///     "4 WORK_SHORT: the words of work lent are too few; lend 57 of them"
+/// );
 /// # Ok::<(), Box<dyn std::error::Error>>(())
 /// ```
 pub fn build_into(axes: u32, mode: u32, job: &[u8], lent: &mut Lent<'_>) -> Result<Done, Refused> {
@@ -148,8 +180,22 @@ pub fn build_into(axes: u32, mode: u32, job: &[u8], lent: &mut Lent<'_>) -> Resu
         number => Err(Refused {
             number,
             place: report[1],
+            short: short(number, job, lent),
         }),
     }
+}
+
+/// What WORK_SHORT is about: words of work are tested before pair records.
+fn short(number: u32, job: &[u8], lent: &Lent<'_>) -> Option<Short> {
+    if number != WORK_SHORT {
+        return None;
+    }
+    let words = work_words(job.len() / RECORD);
+    Some(if lent.work.len() < words {
+        Short::Work(words)
+    } else {
+        Short::Pairs(PAIRS)
+    })
 }
 
 /// One build in lent memory, with the report as the library fills it (include/ivs.h).
@@ -164,7 +210,8 @@ pub fn build_report(
     raw::build(axes, mode, job, lent, report)
 }
 
-/// One build in memory of its own.
+/// One build in memory of its own, given back at the end: where many jobs follow one
+/// another, [`build_into`] can lend the same to all.
 ///
 /// ```
 /// let mut job = ivs::JobWriter::new(1);
@@ -187,6 +234,7 @@ pub fn pack(axes: u32, mode: u32, job: &[u8]) -> Result<Packed, Refused> {
     let records = job.len() / RECORD;
     let sets = job.chunks_exact(RECORD).filter(|r| r[0] == 3).count();
     let mut work = vec![0; work_words(records)];
+    let mut pairs = vec![Pair::default(); PAIRS];
     let (mut ids, mut map) = (vec![0; sets], vec![0; sets]);
     let mut log = vec![0; 3 * 1_023];
     // Enough in mode 0: an axis takes 6 bytes, a value's column and row at most 12, a
@@ -195,6 +243,7 @@ pub fn pack(axes: u32, mode: u32, job: &[u8]) -> Result<Packed, Refused> {
     loop {
         let mut lent = Lent {
             work: &mut work,
+            pairs: &mut pairs,
             out: &mut out,
             ids: &mut ids,
             map: &mut map,
@@ -240,6 +289,6 @@ pub fn read(store: &[u8], outer: u32, inner: u32, region: u32) -> Result<Reading
     match (word >> 32) as u32 {
         0 => Ok(Reading::Written(word as u32 as i32)),
         1 => Ok(Reading::NoColumn),
-        number => Err(Refused { number, place: 0 }),
+        number => Err(Refused::bare(number)),
     }
 }

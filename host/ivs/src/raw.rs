@@ -4,13 +4,16 @@
 //! The proved contracts ask for nothing, so no number and no content of a slice is tested
 //! here. What the C boundary leaves open is what a pointer with a length may be, and of
 //! that Rust's slices hold all: never null, aligned, as long as said, the lent ones apart.
-//! Left is that both sides mean the same by `usize`, which is tested when this is compiled.
+//! Left is that both sides mean the same by `usize` and by a pair record, which is tested
+//! when this is compiled.
 
 #![allow(unsafe_code)]
 
-use crate::Lent;
+use crate::{Lent, Pair};
+use std::mem::size_of;
 
 const _: () = assert!(usize::BITS == 64, "the library is for pointers of 64 bits");
+const _: () = assert!(size_of::<Pair>() == 12, "a pair record is three words");
 
 extern "C" {
     // crates/ivs/src/lib.rt; a slice is a pointer and a length.
@@ -23,6 +26,8 @@ extern "C" {
         job_len: usize,
         work: *mut u32,
         work_len: usize,
+        pairs: *mut Pair,
+        pairs_len: usize,
         out: *mut u8,
         out_len: usize,
         ids: *mut u32,
@@ -55,6 +60,8 @@ pub fn build(axes: u32, mode: u32, job: &[u8], lent: &mut Lent<'_>, report: &mut
             job.len(),
             lent.work.as_mut_ptr(),
             lent.work.len(),
+            lent.pairs.as_mut_ptr(),
+            lent.pairs.len(),
             lent.out.as_mut_ptr(),
             lent.out.len(),
             lent.ids.as_mut_ptr(),

@@ -6,7 +6,7 @@ use std::fmt;
 /// Bytes of a job's record.
 pub(crate) const RECORD: usize = 12;
 
-/// A call that was refused: nothing was written to what was lent, but for work.
+/// A call that was refused: nothing was written to what was lent, but for work and pairs.
 ///
 /// ```
 /// // A value record that names region 7, of which there is none.
@@ -24,12 +24,35 @@ pub struct Refused {
     pub number: u32,
     /// The record's index from 0 for 5, 6, 7 and 9; the record count for 8; else 0.
     pub place: u64,
+    /// For 4 what was short, as lent to [`crate::build_into`]; else none.
+    pub short: Option<Short>,
 }
+
+/// What WORK_SHORT is about, and how much of it is needed.
+#[derive(Clone, Copy, Debug, PartialEq, Eq)]
+pub enum Short {
+    /// Words of work.
+    Work(usize),
+    /// Pair records.
+    Pairs(usize),
+}
+
+/// WORK_SHORT, of which there are two kinds.
+pub(crate) const WORK_SHORT: u32 = 4;
 
 /// OUT_SHORT, the one refusal that [`crate::pack`] answers itself.
 pub(crate) const OUT_SHORT: u32 = 14;
 
 impl Refused {
+    /// The refusal of that number, with no place.
+    pub const fn bare(number: u32) -> Refused {
+        Refused {
+            number,
+            place: 0,
+            short: None,
+        }
+    }
+
     /// The refusal's name in document 01.
     pub fn name(&self) -> &'static str {
         self.words().0
@@ -53,10 +76,14 @@ impl Refused {
                 "the job is no whole number of records of 12 bytes, or has more than 1,048,576",
                 "look whether the job was cut off, or make it smaller",
             ),
-            4 => (
+            WORK_SHORT => (
                 "WORK_SHORT",
-                "the work lent is too small",
-                "lend as many words as work_words says",
+                match self.short {
+                    None => "the work or the pair records lent are too few",
+                    Some(Short::Work(_)) => "the words of work lent are too few",
+                    Some(Short::Pairs(_)) => "the pair records lent are too few",
+                },
+                "lend as many words as work_words says, and 1,048,576 pair records",
             ),
             5 => (
                 "BAD_RECORD",
@@ -140,8 +167,62 @@ impl fmt::Display for Refused {
             8 => write!(f, " after record {} (byte {byte})", self.place)?,
             _ => {}
         }
-        write!(f, ": {what}; {remedy}")
+        match self.short {
+            None => write!(f, ": {what}; {remedy}"),
+            Some(Short::Work(needed) | Short::Pairs(needed)) => {
+                write!(f, ": {what}; lend {} of them", grouped(needed))
+            }
+        }
     }
 }
 
+/// A number with a comma before every three digits from the right.
+fn grouped(number: usize) -> String {
+    let digits = number.to_string();
+    let comma = |at: usize| at > 0 && (digits.len() - at) % 3 == 0;
+    let mut said = String::new();
+    for (at, digit) in digits.chars().enumerate() {
+        if comma(at) {
+            said.push(',');
+        }
+        said.push(digit);
+    }
+    said
+}
+
 impl Error for Refused {}
+
+#[cfg(test)]
+mod tests {
+    use super::*;
+
+    #[test]
+    fn numbers_are_grouped() {
+        let said = [0, 17, 999, 1_000, 65_536, 1_048_576].map(grouped);
+        assert_eq!(said, ["0", "17", "999", "1,000", "65,536", "1,048,576"]);
+    }
+
+    #[test]
+    fn what_was_short_is_said() {
+        let said = |short| {
+            let refused = Refused {
+                short,
+                ..Refused::bare(WORK_SHORT)
+            };
+            refused.to_string()
+        };
+        assert_eq!(
+            said(Some(Short::Work(1_049_600))),
+            "4 WORK_SHORT: the words of work lent are too few; lend 1,049,600 of them"
+        );
+        assert_eq!(
+            said(Some(Short::Pairs(crate::PAIRS))),
+            "4 WORK_SHORT: the pair records lent are too few; lend 1,048,576 of them"
+        );
+        assert_eq!(
+            said(None),
+            "4 WORK_SHORT: the work or the pair records lent are too few; \
+             lend as many words as work_words says, and 1,048,576 pair records"
+        );
+    }
+}

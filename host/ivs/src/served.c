@@ -2,16 +2,21 @@
  * library cannot be linked and this program runs under the emulator of Rattle's kit
  * (src/emulated.rs asks). It has no C library: three system calls and memset.
  *
- * A question is 10 words of 64 bits (what is asked, three numbers, the lengths of job,
- * work, out, ids, map and log), then what is lent, the report of 16 words last. The answer
- * is a word, then of a build everything lent but the job. */
+ * A question is 12 words of 64 bits (what is asked, three numbers, the lengths of job,
+ * work, pairs, out, ids, map and log, and whether the pairs hold anything), then what is
+ * lent, the report of 16 words last. The answer is a word, then of a build everything lent
+ * but the job, with a word before the pairs that says whether they hold anything. Pairs
+ * that hold nothing are zeros, and are not sent. */
 typedef unsigned char u8;
 typedef unsigned int u32;
 typedef unsigned long u64;
+typedef struct {
+    u32 gain, first, second;
+} pair;
 
 u64 ivs_work_words(u64 records);
-u32 ivs_build(u32 axes, u32 mode, const u8 *job, u64 job_len, u32 *work, u64 work_len, u8 *out, u64 out_len, u32 *ids,
-              u64 ids_len, u32 *map, u64 map_len, u32 *log, u64 log_len, u64 *report);
+u32 ivs_build(u32 axes, u32 mode, const u8 *job, u64 job_len, u32 *work, u64 work_len, pair *pairs, u64 pairs_len,
+              u8 *out, u64 out_len, u32 *ids, u64 ids_len, u32 *map, u64 map_len, u32 *log, u64 log_len, u64 *report);
 u64 ivs_read(const u8 *store, u64 store_len, u32 outer, u32 inner, u32 region);
 
 static long system_call(long number, long a, long b, long c, long d, long e, long f) {
@@ -56,19 +61,75 @@ static void give(const u8 *at, u64 count) {
     }
 }
 
-/* What is lent lies in here, each part at a multiple of 16. */
+/* Whether a byte of these is not zero; so many words at a time, which the compiler makes wide. */
+static int holds(const u8 *at, u64 count) {
+    while (count >= 512) {
+        u64 any = 0;
+        for (int i = 0; i < 64; i++) any |= ((const u64 *)at)[i];
+        if (any) return 1;
+        at += 512;
+        count -= 512;
+    }
+    for (; count > 0; count--)
+        if (*at++) return 1;
+    return 0;
+}
+
+/* What is lent lies in here, each part at a multiple of 16; the pairs apart from the rest, so that they need not be
+ * cleared again where they have not been written to. */
 #define ROOM (1ul << 30)
+#define PAIRS_ROOM (1ul << 25)
+
+/* The parts of a question, with the bytes of one of each. */
+enum { JOB, WORK, PAIRS, OUT, IDS, MAP, LOG, REPORT, PARTS };
+static const u64 size[PARTS] = {1, 4, sizeof(pair), 1, 4, 4, 4, 8};
+
+/* So many bytes of the pairs' room, from its start, may be other than zero. */
+static u64 used_pairs;
+
+/* The pairs of a question. */
+static void take_pairs(u8 *pairs, u64 bytes, u64 held) {
+    if (bytes > PAIRS_ROOM) leave(3);
+    if (held) {
+        take(pairs, bytes);
+        if (used_pairs < bytes) used_pairs = bytes;
+    } else {
+        memset(pairs, 0, used_pairs);
+        used_pairs = 0;
+    }
+}
+
+/* The pairs of an answer. */
+static void give_pairs(const u8 *pairs, u64 bytes) {
+    u64 held = (u64)holds(pairs, bytes);
+    if (used_pairs <= bytes) used_pairs = held ? bytes : 0;
+    give((u8 *)&held, sizeof held);
+    if (held) give(pairs, bytes);
+}
+
+static u64 build(const u64 *asked, const u64 *count, u8 **at) {
+    return ivs_build((u32)asked[1], (u32)asked[2], at[JOB], count[JOB], (u32 *)at[WORK], count[WORK], (pair *)at[PAIRS],
+                     count[PAIRS], at[OUT], count[OUT], (u32 *)at[IDS], count[IDS], (u32 *)at[MAP], count[MAP],
+                     (u32 *)at[LOG], count[LOG], (u64 *)at[REPORT]);
+}
 
 __attribute__((force_align_arg_pointer)) void _start(void) {
-    u8 *room = (u8 *)system_call(9, 0, ROOM, 3, 0x4022, -1, 0);
+    u8 *room = (u8 *)system_call(9, 0, ROOM + PAIRS_ROOM, 3, 0x4022, -1, 0);
     if ((long)room < 0) leave(2);
     for (;;) {
-        u64 asked[10], bytes[7], answer, used = 0;
-        u8 *at[7];
+        u64 asked[12], bytes[PARTS], answer, used = 0;
+        const u64 *count = asked + 4;
+        u8 *at[PARTS];
         take((u8 *)asked, sizeof asked);
-        for (int i = 0; i < 7; i++) {
-            u64 length = i < 6 ? asked[4 + i] : 16;
-            bytes[i] = length * (i == 0 || i == 2 ? 1 : i < 6 ? 4 : 8);
+        u64 held = asked[11];
+        asked[11] = 16; /* words of the report */
+        for (int i = 0; i < PARTS; i++) {
+            bytes[i] = count[i] * size[i];
+            if (i == PAIRS) {
+                at[i] = room + ROOM;
+                take_pairs(at[i], bytes[i], held);
+                continue;
+            }
             at[i] = room + used;
             used += (bytes[i] + 31) / 16 * 16;
             if (used > ROOM) leave(3);
@@ -77,13 +138,18 @@ __attribute__((force_align_arg_pointer)) void _start(void) {
         if (asked[0] == 0) {
             answer = ivs_work_words(asked[1]);
         } else if (asked[0] == 1) {
-            answer = ivs_build((u32)asked[1], (u32)asked[2], at[0], asked[4], (u32 *)at[1], asked[5], at[2], asked[6],
-                               (u32 *)at[3], asked[7], (u32 *)at[4], asked[8], (u32 *)at[5], asked[9], (u64 *)at[6]);
+            answer = build(asked, count, at);
         } else {
-            answer = ivs_read(at[0], asked[4], (u32)asked[1], (u32)asked[2], (u32)asked[3]);
+            answer = ivs_read(at[JOB], count[JOB], (u32)asked[1], (u32)asked[2], (u32)asked[3]);
         }
         give((u8 *)&answer, sizeof answer);
-        if (asked[0] == 1)
-            for (int i = 1; i < 7; i++) give(at[i], bytes[i]);
+        if (asked[0] != 1) continue;
+        for (int i = WORK; i < PARTS; i++) {
+            if (i == PAIRS) {
+                give_pairs(at[i], bytes[i]);
+            } else {
+                give(at[i], bytes[i]);
+            }
+        }
     }
 }

@@ -12,11 +12,16 @@ fn root() -> PathBuf {
 
 /// The program that C's compiler makes of examples/pack.c, under a name of the test's own.
 fn program(name: &str) -> PathBuf {
+    compiled(name, Path::new("examples/pack.c"))
+}
+
+/// The program that C's compiler makes of a file.
+fn compiled(name: &str, source: &Path) -> PathBuf {
     let program = Path::new(env!("CARGO_TARGET_TMPDIR")).join(name);
     let made = Command::new("cc")
         .args(["-std=c99", "-Wall", "-Wextra", "-pedantic", "-Werror"])
         .arg("-Iinclude")
-        .arg("examples/pack.c")
+        .arg(source)
         .args([env!("IVS_ARCHIVE"), "-o"])
         .arg(&program)
         .current_dir(root())
@@ -72,4 +77,44 @@ fn no_records_at_all() {
     assert_eq!(output.status.code(), Some(0));
     let said = String::from_utf8(output.stdout).unwrap();
     assert_eq!(said, "store 000100000008000000010000\n");
+}
+
+/// A job of no records needs no work, and pair records as every other: one fewer is refused,
+/// with all of them left as they were; else those that are lent are zeros, and no more.
+const PAIRS: &str = r#"
+#include "ivs.h"
+
+typedef char a_pair_has_twelve_bytes[sizeof(ivs_pair) == 12 ? 1 : -1];
+
+static ivs_pair pairs[IVS_PAIRS + 1];
+
+static uint32_t build(size_t count) {
+    static uint8_t job[1], out[12];
+    static uint32_t work[1], ids[1], map[1], log[1];
+    uint64_t report[16];
+    return ivs_build(1, 0, job, 0, work, 0, pairs, count, out, sizeof out, ids, 1, map, 1, log, 1, report);
+}
+
+static size_t sevens(void) {
+    size_t held = 0;
+    for (size_t i = 0; i <= IVS_PAIRS; i++) held += pairs[i].gain == 7 && pairs[i].first == 7 && pairs[i].second == 7;
+    return held;
+}
+
+int main(void) {
+    for (size_t i = 0; i <= IVS_PAIRS; i++) pairs[i].gain = pairs[i].first = pairs[i].second = 7;
+    if (build(IVS_PAIRS - 1) != 4 || sevens() != IVS_PAIRS + 1) return 1;
+    if (build(IVS_PAIRS) != 0 || sevens() != 1) return 2;
+    for (size_t i = 0; i < IVS_PAIRS; i++)
+        if (pairs[i].gain || pairs[i].first || pairs[i].second) return 3;
+    return 0;
+}
+"#;
+
+#[test]
+fn pair_records() {
+    let source = Path::new(env!("CARGO_TARGET_TMPDIR")).join("c_pairs.c");
+    fs::write(&source, PAIRS).unwrap();
+    let status = Command::new(compiled("c_pairs", &source)).status();
+    assert_eq!(status.expect("the program can be run").code(), Some(0));
 }

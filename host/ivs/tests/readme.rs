@@ -48,11 +48,24 @@ fn from_c() {
     shown(function.into_iter());
 }
 
+/// The header's numbers are the library's, and README's are the header's.
+#[test]
+fn lent() {
+    let (readme, header) = (file("README.md"), file("include/ivs.h"));
+    assert!(header.contains(&format!("#define IVS_PAIRS {}\n", ivs::PAIRS)));
+    assert!(header.contains("16 r + min(r, 1,024)^2"));
+    assert!(readme.contains("16 r + min(r, 1,024)² words"));
+    for records in [0_usize, 1, 57, 1_023, 1_024, 1_025, 1_048_576] {
+        let words = 16 * records + records.min(1_024).pow(2);
+        assert_eq!(ivs::work_words(records), words);
+    }
+}
+
 #[test]
 fn refusals() {
     let (readme, header) = (file("README.md"), file("include/ivs.h"));
     for number in (1..=14).chain(20..=22) {
-        let name = ivs::Refused { number, place: 0 }.name();
+        let name = ivs::Refused::bare(number).name();
         assert!(
             readme.contains(&format!("\n| {number} | {name} | ")),
             "{name}"

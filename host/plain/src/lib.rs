@@ -26,12 +26,18 @@ use groups::Group;
 /// "At most 1,048,576 records".
 pub const RECORD_LIMIT: usize = 1_048_576;
 
-/// How much memory the caller lends: words of work, bytes of output, words of
-/// ids, map and log.
+/// "a lent slice of pair records (1,048,576 of them; fewer is WORK_SHORT, and the
+/// slice is left as work is)".
+pub const PAIRS: usize = 1_048_576;
+
+/// How much memory the caller lends: words of work, pair records, bytes of output,
+/// words of ids, map and log.
 #[derive(Clone, Copy, Debug, PartialEq, Eq)]
 pub struct Sizes {
     /// Words of work.
     pub work: usize,
+    /// Pair records.
+    pub pairs: usize,
     /// Bytes of output.
     pub out: usize,
     /// Words of ids.
@@ -46,6 +52,7 @@ impl Sizes {
     /// As much of everything as any job could ask for.
     pub const PLENTY: Sizes = Sizes {
         work: usize::MAX,
+        pairs: usize::MAX,
         out: usize::MAX,
         ids: usize::MAX,
         map: usize::MAX,
@@ -102,7 +109,7 @@ pub fn work_words(records: usize) -> usize {
         return 0;
     }
     let square = records.min(1_024);
-    16 * records + 4 * square * square
+    16 * records + square * square
 }
 
 /// One build call: what it answers, and what it writes when it is done.
@@ -118,7 +125,7 @@ pub fn build(axes: u32, mode: u32, job: &[u8], sizes: &Sizes) -> Result<Done, Re
     if job.len() % records::RECORD != 0 || records > RECORD_LIMIT {
         return Err(Refused::at(number::BAD_JOB_LENGTH, 0));
     }
-    if sizes.work < work_words(records) {
+    if sizes.work < work_words(records) || sizes.pairs < PAIRS {
         return Err(Refused::at(number::WORK_SHORT, 0));
     }
     // "Then records from the first on", "Then 8".
