@@ -51,7 +51,11 @@ fn main() {
     let tables = folder.join(TABLES);
     println!("cargo:rerun-if-changed={}", tables.display());
     let tables = fs::read_to_string(tables).unwrap_or_default();
-    if let Some(items) = GLYPH_MAP.map(|first| item(&tables, first)).into_iter().collect() {
+    if let Some(items) = GLYPH_MAP
+        .map(|first| item(&tables, first))
+        .into_iter()
+        .collect()
+    {
         println!("cargo:rustc-cfg=glyph_map");
         let items: Vec<&str> = items;
         fs::write(out.join("glyph_map.rs"), items.concat()).expect("OUT_DIR can be written");

@@ -4,11 +4,17 @@
 
 /// The bytes of the source's map of these words; none without the source.
 pub fn map(words: &[u32]) -> Option<Vec<u8>> {
-    #[cfg(glyph_map)]
-    let bytes = Some(source::map(words));
-    #[cfg(not(glyph_map))]
-    let bytes = words.iter().find_map(|_| None);
-    bytes
+    ask(words)
+}
+
+#[cfg(glyph_map)]
+fn ask(words: &[u32]) -> Option<Vec<u8>> {
+    Some(source::map(words))
+}
+
+#[cfg(not(glyph_map))]
+fn ask(_: &[u32]) -> Option<Vec<u8>> {
+    None
 }
 
 #[cfg(glyph_map)]
