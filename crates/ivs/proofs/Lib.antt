@@ -20,3 +20,4 @@ pub mod Demand2
 pub mod JoinSteps
 pub mod Demand3
 pub mod Examples
+pub mod GlyphLaws

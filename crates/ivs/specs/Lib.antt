@@ -6,3 +6,4 @@ pub mod Passing
 pub mod Rooms
 pub mod Counts
 pub mod Rows
+pub mod GlyphWords

@@ -3,6 +3,7 @@ mod bytes;
 mod column;
 mod reader;
 
+pub use bytes::be;
 pub use column::Column;
 pub use column::column_at;
 pub use column::column_bytes;

@@ -14,6 +14,8 @@ use std::sync::{Mutex, OnceLock};
 const WORK_WORDS: u64 = 0;
 const BUILD: u64 = 1;
 const READ: u64 = 2;
+const WRITE_GLYPHS: u64 = 3;
+const READ_GLYPH: u64 = 4;
 
 /// The program that answers. It leaves when its standard input ends.
 struct Server {
@@ -33,17 +35,31 @@ pub fn read(store: &[u8], outer: u32, inner: u32, region: u32) -> u64 {
     ask_alone([READ, outer.into(), inner.into(), region.into()], store)
 }
 
+/// The words go as work, the map as the output.
+pub fn write_glyphs(words: &[u32], out: &mut [u8]) -> u64 {
+    ask_lent([WRITE_GLYPHS, 0, 0, 0], &[], &mut words.to_vec(), out)
+}
+
+pub fn read_glyph(map: &[u8], glyph: u32) -> u64 {
+    ask_alone([READ_GLYPH, glyph.into(), 0, 0], map)
+}
+
 /// Asks with nothing lent.
 fn ask_alone(what: [u64; 4], bytes: &[u8]) -> u64 {
-    let nothing = &mut Lent {
-        work: &mut [],
+    ask_lent(what, bytes, &mut [], &mut [])
+}
+
+/// Asks with words and an output lent.
+fn ask_lent(what: [u64; 4], bytes: &[u8], work: &mut [u32], out: &mut [u8]) -> u64 {
+    let lent = &mut Lent {
+        work,
         pairs: &mut [],
-        out: &mut [],
+        out,
         ids: &mut [],
         map: &mut [],
         log: &mut [],
     };
-    ask(what, bytes, nothing, &mut [0; 16])
+    ask(what, bytes, lent, &mut [0; 16])
 }
 
 /// One question and its answer.
@@ -107,6 +123,9 @@ impl Server {
         }
         self.to.flush()?;
         let answer = self.take_word()?;
+        if what[0] == WRITE_GLYPHS {
+            self.from.read_exact(lent.out)?;
+        }
         if what[0] == BUILD {
             self.take_words(lent.work)?;
             match self.take_word()? {

@@ -5,6 +5,7 @@
 //! * [`build_into`]: the same in lent memory, which may be lent again from build to build;
 //!   [`build_report`] with the bare report.
 //! * [`read`]: one value of a store, whatever its bytes are.
+//! * [`write_glyphs`], [`read_glyph`]: the map of glyphs to rows of a store.
 //!
 //! No input makes a call go wrong: it is done exactly, or refused by number and place
 //! with nothing written. What was lent may hold anything before.
@@ -19,11 +20,13 @@
 //! # Ok::<(), Box<dyn std::error::Error>>(())
 //! ```
 
+mod glyphs;
 #[cfg_attr(not(target_arch = "x86_64"), path = "emulated.rs")]
 mod raw;
 mod refusals;
 mod writer;
 
+pub use glyphs::{read_glyph, write_glyphs, write_glyphs_into, GLYPHS};
 pub use refusals::{Refused, Short};
 pub use writer::{JobError, JobWriter, Tent};
 

@@ -40,6 +40,10 @@ extern "C" {
     ) -> u32;
 
     fn ivs_read(store: *const u8, store_len: usize, outer: u32, inner: u32, region: u32) -> u64;
+
+    fn ivs_write_glyphs(words: *const u32, words_len: usize, out: *mut u8, out_len: usize) -> u64;
+
+    fn ivs_read_glyph(map: *const u8, map_len: usize, glyph: u32) -> u64;
 }
 
 pub fn work_words(records: usize) -> usize {
@@ -78,4 +82,14 @@ pub fn build(axes: u32, mode: u32, job: &[u8], lent: &mut Lent<'_>, report: &mut
 pub fn read(store: &[u8], outer: u32, inner: u32, region: u32) -> u64 {
     // SAFETY: as for `build`; nothing is written.
     unsafe { ivs_read(store.as_ptr(), store.len(), outer, inner, region) }
+}
+
+pub fn write_glyphs(words: &[u32], out: &mut [u8]) -> u64 {
+    // SAFETY: as for `build`.
+    unsafe { ivs_write_glyphs(words.as_ptr(), words.len(), out.as_mut_ptr(), out.len()) }
+}
+
+pub fn read_glyph(map: &[u8], glyph: u32) -> u64 {
+    // SAFETY: as for `build`; nothing is written.
+    unsafe { ivs_read_glyph(map.as_ptr(), map.len(), glyph) }
 }

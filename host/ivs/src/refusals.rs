@@ -20,7 +20,8 @@ pub(crate) const RECORD: usize = 12;
 /// ```
 #[derive(Clone, Copy, Debug, PartialEq, Eq)]
 pub struct Refused {
-    /// The refusal number: 1 to 14 of a build, 20 to 22 of a reading.
+    /// The refusal number: 1 to 14 of a build, 20 to 22 of a reading, 40 to 42 of a
+    /// glyph map.
     pub number: u32,
     /// The record's index from 0 for 5, 6, 7 and 9; the record count for 8; else 0.
     pub place: u64,
@@ -151,6 +152,21 @@ impl Refused {
                 "NO_REGION",
                 "the store's list has no such region",
                 "ask for a region below the list's count",
+            ),
+            40 => (
+                "TOO_MANY_GLYPHS",
+                "there are more than 1,048,576 glyphs",
+                "give a word for each of at most so many",
+            ),
+            41 => (
+                "GLYPH_MAP_SHORT",
+                "the output lent is too small for the glyph map",
+                "lend more bytes (6 and 4 for each glyph always do)",
+            ),
+            42 => (
+                "BAD_GLYPH_MAP",
+                "the bytes are no glyph map, or an empty one, or end too early",
+                "look whether the map was cut off or damaged",
             ),
             _ => ("UNKNOWN", "the refusal is not known", "report it"),
         }

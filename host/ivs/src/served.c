@@ -6,7 +6,8 @@
  * work, pairs, out, ids, map and log, and whether the pairs hold anything), then what is
  * lent, the report of 16 words last. The answer is a word, then of a build everything lent
  * but the job, with a word before the pairs that says whether they hold anything. Pairs
- * that hold nothing are zeros, and are not sent. */
+ * that hold nothing are zeros, and are not sent. Of a glyph map written the output follows
+ * the word; its words were lent as work. */
 typedef unsigned char u8;
 typedef unsigned int u32;
 typedef unsigned long u64;
@@ -18,6 +19,8 @@ u64 ivs_work_words(u64 records);
 u32 ivs_build(u32 axes, u32 mode, const u8 *job, u64 job_len, u32 *work, u64 work_len, pair *pairs, u64 pairs_len,
               u8 *out, u64 out_len, u32 *ids, u64 ids_len, u32 *map, u64 map_len, u32 *log, u64 log_len, u64 *report);
 u64 ivs_read(const u8 *store, u64 store_len, u32 outer, u32 inner, u32 region);
+u64 ivs_write_glyphs(const u32 *words, u64 words_len, u8 *out, u64 out_len);
+u64 ivs_read_glyph(const u8 *map, u64 map_len, u32 glyph);
 
 static long system_call(long number, long a, long b, long c, long d, long e, long f) {
     register long r10 __asm__("r10") = d;
@@ -139,10 +142,15 @@ __attribute__((force_align_arg_pointer)) void _start(void) {
             answer = ivs_work_words(asked[1]);
         } else if (asked[0] == 1) {
             answer = build(asked, count, at);
+        } else if (asked[0] == 3) {
+            answer = ivs_write_glyphs((u32 *)at[WORK], count[WORK], at[OUT], count[OUT]);
+        } else if (asked[0] == 4) {
+            answer = ivs_read_glyph(at[JOB], count[JOB], (u32)asked[1]);
         } else {
             answer = ivs_read(at[JOB], count[JOB], (u32)asked[1], (u32)asked[2], (u32)asked[3]);
         }
         give((u8 *)&answer, sizeof answer);
+        if (asked[0] == 3) give(at[OUT], bytes[OUT]);
         if (asked[0] != 1) continue;
         for (int i = WORK; i < PARTS; i++) {
             if (i == PAIRS) {

@@ -10,6 +10,7 @@
 //! The source tells what it merges by `log::trace!`; [`build_traced`] listens, and
 //! [`build_timed`] and [`build_whole`] take times.
 
+pub mod glyphs;
 mod placing;
 pub mod tables;
 mod trace;

@@ -8,6 +8,7 @@
 //! [`build`] says what one build call must answer and write; [`read`] says what
 //! reading one value must answer.
 
+pub mod glyphs;
 mod groups;
 mod merging;
 mod reading;

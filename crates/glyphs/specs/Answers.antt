@@ -1,0 +1,27 @@
+-- What writing a glyph map answers, and what it leaves in the output. Document 02, "Glyph map": "40 too many glyphs, then 41 output short".
+-- Assumes nothing.
+use mathlib.Core.List.{List}
+use Prim.Native.Nat.{ℕ}
+use lib.Dec.{ltb}
+use lib.ListN.{length}
+use Rattle.laws.specs.Pick.{pick}
+use Rattle.laws.specs.Bytes.{over}
+use Rattle.glyphs.specs.Packing.{mapBytes}
+use Rattle.glyphs.specs.declared.write.Glyphs.{Glyphs}
+use Rattle.glyphs.specs.declared.write.Glyphs.the-variants.{Done, Refused}
+
+-- "At most 1,048,576 glyphs"
+abbrev pub maxGlyphs : ℕ
+maxGlyphs = 1048576
+
+-- of words, and an output of `room` bytes
+unfoldable pub glyphsOf : List ℕ → ℕ → Glyphs
+glyphsOf ws room =
+    pick (ltb maxGlyphs (length ws)) (Refused 40)
+    (pick (ltb room (length (mapBytes ws))) (Refused 41) (Done (length (mapBytes ws))))
+
+-- past the map all is as it was, and after a refusal everything
+unfoldable pub glyphsLeft : List ℕ → List ℕ → List ℕ
+glyphsLeft ws old =
+    pick (ltb maxGlyphs (length ws)) old
+    (pick (ltb (length old) (length (mapBytes ws))) old (over old 0 (length (mapBytes ws)) (mapBytes ws)))
