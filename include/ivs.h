@@ -44,15 +44,15 @@ uint32_t ivs_build(uint32_t axes, uint32_t mode, const uint8_t *job, size_t job_
  * the refusal number (20 BAD_STORE, 21 NO_ROW, 22 NO_REGION); low half: the value's 32 bits, 0 unless written. Any bytes may be read. */
 uint64_t ivs_read(const uint8_t *store, size_t store_len, uint32_t outer, uint32_t inner, uint32_t region);
 
-/* A glyph map (OpenType's DeltaSetIndexMap) of a word for each glyph, outer x 65,536 + inner, at most 1,048,576 of them, into out. The inner bits and
- * the bytes of an entry are the fewest that hold every word; trailing repeats are left out. High half: 0 written, else the refusal number (40
- * TOO_MANY_GLYPHS, 41 GLYPH_MAP_SHORT); low half: the bytes written, 0 unless written. 6 + 4 x words_len bytes always do. What is not written is
- * left as it was, and a refusal writes nothing. No words: the empty map, 4 bytes of zero. */
+/* A glyph map (OpenType's DeltaSetIndexMap) of a word for each glyph, outer x 65,536 + inner, at most 1,048,576 of them, into out. The inner
+ * bits and the bytes of an entry are the fewest that hold every word; trailing repeats are left out. High half: 0 written, else the refusal
+ * number (40 TOO_MANY_GLYPHS, 41 GLYPH_MAP_SHORT); low half: the bytes written, 0 unless written. 6 + 4 x words_len bytes always do. What is
+ * not written is left as it was, and a refusal writes nothing. No words: the empty map, 4 bytes of zero. */
 uint64_t ivs_write_glyphs(const uint32_t *words, size_t words_len, uint8_t *out, size_t out_len);
 
-/* The word of a glyph; one past the end of the map has the last entry's. High half: 0 read, else the refusal number (42 BAD_GLYPH_MAP: a format
- * above 1, a reserved bit, a map that is empty or runs past the end, or an outer number above 65,535); low half: the word, 0 unless read. Any
- * bytes may be read. */
+/* The word of a glyph; one past the end of the map has the last entry's. High half: 0 read, else the refusal number (42 BAD_GLYPH_MAP: a
+ * format above 1, a reserved bit, a map that is empty or runs past the end, or an outer number above 65,535); low half: the word, 0 unless
+ * read. Any bytes may be read. */
 uint64_t ivs_read_glyph(const uint8_t *map, size_t map_len, uint32_t glyph);
 
 #ifdef __cplusplus
