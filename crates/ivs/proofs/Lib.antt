@@ -19,5 +19,7 @@ pub mod Accepted
 pub mod Demand2
 pub mod JoinSteps
 pub mod Demand3
+pub mod BytesBack
+pub mod SizesBack
 pub mod Examples
 pub mod GlyphLaws

@@ -32,7 +32,8 @@ count-one n h = ⊎-elim
     (λ (p : 1 ≤ n). omega (arith, run-some n (omega arith)))
     (lt-or-ge n 1)
 
-runs-one : (s : Shape) (xs : List ℕ) → length xs ≤ maxItems → runsOf (record { shape = s; ids = xs }) ≡ one s xs
+-- "A group of more than 65,535 sets is then cut into runs": one of no more is one run
+pub runs-one : (s : Shape) (xs : List ℕ) → length xs ≤ maxItems → runsOf (record { shape = s; ids = xs }) ≡ one s xs
 unfolding runsOf tabulate
 runs-one s xs h = rw (count-one (length xs) h) (ap (one s) (take-all maxItems xs h))
 

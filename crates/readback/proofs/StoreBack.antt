@@ -264,12 +264,12 @@ module _ (axes k : ℕ) (coords : List ℕ) (ts : List (List ℕ)) (axes-few : a
 
 -- ---- the store of the definition
 
-zero-value : (z : ℤ) → isZero z ≡ true → z ≡ pos 0
+pub zero-value : (z : ℤ) → isZero z ≡ true → z ≡ pos 0
 unfolding isZero
 zero-value (pos m) e = ap pos (eqb-true m 0 e)
 zero-value (negsuc m) e = let z : _≡_ {A = ℕ} 0 1 = cc in absurd (omega arith)
 
-abbrev none : Final
+abbrev pub none : Final
 none = record { shape = []; ids = [] }
 
 -- what a run must be: its widths are widths, its regions are among the list's, and its shape covers its sets

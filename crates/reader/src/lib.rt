@@ -8,4 +8,6 @@ pub use column::Column;
 pub use column::column_at;
 pub use column::column_bytes;
 pub use reader::Reading;
+pub use reader::header_ok;
 pub use reader::read;
+pub use reader::subtable_ok;

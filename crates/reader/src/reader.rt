@@ -16,7 +16,7 @@ pub enum Reading {
     Refused(u8),
 }
 
-fn header_ok(s: &[u8]) -> bool
+pub fn header_ok(s: &[u8]) -> bool
     ensures { λ r. ⌜ r ≡ headerOk (now (s .entry)) ⌝ }
 {
     if s.len() < 8 {
@@ -82,7 +82,7 @@ fn columns_ok(s: &[u8], at: usize, n: usize, regions: usize) -> bool
     true
 }
 
-fn subtable_ok(s: &[u8], at: usize, regions: usize) -> bool
+pub fn subtable_ok(s: &[u8], at: usize, regions: usize) -> bool
     requires { ⌜ at < 4294967296 ⌝ }
     ensures { λ r. ⌜ r ≡ subtableOk (now (s .entry)) at regions ⌝ }
 {

@@ -1,0 +1,155 @@
+-- Demand 2 from the job's bytes to the store's: "Read by the OpenType rules, each id's row gives back its adjustment for every region, and zero for
+-- one it never named." Assumes nothing.
+use mathlib.Core.Path.{_≡_, refl, sym, ap, _∙_}
+use mathlib.Core.List.{List, [], map}
+use mathlib.Core.Logic.{_⊎_, inl, inr, ⊎-elim}
+use Prim.Native.Nat.{ℕ, _+_, _*_, _%_, _^_, _≤_, _<_}
+use native.Mathlib.Omega.{arith}
+use lib.IntN.{ℤ, pos}
+use lib.ListN.{length, getD, take, drop, length-map}
+use lib.Seq.{getD-drop}
+use Rattle.laws.specs.Bytes.{be}
+use Rattle.laws.specs.Signed.{signed, word, value, zeroWord}
+use Rattle.laws.proofs.ListLaws.{getD-map-in}
+use Rattle.laws.proofs.SignedLaws.{value-twos, word-value}
+use Rattle.sets.specs.Set.{wordOf}
+use Rattle.reader.specs.declared.reader.Reading.the-variants.{Written, NoColumn}
+use Rattle.reader.specs.Store.{readStore, valueOf, listAt, regionCount}
+use Rattle.said.specs.Records.{regionOf, valueWord}
+use Rattle.said.specs.Sets.{Region}
+use Rattle.said.specs.Job.{Said}
+use Rattle.said.proofs.RecordLaws.{be-two, be-four}
+use Rattle.said.proofs.SoundLaws.{Bytes}
+use Rattle.told.specs.Told.{recordAt, recordCount, endsBefore, ValueIn, coordinatesAt, indexOf, Told}
+use Rattle.told.proofs.Bytes.{told}
+use Rattle.finishing.specs.declared.answers.Report.{Report}
+use Rattle.finishing.specs.declared.answers.Built.the-variants.{Done}
+use Rattle.finishing.specs.Late.{Lengths}
+use Rattle.build.specs.Build.{regionBytes, coordsOf, answerOf, outAfter, idsAfter, mapAfter}
+use Rattle.ivs.proofs.Demand2.{SetBack, RegionBack, InList, Demand2, demand2}
+
+-- "start, peak, end per axis" of region q of a store's list
+abbrev pub listed : ℕ → List ℕ → ℕ → List ℕ
+listed axes store q = take (6 * axes) (drop (listAt store + 4 + 6 * axes * q) store)
+
+-- and of the region that record i of a job names, from its axis records
+abbrev pub namedBy : ℕ → List ℕ → ℕ → List ℕ
+namedBy axes job i = regionBytes (coordinatesAt axes job (regionOf (recordAt job i)))
+
+-- "signed 32-bit value": that of record i
+abbrev pub valueAt : List ℕ → ℕ → ℤ
+valueAt job i = signed 4 (be 4 (recordAt job i) 4)
+
+pub record InStore (axes : ℕ) (job store : List ℕ) (i : ℕ) : Type 0 where
+  pub index : ℕ
+  pub below : index < regionCount store
+  pub coordinates : listed axes store index ≡ namedBy axes job i
+
+-- set n of a job, read from a store at a map word
+pub record SetRead (axes : ℕ) (job store : List ℕ) (n at : ℕ) : Type 0 where
+  -- "The id's map word is outer x 65,536 + inner."
+  pub outer : ℕ
+  pub inner : ℕ
+  pub inner-below : inner < 65536
+  pub word-is : at ≡ outer * 65536 + inner
+  -- "Written with the value; NoColumn ..": never a refusal
+  pub answers : (q : ℕ) → q < regionCount store
+      → (readStore store outer inner q ≡ Written (valueOf (readStore store outer inner q))) ⊎ (readStore store outer inner q ≡ NoColumn)
+  -- "gives back its adjustment for every region": that of each value record of the set, at the region of the same coordinates
+  pub given : (i : ℕ) → ValueIn job n i → (q : ℕ) → q < regionCount store → listed axes store q ≡ namedBy axes job i
+      → valueOf (readStore store outer inner q) ≡ valueAt job i
+  -- "A region not in the list counts as zero in every row": a region whose value is not zero is there
+  pub in-list : (i : ℕ) → ValueIn job n i → (valueAt job i ≡ pos 0 → ⊥) → InStore axes job store i
+  -- "and zero for one it never named"
+  pub unnamed : (q : ℕ) → q < regionCount store → ((i : ℕ) → ValueIn job n i → listed axes store q ≡ namedBy axes job i → ⊥)
+      → valueOf (readStore store outer inner q) ≡ pos 0
+
+-- ---- a record's value
+
+zero-is : value zeroWord ≡ pos 0
+unfolding value
+zero-is = refl
+
+four-low : (r : List ℕ) → Bytes r → be 4 r 4 < 256 ^ 4
+four-low r b = omega (arith, be-four r, be-two r 4, be-two r 6, b 4, b 5, b 6, b 7)
+
+word-signed : (x : ℕ) → x < 256 ^ 4 → value (word (signed 4 x)) ≡ signed 4 x
+word-signed x h =
+    let t = value-twos x h in
+    ap value (ap word (sym t) ∙ word-value ((x + zeroWord) % 256 ^ 4)) ∙ t
+
+value-at : (job : List ℕ) (i : ℕ) → Bytes job → value (valueWord (recordAt job i)) ≡ valueAt job i
+unfolding valueWord
+value-at job i b = word-signed (be 4 (recordAt job i) 4) (four-low (recordAt job i) (λ k. rw (getD-drop (12 * i) job k 0) (b (12 * i + k))))
+
+-- ---- one set
+
+module _ (axes : ℕ) (job : List ℕ) (s : Said) (bytes : Bytes job) (t : Told axes job s) where
+  coords-count : length (coordsOf s) ≡ length (s .used)
+  unfolding coordsOf
+  coords-count = length-map (s .used) (λ (q : ℕ). regionBytes (getD (s .regions) q []))
+
+  coords-at : (r : ℕ) → r < length (s .used) → getD (coordsOf s) r [] ≡ regionBytes (coordinatesAt axes job (getD (s .used) r 0))
+  unfolding coordsOf
+  coords-at r h =
+      getD-map-in (λ (q : ℕ). regionBytes (getD (s .regions) q [])) (s .used) r 0 [] h
+      ∙ ap regionBytes (t .regions-are (getD (s .used) r 0) (t .used-known r h))
+
+  module _ (store : List ℕ) (n at : ℕ) (h : n < length (s .sets)) (b : SetBack axes (coordsOf s) (getD (s .sets) n []) store at) where
+    module _ (i : ℕ) (v : ValueIn job n i) where
+      abbrev r : ℕ
+      r = indexOf s (regionOf (recordAt job i))
+
+      below : r < length (coordsOf s)
+      below = omega (arith, t .given n i v .index-below, coords-count)
+
+      named-at : getD (coordsOf s) r [] ≡ namedBy axes job i
+      named-at = coords-at r (t .given n i v .index-below) ∙ ap regionBytes (t .given n i v .coordinates-are)
+
+      value-is : value (wordOf (getD (s .sets) n []) r) ≡ valueAt job i
+      value-is = ap value (t .given n i v .word-is) ∙ value-at job i bytes
+
+      gives : (q : ℕ) → q < regionCount store → listed axes store q ≡ namedBy axes job i → valueOf (readStore store (b .outer) (b .inner) q) ≡ valueAt job i
+      gives q l e =
+          let x = b .regions q l in
+          x .gives-back ∙ ap (λ (k : ℕ). value (wordOf (getD (s .sets) n []) k)) (sym (x .only r below (e ∙ sym named-at))) ∙ value-is
+
+      there : (valueAt job i ≡ pos 0 → ⊥) → InStore axes job store i
+      there d =
+          let x = b .in-list r below (λ z. d (sym value-is ∙ ap value z ∙ zero-is)) in
+          record { index = x .index; below = x .below; coordinates = x .coordinates ∙ named-at }
+
+    silent : (q : ℕ) → q < regionCount store → ((i : ℕ) → ValueIn job n i → listed axes store q ≡ namedBy axes job i → ⊥)
+        → valueOf (readStore store (b .outer) (b .inner) q) ≡ pos 0
+    silent q l d =
+        let x = b .regions q l in
+        let k : x .region < length (s .used) = omega (arith, x .below, coords-count) in
+        x .gives-back
+        ∙ ap value (t .unnamed n (x .region) h k (λ i v c. d i v (x .coordinates ∙ coords-at (x .region) k ∙ ap regionBytes (sym c))))
+        ∙ zero-is
+
+    set-read : SetRead axes job store n at
+    set-read = record {
+      outer = b .outer;
+      inner = b .inner;
+      inner-below = b .inner-below;
+      word-is = b .word-is;
+      answers = λ q l. let x = b .regions q l in ⊎-elim (λ e. inl (e ∙ ap Written (sym (x .gives-back)))) (λ e. inr e) (x .answers);
+      given = gives;
+      in-list = there;
+      unnamed = silent;
+    }
+
+-- THE LAW: of every done build and every end record, by the job's bytes and the lent memory alone
+pub bytes-back : (axes mode : ℕ) (job : List ℕ) (work pairs : ℕ) (l : Lengths) (r : Report) → Bytes job → answerOf axes mode job work pairs l ≡ Done r
+    → (out ids map : List ℕ) → length out ≡ l .out → length ids ≡ l .ids → length map ≡ l .map
+    → (n : ℕ) → n < endsBefore job (recordCount job)
+    → SetRead axes job (take (r .bytes) (outAfter axes mode job work pairs l out)) n
+    (getD (mapAfter axes mode job work pairs l map) (getD (idsAfter axes mode job work pairs l ids) n 0) 0)
+bytes-back axes mode job work pairs l r bytes e out ids map p q m n h =
+    let d = demand2 axes mode job work pairs l r bytes e in
+    let s = d .said in
+    let t = told axes mode job work pairs s (d .said-is) in
+    let k : n < length (s .sets) = omega (arith, t .sets-are) in
+    set-read axes job s bytes t (take (r .bytes) (outAfter axes mode job work pairs l out)) n
+    (getD (mapAfter axes mode job work pairs l map) (getD (idsAfter axes mode job work pairs l ids) n 0) 0) k (d .sets-back out ids map p q m n k)

@@ -1,0 +1,50 @@
+-- The groups of the rule have counts of sets, the final groups have ids: they are the same numbers, so the modelled size is that of the groups that
+-- are written. Document 01, "Rules taken from the source". Assumes nothing.
+use mathlib.Core.Path.{_≡_}
+use mathlib.Core.List.{List, [], _∷_}
+use Prim.Native.Nat.{ℕ, suc, _≤_, _<_}
+use lib.ListN.{length, getD}
+use lib.Dec.{eqb}
+use Rattle.laws.specs.Every.{All, EachTwo}
+use Rattle.laws.specs.Bag.{weigh}
+use Rattle.laws.specs.Bounded.{upTo}
+use Rattle.laws.specs.Sorting.{keep}
+use Rattle.shapes.specs.Group.{Group, groupCost, maxItems}
+use Rattle.sets.specs.Set.{Set}
+use Rattle.sets.specs.Ids.{distinct}
+use Rattle.groups.specs.Groups.{shapeOf, groupsOf}
+use Rattle.rule.specs.Model.{merged}
+use Rattle.store.specs.Placing.{Final, runsOf, modelled}
+use Rattle.encoder.specs.Packed.{numberOf, finalOf, shared}
+
+-- "A group costs overhead + row cost x sets": a final group by its own ids
+abbrev pub costOf : Final → ℕ
+costOf f = groupCost (record { shape = f .shape; sets = length (f .ids) })
+
+abbrev pub groupAt : List Group → ℕ → Group
+groupAt groups i = getD groups i (record { shape = []; sets = 0 })
+
+-- the number of the starting group that id x's set is in
+abbrev pub startOf : ℕ → List Set → ℕ → ℕ
+startOf regions jobs x = numberOf (shapeOf regions (getD (distinct jobs) x [])) (groupsOf regions jobs)
+
+-- of the sets of a job, in mode 0
+pub record Sizes (regions : ℕ) (jobs : List Set) : Type 0 where
+  -- "group sets by shape": no two starting groups have one shape
+  pub starting-apart : EachTwo (λ g h. g .shape ≡ h .shape → ⊥) (groupsOf regions jobs)
+  -- the group of an id's set is the one that has the set's shape
+  pub starting-of : (x : ℕ) → x < length (distinct jobs)
+      → (startOf regions jobs x < length (groupsOf regions jobs)) × (groupAt (groupsOf regions jobs) (startOf regions jobs x) .shape ≡ shapeOf regions (getD (distinct jobs) x []))
+  -- and each has as many sets as there are such ids
+  pub starting-count : (i : ℕ) → i < length (groupsOf regions jobs)
+      → length (keep (λ x. eqb (startOf regions jobs x) i) (upTo (length (distinct jobs)))) ≡ groupAt (groupsOf regions jobs) i .sets
+  -- "A group costs overhead + row cost x sets": the sets of a living group are as many as the ids of its final group
+  pub living-count : All (λ g. length (finalOf regions (groupsOf regions jobs) (distinct jobs) g .ids) ≡ g .group .sets) (merged (groupsOf regions jobs) .living)
+  -- so no final group is empty
+  pub finals-some : All (λ f. 0 < length (f .ids)) (shared regions jobs .finals)
+  -- "modelled size .. after merging": what the final groups cost, each with its own number of ids
+  pub after-is : shared regions jobs .after ≡ weigh costOf (shared regions jobs .finals)
+  -- "the model's cost of each final group written": the same, in the forecast
+  pub forecast-has : modelled (shared regions jobs .finals) ≡ shared regions jobs .after
+  -- "A group of more than 65,535 sets is then cut into runs of 65,535": one of no more is one run
+  pub one-run : (f : Final) → length (f .ids) ≤ maxItems → runsOf f ≡ f ∷ []
