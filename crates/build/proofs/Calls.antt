@@ -28,6 +28,7 @@ use denote.Triple.Spec.{tripleOf}
 use denote.Triple.Statement.{Contract, Triple}
 use denote.Triple.Clauses.{Lasts, lasts}
 use Rattle.build.specs.Opened.{OpenedAt, Joined, CloseFit, Closed, PairsUsed}
+use Rattle.finishing.specs.Buffers.{buffers}
 use Rattle.encoder.specs.Arranged.{tablesOf as layoutOf}
 use Rattle.merging.specs.Optimized.{Ready, Optimized}
 use Rattle.pairs.specs.Queue.{SameFrom, cleared}
@@ -272,18 +273,18 @@ module _ {M : Type 1} (𝓤 : URA M) (H : Heap 𝓤) (A : Atoms 𝓤) (W : Given
     Loan-close-see-mut-mut-mut-mut-mut long₂ long₃ long₄ long₅ long₆ sized₂ sized₃ sized₄ sized₅ sized₆ = both 𝓤 H A W (lent-see u8 κ θ γ β ι 𝓤 H A W job ν) (both 𝓤 H A W (lent-mut u32 κ₂ θ₂ γ₂ β₂ ι₂ 𝓤 H A W work ν₂ long₂ sized₂) (both 𝓤 H A W (lent-mut u8 κ₃ θ₃ γ₃ β₃ ι₃ 𝓤 H A W out ν₃ long₃ sized₃) (both 𝓤 H A W (lent-mut u32 κ₄ θ₄ γ₄ β₄ ι₄ 𝓤 H A W ids ν₄ long₄ sized₄) (both 𝓤 H A W (lent-mut u32 κ₅ θ₅ γ₅ β₅ ι₅ 𝓤 H A W map ν₅ long₅ sized₅) (lent-mut u32 κ₆ θ₆ γ₆ β₆ ι₆ 𝓤 H A W log ν₆ long₆ sized₆)))))
 
     abbrev pub After-close-see-mut-mut-mut-mut-mut : Val → Item 𝓤
-    After-close-see-mut-mut-mut-mut-mut w = later (some (λ (r : Built). some (λ (x : Unit {0} × (List ℕ × (List ℕ × (List ℕ × (List ℕ × List ℕ))))). given ((Unit {0} × ((length (x .1 .0) ≡ ν₂) × ((length (x .1 .1 .0) ≡ ν₃) × ((length (x .1 .1 .1 .0) ≡ ν₄) × ((length (x .1 .1 .1 .1 .0) ≡ ν₅) × (length (x .1 .1 .1 .1 .1) ≡ ν₆)))))) × ((old : List ℕ) (count : ℕ) (mid : List ℕ) → OpenedAt axes mode job old count mid stage → Joined stage merged mid work → Closed axes mode job old count r out ids map log (x .1 .1 .0) (x .1 .1 .1 .0) (x .1 .1 .1 .1 .0) (x .1 .1 .1 .1 .1) (x .1 .0))) ((Sees u8 κ θ γ β ι 𝓤 ν job ⊛ (Has u32 κ₂ θ₂ γ₂ β₂ ι₂ 𝓤 ν₂ (x .1 .0) ⊛ (Has u8 κ₃ θ₃ γ₃ β₃ ι₃ 𝓤 ν₃ (x .1 .1 .0) ⊛ (Has u32 κ₄ θ₄ γ₄ β₄ ι₄ 𝓤 ν₄ (x .1 .1 .1 .0) ⊛ (Has u32 κ₅ θ₅ γ₅ β₅ ι₅ 𝓤 ν₅ (x .1 .1 .1 .1 .0) ⊛ Has u32 κ₆ θ₆ γ₆ β₆ ι₆ 𝓤 ν₆ (x .1 .1 .1 .1 .1)))))) ⊛ ‵ (B.the-row .own r (w ∷ []))))))
+    After-close-see-mut-mut-mut-mut-mut w = later (some (λ (r : Built). some (λ (x : Unit {0} × (List ℕ × (List ℕ × (List ℕ × (List ℕ × List ℕ))))). given ((Unit {0} × ((length (x .1 .0) ≡ ν₂) × ((length (x .1 .1 .0) ≡ ν₃) × ((length (x .1 .1 .1 .0) ≡ ν₄) × ((length (x .1 .1 .1 .1 .0) ≡ ν₅) × (length (x .1 .1 .1 .1 .1) ≡ ν₆)))))) × ((old : List ℕ) (count : ℕ) (mid : List ℕ) → OpenedAt axes mode job old count mid stage → Joined stage merged mid work → Closed axes mode job old count r (buffers out ids map log) (buffers (x .1 .1 .0) (x .1 .1 .1 .0) (x .1 .1 .1 .1 .0) (x .1 .1 .1 .1 .1)) (x .1 .0))) ((Sees u8 κ θ γ β ι 𝓤 ν job ⊛ (Has u32 κ₂ θ₂ γ₂ β₂ ι₂ 𝓤 ν₂ (x .1 .0) ⊛ (Has u8 κ₃ θ₃ γ₃ β₃ ι₃ 𝓤 ν₃ (x .1 .1 .0) ⊛ (Has u32 κ₄ θ₄ γ₄ β₄ ι₄ 𝓤 ν₄ (x .1 .1 .1 .0) ⊛ (Has u32 κ₅ θ₅ γ₅ β₅ ι₅ 𝓤 ν₅ (x .1 .1 .1 .1 .0) ⊛ Has u32 κ₆ θ₆ γ₆ β₆ ι₆ 𝓤 ν₆ (x .1 .1 .1 .1 .1)))))) ⊛ ‵ (B.the-row .own r (w ∷ []))))))
 
     abbrev at-close-see-mut-mut-mut-mut-mut : (g : Unit {0} × ((ℕ × GName) × ((ℕ × GName) × ((ℕ × GName) × ((ℕ × GName) × (ℕ × GName)))))) → Close-of 𝓤 H A mem run .Ghost
     at-close-see-mut-mut-mut-mut-mut g = (((κ, (g .1 .0 .0 ∷ [], (g .1 .1 .0 .0 ∷ [], (g .1 .1 .1 .0 .0 ∷ [], (g .1 .1 .1 .1 .0 .0 ∷ [], (g .1 .1 .1 .1 .1 .0 ∷ [], tt)))))), (θ, (fullShare, (fullShare, (fullShare, (fullShare, (fullShare, tt)))))), tt, (axes, (mode, (ref u8 κ θ γ β ι γ job, (ref u32 κ₂ θ₂ γ₂ β₂ ι₂ (g .1 .0 .1) work, (stage, (merged, (ref u8 κ₃ θ₃ γ₃ β₃ ι₃ (g .1 .1 .0 .1) out, (ref u32 κ₄ θ₄ γ₄ β₄ ι₄ (g .1 .1 .1 .0 .1) ids, (ref u32 κ₅ θ₅ γ₅ β₅ ι₅ (g .1 .1 .1 .1 .0 .1) map, (ref u32 κ₆ θ₆ γ₆ β₆ ι₆ (g .1 .1 .1 .1 .1 .1) log, tt)))))))))), (vint w32 axes ∷ [], (vint w32 mode ∷ [], (sliceVal (β, ι) ν ∷ [], (sliceVal (β₂, ι₂) ν₂ ∷ [], (stage-mach stage ∷ [], (mach-merged merged ∷ [], (sliceVal (β₃, ι₃) ν₃ ∷ [], (sliceVal (β₄, ι₄) ν₄ ∷ [], (sliceVal (β₅, ι₅) ν₅ ∷ [], (sliceVal (β₆, ι₆) ν₆ ∷ [], tt))))))))))), tt)
 
-    leaves-close-see-mut-mut-mut-mut-mut : (long₂ : length work ≡ ν₂) (long₃ : length out ≡ ν₃) (long₄ : length ids ≡ ν₄) (long₅ : length map ≡ ν₅) (long₆ : length log ≡ ν₆) (sized₂ : Room u32 ν₂) (sized₃ : Room u8 ν₃) (sized₄ : Room u32 ν₄) (sized₅ : Room u32 ν₅) (sized₆ : Room u32 ν₆) → (g : Unit {0} × ((ℕ × GName) × ((ℕ × GName) × ((ℕ × GName) × ((ℕ × GName) × (ℕ × GName)))))) → (w : Val) → ent 𝓤 (Close-of 𝓤 H A mem run .post (at-close-see-mut-mut-mut-mut-mut g) w) (mean 𝓤 H A (Gives 𝓤 H A W (Loan-close-see-mut-mut-mut-mut-mut long₂ long₃ long₄ long₅ long₆ sized₂ sized₃ sized₄ sized₅ sized₆) B.the-row (λ x r. (old : List ℕ) (count : ℕ) (mid : List ℕ) → OpenedAt axes mode job old count mid stage → Joined stage merged mid work → Closed axes mode job old count r out ids map log (x .1 .1 .0) (x .1 .1 .1 .0) (x .1 .1 .1 .1 .0) (x .1 .1 .1 .1 .1) (x .1 .0)) g w))
+    leaves-close-see-mut-mut-mut-mut-mut : (long₂ : length work ≡ ν₂) (long₃ : length out ≡ ν₃) (long₄ : length ids ≡ ν₄) (long₅ : length map ≡ ν₅) (long₆ : length log ≡ ν₆) (sized₂ : Room u32 ν₂) (sized₃ : Room u8 ν₃) (sized₄ : Room u32 ν₄) (sized₅ : Room u32 ν₅) (sized₆ : Room u32 ν₆) → (g : Unit {0} × ((ℕ × GName) × ((ℕ × GName) × ((ℕ × GName) × ((ℕ × GName) × (ℕ × GName)))))) → (w : Val) → ent 𝓤 (Close-of 𝓤 H A mem run .post (at-close-see-mut-mut-mut-mut-mut g) w) (mean 𝓤 H A (Gives 𝓤 H A W (Loan-close-see-mut-mut-mut-mut-mut long₂ long₃ long₄ long₅ long₆ sized₂ sized₃ sized₄ sized₅ sized₆) B.the-row (λ x r. (old : List ℕ) (count : ℕ) (mid : List ℕ) → OpenedAt axes mode job old count mid stage → Joined stage merged mid work → Closed axes mode job old count r (buffers out ids map log) (buffers (x .1 .1 .0) (x .1 .1 .1 .0) (x .1 .1 .1 .1 .0) (x .1 .1 .1 .1 .1)) (x .1 .0)) g w))
     leaves-close-see-mut-mut-mut-mut-mut long₂ long₃ long₄ long₅ long₆ sized₂ sized₃ sized₄ sized₅ sized₆ g w =
         qed W (later (some (λ (r : Built). ((‵ (flft (κ) θ) ⊛ ‵ (flft (g .1 .0 .0 ∷ []) fullShare) ⊛ ‵ (flft (g .1 .1 .0 .0 ∷ []) fullShare) ⊛ ‵ (flft (g .1 .1 .1 .0 .0 ∷ []) fullShare) ⊛ ‵ (flft (g .1 .1 .1 .1 .0 .0 ∷ []) fullShare) ⊛ ‵ (flft (g .1 .1 .1 .1 .1 .0 ∷ []) fullShare) ⊛ ‵ ftrue) ⊛ ‵ (B.the-row .own r (w ∷ [])))
-        ⊛ some (λ (ws : Lasts close.ended (κ, (g .1 .0 .0 ∷ [], (g .1 .1 .0 .0 ∷ [], (g .1 .1 .1 .0 .0 ∷ [], (g .1 .1 .1 .1 .0 .0 ∷ [], (g .1 .1 .1 .1 .1 .0 ∷ [], tt)))))) (at-close-see-mut-mut-mut-mut-mut g .0 .3)). ‵ (lasts close.ended (κ, (g .1 .0 .0 ∷ [], (g .1 .1 .0 .0 ∷ [], (g .1 .1 .1 .0 .0 ∷ [], (g .1 .1 .1 .1 .0 .0 ∷ [], (g .1 .1 .1 .1 .1 .0 ∷ [], tt)))))) (at-close-see-mut-mut-mut-mut-mut g .0 .3) ws) ⊛ raw (fact 𝓤 ((old : List ℕ) (count : ℕ) (mid : List ℕ) → OpenedAt axes mode job old count mid stage → Joined stage merged mid work → Closed axes mode job old count r out ids map log (ws .1 .1 .1 .1 .1 .1 .0) (ws .1 .1 .1 .1 .1 .1 .1 .0) (ws .1 .1 .1 .1 .1 .1 .1 .1 .0) (ws .1 .1 .1 .1 .1 .1 .1 .1 .1 .0) (ws .1 .1 .1 .0)))))) ∷ []) ∵
+        ⊛ some (λ (ws : Lasts close.ended (κ, (g .1 .0 .0 ∷ [], (g .1 .1 .0 .0 ∷ [], (g .1 .1 .1 .0 .0 ∷ [], (g .1 .1 .1 .1 .0 .0 ∷ [], (g .1 .1 .1 .1 .1 .0 ∷ [], tt)))))) (at-close-see-mut-mut-mut-mut-mut g .0 .3)). ‵ (lasts close.ended (κ, (g .1 .0 .0 ∷ [], (g .1 .1 .0 .0 ∷ [], (g .1 .1 .1 .0 .0 ∷ [], (g .1 .1 .1 .1 .0 .0 ∷ [], (g .1 .1 .1 .1 .1 .0 ∷ [], tt)))))) (at-close-see-mut-mut-mut-mut-mut g .0 .3) ws) ⊛ raw (fact 𝓤 ((old : List ℕ) (count : ℕ) (mid : List ℕ) → OpenedAt axes mode job old count mid stage → Joined stage merged mid work → Closed axes mode job old count r (buffers out ids map log) (buffers (ws .1 .1 .1 .1 .1 .1 .0) (ws .1 .1 .1 .1 .1 .1 .1 .0) (ws .1 .1 .1 .1 .1 .1 .1 .1 .0) (ws .1 .1 .1 .1 .1 .1 .1 .1 .1 .0)) (ws .1 .1 .1 .0)))))) ∷ []) ∵
         updating ! $ await ! tt $ pick ! (λ r. split ! $ move ! (1 ∷ []) $ pick ! (λ ws. split ! $
         move ! (1 ∷ []) $
-        heard ! ((old : List ℕ) (count : ℕ) (mid : List ℕ) → OpenedAt axes mode job old count mid stage → Joined stage merged mid work → Closed axes mode job old count r out ids map log (ws .1 .1 .1 .1 .1 .1 .0) (ws .1 .1 .1 .1 .1 .1 .1 .0) (ws .1 .1 .1 .1 .1 .1 .1 .1 .0) (ws .1 .1 .1 .1 .1 .1 .1 .1 .1 .0) (ws .1 .1 .1 .0)) (λ e.
+        heard ! ((old : List ℕ) (count : ℕ) (mid : List ℕ) → OpenedAt axes mode job old count mid stage → Joined stage merged mid work → Closed axes mode job old count r (buffers out ids map log) (buffers (ws .1 .1 .1 .1 .1 .1 .0) (ws .1 .1 .1 .1 .1 .1 .1 .0) (ws .1 .1 .1 .1 .1 .1 .1 .1 .0) (ws .1 .1 .1 .1 .1 .1 .1 .1 .1 .0)) (ws .1 .1 .1 .0)) (λ e.
         fsplit ! $
         move ! (1 ∷ []) $
         fsplit ! $
@@ -352,10 +353,10 @@ module _ {M : Type 1} (𝓤 : URA M) (H : Heap 𝓤) (A : Atoms 𝓤) (W : Given
         join ! $
         move ! (2 ∷ 0 ∷ []) $
         join ! $
-        keep ! (0 ∷ 2 ∷ []) $ by ! (gives 𝓤 H A W (Loan-close-see-mut-mut-mut-mut-mut long₂ long₃ long₄ long₅ long₆ sized₂ sized₃ sized₄ sized₅ sized₆) B.the-row (λ x r. (old : List ℕ) (count : ℕ) (mid : List ℕ) → OpenedAt axes mode job old count mid stage → Joined stage merged mid work → Closed axes mode job old count r out ids map log (x .1 .1 .0) (x .1 .1 .1 .0) (x .1 .1 .1 .1 .0) (x .1 .1 .1 .1 .1) (x .1 .0)) g w r ((tt, (ws .1 .1 .1 .0, (ws .1 .1 .1 .1 .1 .1 .0, (ws .1 .1 .1 .1 .1 .1 .1 .0, (ws .1 .1 .1 .1 .1 .1 .1 .1 .0, ws .1 .1 .1 .1 .1 .1 .1 .1 .1 .0)))))) ((tt, (l₁ ∙ long₂, (l₂ ∙ long₃, (l₃ ∙ long₄, (l₄ ∙ long₅, l₅ ∙ long₆))))), e))))))))))
+        keep ! (0 ∷ 2 ∷ []) $ by ! (gives 𝓤 H A W (Loan-close-see-mut-mut-mut-mut-mut long₂ long₃ long₄ long₅ long₆ sized₂ sized₃ sized₄ sized₅ sized₆) B.the-row (λ x r. (old : List ℕ) (count : ℕ) (mid : List ℕ) → OpenedAt axes mode job old count mid stage → Joined stage merged mid work → Closed axes mode job old count r (buffers out ids map log) (buffers (x .1 .1 .0) (x .1 .1 .1 .0) (x .1 .1 .1 .1 .0) (x .1 .1 .1 .1 .1)) (x .1 .0)) g w r ((tt, (ws .1 .1 .1 .0, (ws .1 .1 .1 .1 .1 .1 .0, (ws .1 .1 .1 .1 .1 .1 .1 .0, (ws .1 .1 .1 .1 .1 .1 .1 .1 .0, ws .1 .1 .1 .1 .1 .1 .1 .1 .1 .0)))))) ((tt, (l₁ ∙ long₂, (l₂ ∙ long₃, (l₃ ∙ long₄, (l₄ ∙ long₅, l₅ ∙ long₆))))), e))))))))))
 
     pub close-see-mut-mut-mut-mut-mut : (long₂ : length work ≡ ν₂) (long₃ : length out ≡ ν₃) (long₄ : length ids ≡ ν₄) (long₅ : length map ≡ ν₅) (long₆ : length log ≡ ν₆) (sized₂ : Room u32 ν₂) (sized₃ : Room u8 ν₃) (sized₄ : Room u32 ν₄) (sized₅ : Room u32 ν₅) (sized₆ : Room u32 ν₆) → axes < 2 ^ 32 → mode < 2 ^ 32 → Is S.the-row stage (stage-mach stage ∷ []) → Is D.the-row merged (mach-merged merged ∷ []) → (CloseFit axes mode job stage merged work) → ent 𝓤 (mean 𝓤 H A (Loan-close-see-mut-mut-mut-mut-mut long₂ long₃ long₄ long₅ long₆ sized₂ sized₃ sized₄ sized₅ sized₆ .held)) (H .⇛ (C #build·close (vint w32 axes ∷ vint w32 mode ∷ sliceVal (β, ι) ν ∷ sliceVal (β₂, ι₂) ν₂ ∷ stage-mach stage ∷ mach-merged merged ∷ sliceVal (β₃, ι₃) ν₃ ∷ sliceVal (β₄, ι₄) ν₄ ∷ sliceVal (β₅, ι₅) ν₅ ∷ sliceVal (β₆, ι₆) ν₆ ∷ []) (λ w. mean 𝓤 H A (After-close-see-mut-mut-mut-mut-mut w))))
-    close-see-mut-mut-mut-mut-mut long₂ long₃ long₄ long₅ long₆ sized₂ sized₃ sized₄ sized₅ sized₆ g-axes g-mode g-stage g-merged l = loan-call 𝓤 H A W (Loan-close-see-mut-mut-mut-mut-mut long₂ long₃ long₄ long₅ long₆ sized₂ sized₃ sized₄ sized₅ sized₆) B.the-row (λ x r. (old : List ℕ) (count : ℕ) (mid : List ℕ) → OpenedAt axes mode job old count mid stage → Joined stage merged mid work → Closed axes mode job old count r out ids map log (x .1 .1 .0) (x .1 .1 .1 .0) (x .1 .1 .1 .1 .0) (x .1 .1 .1 .1 .1) (x .1 .0)) C fm #build·close (vint w32 axes ∷ vint w32 mode ∷ sliceVal (β, ι) ν ∷ sliceVal (β₂, ι₂) ν₂ ∷ stage-mach stage ∷ mach-merged merged ∷ sliceVal (β₃, ι₃) ν₃ ∷ sliceVal (β₄, ι₄) ν₄ ∷ sliceVal (β₅, ι₅) ν₅ ∷ sliceVal (β₆, ι₆) ν₆ ∷ []) (λ g.
+    close-see-mut-mut-mut-mut-mut long₂ long₃ long₄ long₅ long₆ sized₂ sized₃ sized₄ sized₅ sized₆ g-axes g-mode g-stage g-merged l = loan-call 𝓤 H A W (Loan-close-see-mut-mut-mut-mut-mut long₂ long₃ long₄ long₅ long₆ sized₂ sized₃ sized₄ sized₅ sized₆) B.the-row (λ x r. (old : List ℕ) (count : ℕ) (mid : List ℕ) → OpenedAt axes mode job old count mid stage → Joined stage merged mid work → Closed axes mode job old count r (buffers out ids map log) (buffers (x .1 .1 .0) (x .1 .1 .1 .0) (x .1 .1 .1 .1 .0) (x .1 .1 .1 .1 .1)) (x .1 .0)) C fm #build·close (vint w32 axes ∷ vint w32 mode ∷ sliceVal (β, ι) ν ∷ sliceVal (β₂, ι₂) ν₂ ∷ stage-mach stage ∷ mach-merged merged ∷ sliceVal (β₃, ι₃) ν₃ ∷ sliceVal (β₄, ι₄) ν₄ ∷ sliceVal (β₅, ι₅) ν₅ ∷ sliceVal (β₆, ι₆) ν₆ ∷ []) (λ g.
         qed W (Loan-close-see-mut-mut-mut-mut-mut long₂ long₃ long₄ long₅ long₆ sized₂ sized₃ sized₄ sized₅ sized₆ .goes g ∷ []) ∵
         suffices ! (C #build·close (vint w32 axes ∷ vint w32 mode ∷ sliceVal (β, ι) ν ∷ sliceVal (β₂, ι₂) ν₂ ∷ stage-mach stage ∷ mach-merged merged ∷ sliceVal (β₃, ι₃) ν₃ ∷ sliceVal (β₄, ι₄) ν₄ ∷ sliceVal (β₅, ι₅) ν₅ ∷ sliceVal (β₆, ι₆) ν₆ ∷ []) (Close-of 𝓤 H A mem run .post (at-close-see-mut-mut-mut-mut-mut g))) (fm→monoC 𝓤 H (W .laws) C fm #build·close (vint w32 axes ∷ vint w32 mode ∷ sliceVal (β, ι) ν ∷ sliceVal (β₂, ι₂) ν₂ ∷ stage-mach stage ∷ mach-merged merged ∷ sliceVal (β₃, ι₃) ν₃ ∷ sliceVal (β₄, ι₄) ν₄ ∷ sliceVal (β₅, ι₅) ν₅ ∷ sliceVal (β₆, ι₆) ν₆ ∷ []) (Close-of 𝓤 H A mem run .post (at-close-see-mut-mut-mut-mut-mut g)) _ (leaves-close-see-mut-mut-mut-mut-mut long₂ long₃ long₄ long₅ long₆ sized₂ sized₃ sized₄ sized₅ sized₆ g)) $
         suffices ! (Close-of 𝓤 H A mem run .pre (at-close-see-mut-mut-mut-mut-mut g)) (known (at-close-see-mut-mut-mut-mut-mut g)) $ split ! $

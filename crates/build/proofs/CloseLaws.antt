@@ -8,7 +8,7 @@ use lib.ListN.{length, replicate}
 use Rattle.merging.specs.declared.encoder.Merged.{Merged}
 use Rattle.slots.specs.declared.tables.Tables.{Tables}
 use Rattle.merging.specs.Optimized.{Ready, Optimized}
-use Rattle.said.specs.Job.{Said, Outcome, refused, fine, inAxes, walk}
+use Rattle.said.specs.Job.{Said, Outcome, refused, fine, inAxes, walk, outcome}
 use Rattle.job.proofs.CheckLaws.{left-early, left-zeros}
 use Rattle.encoder.specs.declared.places.Places.{Places}
 use Rattle.encoder.specs.declared.encoded.Encoded.{Encoded}
@@ -20,12 +20,15 @@ use Rattle.store.specs.Lent as store
 use Rattle.finishing.specs.declared.answers.Built.{Built}
 use Rattle.finishing.specs.declared.answers.Built.the-variants.{Refused}
 use Rattle.build.specs.declared.opening.Stage.{Stage}
-use Rattle.build.specs.Build.{coordsOf, packedOf}
-use Rattle.finishing.specs.Lent.{FinishFit, Finished, lengths}
+use Rattle.pairs.specs.declared.Pair.{Pair}
+use Rattle.build.specs.Lending.{lending, leaves}
+use Rattle.build.specs.Build.{coordsOf, packedOf, pairsLeft, answerOf, Obeys}
+use Rattle.finishing.specs.Buffers.{Buffers}
+use Rattle.finishing.specs.Lent.{FinishFit, Finished}
 use Rattle.build.specs.Collected.{Collected, RecordsBuilt}
-use Rattle.build.specs.Opened.{Grouped, Read, OpenedAt, Joined, SettleFit, CloseFit, Whole, Closed}
+use Rattle.build.specs.Opened.{Grouped, Read, OpenedAt, Joined, SettleFit, CloseFit, Closed}
 use Rattle.build.proofs.PackLaws.{pack-full, shared-fit, shared-done, own-fit, own-done, none-own}
-use Rattle.build.proofs.RecordsLaws.{records-refused, records-built, whole-early, whole-late}
+use Rattle.build.proofs.RecordsLaws.{records-refused, records-built, built-early, built-late}
 
 -- where nothing was refused a job says something
 pub record SaidBy (axes mode : ℕ) (job : List ℕ) (o : Outcome) (s : Stage) (w : List ℕ) : Type 0 where
@@ -37,13 +40,13 @@ said-by : (axes mode : ℕ) (job : List ℕ) (o : Outcome) (s : Stage) (w : List
 said-by axes mode job (refused n i) s w r z = absurd (r .2 (sym (r .0) ∙ z))
 said-by axes mode job (fine x) s w r z = record { said = x; is = refl; grouped = r }
 
-pub settle-refused : (axes mode : ℕ) (job : List ℕ) (o : Outcome) (s : Stage) (w : List ℕ) → Read axes mode job o s w → (s .no ≡ 0 → ⊥) → (out ids map log : List ℕ)
-    → RecordsBuilt axes mode o (Refused (s .no) (s .at)) out ids map log out ids map log
-settle-refused axes mode job (refused n i) s w r z out ids map log = records-refused axes mode (refused n i) (s .no) (s .at) out ids map log (ap₂ refused (sym (r .0)) (sym (r .1)))
-settle-refused axes mode job (fine x) s w r z out ids map log =
+pub settle-refused : (axes mode : ℕ) (job : List ℕ) (o : Outcome) (s : Stage) (w : List ℕ) → Read axes mode job o s w → (s .no ≡ 0 → ⊥) → (old : Buffers)
+    → RecordsBuilt axes mode o (Refused (s .no) (s .at)) old old
+settle-refused axes mode job (refused n i) s w r z old = records-refused axes mode (refused n i) (s .no) (s .at) old (ap₂ refused (sym (r .0)) (sym (r .1)))
+settle-refused axes mode job (fine x) s w r z old =
     let f = r .full z in
-    subst (λ (b : Built). RecordsBuilt axes mode (fine x) b out ids map log out ids map log) (ap₂ Refused (sym (f .1)) (sym (f .2)))
-    (records-built axes mode (fine x) x (Refused 10 0) out ids map log out ids map log refl (pack-full axes mode x (f .0) (f .3) (lengths out ids map log) out ids map log))
+    subst (λ (b : Built). RecordsBuilt axes mode (fine x) b old old) (ap₂ Refused (sym (f .1)) (sym (f .2)))
+    (records-built axes mode (fine x) x (Refused 10 0) old old refl (pack-full axes mode x (f .0) (f .3) old))
 
 module _ (axes mode : ℕ) (job : List ℕ) (s : Stage) {w : List ℕ} {m : Merged} (o : Outcome) (mid : List ℕ) (r : Read axes mode job o s mid) (j : Joined s m mid w) (z : s .no ≡ 0) where
   abbrev by : SaidBy axes mode job o s mid
@@ -55,10 +58,10 @@ module _ (axes mode : ℕ) (job : List ℕ) (s : Stage) {w : List ℕ} {m : Merg
   pub axes-few : axes ≤ 64
   axes-few = held .axes-few
 
-  built : (b : Built) (out ids map log out′ ids′ map′ log′ : List ℕ)
-      → Finished axes (coordsOf (said-by axes mode job o s mid r z .said)) (packedOf mode (said-by axes mode job o s mid r z .said)) (lengths out ids map log) b out ids map log out′ ids′ map′ log′
-      → RecordsBuilt axes mode o b out ids map log out′ ids′ map′ log′
-  built b out ids map log out′ ids′ map′ log′ f = records-built axes mode o (by .said) b out ids map log out′ ids′ map′ log′ (by .is) f
+  built : (b : Built) (old new : Buffers)
+      → Finished axes (coordsOf (said-by axes mode job o s mid r z .said)) (packedOf mode (said-by axes mode job o s mid r z .said)) b old new
+      → RecordsBuilt axes mode o b old new
+  built b old new f = records-built axes mode o (by .said) b old new (by .is) f
 
   -- ---- mode 0
 
@@ -74,11 +77,11 @@ module _ (axes mode : ℕ) (job : List ℕ) (s : Stage) {w : List ℕ} {m : Merg
       pub joined-fit : FinishFit axes (s .starts) job (s .places) e w′
       joined-fit = shared-fit held (f mid joins j)
 
-      pub joined-done : (b : Built) (out ids map log out′ ids′ map′ log′ : List ℕ)
-          → ((k : Packed) → PackedAt k (s .places) e w′ → Finished axes (store.coordsOf job axes w′ (s .starts) (s .places .regions)) k (lengths out ids map log) b out ids map log out′ ids′ map′ log′)
-          → RecordsBuilt axes mode o b out ids map log out′ ids′ map′ log′
-      joined-done b out ids map log out′ ids′ map′ log′ g =
-          built b out ids map log out′ ids′ map′ log′ (shared-done held (f mid joins j) mode v (lengths out ids map log) b out ids map log out′ ids′ map′ log′ g)
+      pub joined-done : (b : Built) (old new : Buffers)
+          → ((k : Packed) → PackedAt k (s .places) e w′ → Finished axes (store.coordsOf job axes w′ (s .starts) (s .places .regions)) k b old new)
+          → RecordsBuilt axes mode o b old new
+      joined-done b old new g =
+          built b old new (shared-done held (f mid joins j) mode v b old new g)
 
   -- ---- mode 1, for which merging did nothing
 
@@ -89,30 +92,30 @@ module _ (axes mode : ℕ) (job : List ℕ) (s : Stage) {w : List ℕ} {m : Merg
     pub alone-fit : Fit (s .places) w
     alone-fit = alone .fit
 
-    pub none-done : s .places .sets ≡ 0 → (b : Built) (out ids map log out′ ids′ map′ log′ : List ℕ)
-        → Finished axes [] (own 0 []) (lengths out ids map log) b out ids map log out′ ids′ map′ log′ → RecordsBuilt axes mode o b out ids map log out′ ids′ map′ log′
-    none-done n b out ids map log out′ ids′ map′ log′ f =
-        built b out ids map log out′ ids′ map′ log′ (none-own alone mode v n (lengths out ids map log) b out ids map log out′ ids′ map′ log′ f)
+    pub none-done : s .places .sets ≡ 0 → (b : Built) (old new : Buffers)
+        → Finished axes [] (own 0 []) b old new → RecordsBuilt axes mode o b old new
+    none-done n b old new f =
+        built b old new (none-own alone mode v n b old new f)
 
     module _ {w′ : List ℕ} {e : Encoded} (f : OwnAt (s .places) w w′ e) where
       pub alone-own : FinishFit axes (s .starts) job (s .places) e w′
       alone-own = own-fit alone f
 
-      pub alone-done : (b : Built) (out ids map log out′ ids′ map′ log′ : List ℕ)
-          → ((k : Packed) → PackedAt k (s .places) e w′ → Finished axes (store.coordsOf job axes w′ (s .starts) (s .places .regions)) k (lengths out ids map log) b out ids map log out′ ids′ map′ log′)
-          → RecordsBuilt axes mode o b out ids map log out′ ids′ map′ log′
-      alone-done b out ids map log out′ ids′ map′ log′ g =
-          built b out ids map log out′ ids′ map′ log′ (own-done alone f mode v (lengths out ids map log) b out ids map log out′ ids′ map′ log′ g)
+      pub alone-done : (b : Built) (old new : Buffers)
+          → ((k : Packed) → PackedAt k (s .places) e w′ → Finished axes (store.coordsOf job axes w′ (s .starts) (s .places .regions)) k b old new)
+          → RecordsBuilt axes mode o b old new
+      alone-done b old new g =
+          built b old new (own-done alone f mode v b old new g)
 
 -- ---- the whole
 
 module _ {axes mode : ℕ} {job w : List ℕ} {s : Stage} {m : Merged} (old : List ℕ) (pairs : ℕ) (mid : List ℕ) (p : OpenedAt axes mode job old pairs mid s) (j : Joined s m mid w) where
-  pub close-early : s .early ≡ true → (out ids map log : List ℕ) → Closed axes mode job old pairs (Refused (s .no) (s .at)) out ids map log out ids map log w
-  close-early e out ids map log =
+  pub close-early : s .early ≡ true → (lent : Buffers) → Closed axes mode job old pairs (Refused (s .no) (s .at)) lent lent w
+  close-early e lent =
       let a = p .at-once e in
       let same : w ≡ old = idle (s .places) (s .groups) j (a .4) ∙ a .0 in
       record {
-        whole = subst (λ (i : ℕ). Whole axes mode job (length old) pairs (Refused (s .no) i) out ids map log out ids map log) (sym (a .3)) (whole-early axes mode job (length old) pairs (s .no) (a .1) (a .2) out ids map log);
+        built = subst (λ (i : ℕ). RecordsBuilt axes mode (outcome axes mode job (length old) pairs) (Refused (s .no) i) lent lent) (sym (a .3)) (built-early axes mode job (length old) pairs (s .no) (a .1) (a .2) lent);
         work-is = same ∙ left-early axes mode job old pairs (s .no) (a .1) (a .2);
       }
 
@@ -124,16 +127,25 @@ module _ {axes mode : ℕ} {job w : List ℕ} {s : Stage} {m : Merged} (old : Li
     joined = j;
   }
 
-  pub close-late : s .early ≡ false → (a : ℕ) → a ≡ axes → (b : Built) (out ids map log out′ ids′ map′ log′ : List ℕ)
-      → ((o : Outcome) (v : List ℕ) → Read a mode job o s v → Joined s m v w → RecordsBuilt a mode o b out ids map log out′ ids′ map′ log′)
-      → (long : ℕ) → long ≡ length w → (w′ : List ℕ) → w′ ≡ replicate long 0 → Closed axes mode job old pairs b out ids map log out′ ids′ map′ log′ w′
-  close-late e a q b out ids map log out′ ids′ map′ log′ f long l w′ c =
+  pub close-late : s .early ≡ false → (a : ℕ) → a ≡ axes → (b : Built) (lent lent′ : Buffers)
+      → ((o : Outcome) (v : List ℕ) → Read a mode job o s v → Joined s m v w → RecordsBuilt a mode o b lent lent′)
+      → (long : ℕ) → long ≡ length w → (w′ : List ℕ) → w′ ≡ replicate long 0 → Closed axes mode job old pairs b lent lent′ w′
+  close-late e a q b lent lent′ f long l w′ c =
       let h = p .after e in
       let r = f (walk a mode job job (length job / 12) 0 inAxes) mid (subst (λ (x : ℕ). Read x mode job (walk x mode job job (length job / 12) 0 inAxes) s mid) (sym q) (h .1)) j in
       record {
-        whole = whole-late axes mode job (length old) pairs 0 (sym (h .0)) refl a q b out ids map log out′ ids′ map′ log′ r;
+        built = built-late axes mode job (length old) pairs 0 (sym (h .0)) refl a q b lent lent′ r;
         work-is = left-zeros axes mode job old pairs 0 (sym (h .0)) refl long w′ (l ∙ j .only .long ∙ p .long) c;
       }
+
+-- ---- and with the pair records the promise of the call
+
+pub obeys : (axes mode : ℕ) (job work : List ℕ) (pairs : List Pair) (r : Built) (old new : Buffers) (work′ : List ℕ) (pairs′ : List Pair)
+    → Closed axes mode job work (length pairs) r old new work′ → pairs′ ≡ pairsLeft axes mode (length job) (length work) pairs
+    → Obeys (lending axes mode job work pairs old) r (leaves work′ pairs′ new)
+unfolding answerOf
+obeys axes mode job work pairs r old new work′ pairs′ c e =
+    record { answer = c .built .answer; left = (λ i. record { work = c .work-is i; pairs = e i; lent = c .built .left i }) }
 
 -- ---- merging, by the tables that it was given
 

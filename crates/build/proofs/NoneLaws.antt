@@ -17,7 +17,7 @@ use Rattle.encoder.specs.declared.encoded.Encoded.{Encoded}
 use Rattle.encoder.specs.Packed.{Packed, own, oneCost}
 use Rattle.encoder.specs.Lent.{relabel, groupAt, FinalIn, PackedAt}
 use Rattle.finishing.specs.declared.answers.Built.{Built}
-use Rattle.finishing.specs.Late as late
+use Rattle.finishing.specs.Buffers.{Buffers}
 use Rattle.finishing.specs.Lent.{FinishFit, Finished}
 use Rattle.build.specs.Opened.{noPlaces}
 
@@ -76,9 +76,9 @@ module _ (axes : ℕ) (job : List ℕ) (p : Places) (e : p ≡ noPlaces) where
   })
 
   -- no region has coordinates
-  pub none-done : (l : late.Lengths) (r : Built) (out ids map log out′ ids′ map′ log′ : List ℕ)
-      → ((k : Packed) → PackedAt k p one-null three → Finished axes (coordsOf job axes three 0 (p .regions)) k l r out ids map log out′ ids′ map′ log′)
-      → Finished axes [] (own 0 []) l r out ids map log out′ ids′ map′ log′
+  pub none-done : (r : Built) (old new : Buffers)
+      → ((k : Packed) → PackedAt k p one-null three → Finished axes (coordsOf job axes three 0 (p .regions)) k r old new)
+      → Finished axes [] (own 0 []) r old new
   unfolding coordsOf tabulate
-  none-done l r out ids map log out′ ids′ map′ log′ f =
-      subst (λ (x : Places). ((k : Packed) → PackedAt k x one-null three → Finished axes (coordsOf job axes three 0 (x .regions)) k l r out ids map log out′ ids′ map′ log′)) e f (own 0 []) none-packed
+  none-done r old new f =
+      subst (λ (x : Places). ((k : Packed) → PackedAt k x one-null three → Finished axes (coordsOf job axes three 0 (x .regions)) k r old new)) e f (own 0 []) none-packed

@@ -37,7 +37,8 @@ use Rattle.encoder.specs.Arranged.{JoinedGroups}
 use Rattle.encoder.proofs.DenseIds.{ids-length, ids-below}
 use Rattle.finishing.specs.declared.answers.Built.{Built}
 use Rattle.finishing.specs.declared.answers.Built.the-variants.{Refused}
-use Rattle.finishing.specs.Late.{Lengths, lateNo, lateAnswer, ifDone, outLeft, idsLeft, mapLeft, logLeft}
+use Rattle.finishing.specs.Buffers.{Buffers, Lengths, lengths}
+use Rattle.finishing.specs.Late.{lateNo, lateAnswer, buffersLeft}
 use Rattle.build.specs.Build.{coordsOf, packedOf}
 use Rattle.finishing.specs.Lent.{FinishFit, Finished}
 use Rattle.build.specs.Collected.{Collected}
@@ -69,23 +70,23 @@ own-merges n all = omega arith
 
 -- ---- a refusal leaves everything as it was
 
-pub refused-late : (axes : ℕ) (coords : List (List ℕ)) (k : Packed) (l : Lengths) (n : ℕ) (out ids map log : List ℕ) → lateNo axes coords k l ≡ suc n
-    → Finished axes coords k l (Refused (suc n) 0) out ids map log out ids map log
-unfolding lateAnswer outLeft idsLeft mapLeft logLeft ifDone
-refused-late axes coords k l n out ids map log e =
-    let z : eqb (lateNo axes coords k l) 0 ≡ false = ap (λ (x : ℕ). eqb x 0) e ∙ ne-eqb (suc n) 0 (λ x. omega arith) in
-    record { answer = rw (z, e); out-is = rw z; ids-is = rw z; map-is = rw z; log-is = rw z }
+pub refused-late : (axes : ℕ) (coords : List (List ℕ)) (k : Packed) (n : ℕ) (old : Buffers) → lateNo axes coords k (lengths old) ≡ suc n
+    → Finished axes coords k (Refused (suc n) 0) old old
+unfolding lateAnswer buffersLeft
+refused-late axes coords k n old e =
+    let z : eqb (lateNo axes coords k (lengths old)) 0 ≡ false = ap (λ (x : ℕ). eqb x 0) e ∙ ne-eqb (suc n) 0 (λ x. omega arith) in
+    record { answer = rw (z, e); left = rw z }
 
 too-many : (axes : ℕ) (coords : List (List ℕ)) (k : Packed) (l : Lengths) → 1024 < k .groups → lateNo axes coords k l ≡ 10
 unfolding lateNo firstFailed
 too-many axes coords k l h = rw (lt-leb (k .groups) 1024 h)
 
-pub pack-full : (axes mode : ℕ) (s : Said) → mode ≡ 0 → maxShapes < length (groupsOf (length (s .used)) (s .sets)) → (l : Lengths) (out ids map log : List ℕ)
-    → Finished axes (coordsOf s) (packedOf mode s) l (Refused 10 0) out ids map log out ids map log
+pub pack-full : (axes mode : ℕ) (s : Said) → mode ≡ 0 → maxShapes < length (groupsOf (length (s .used)) (s .sets)) → (old : Buffers)
+    → Finished axes (coordsOf s) (packedOf mode s) (Refused 10 0) old old
 unfolding packedOf shared
-pack-full axes mode s z many l out ids map log =
-    refused-late axes (coordsOf s) (packedOf mode s) l 9 out ids map log
-    (too-many axes (coordsOf s) (packedOf mode s) l (rw (eq-eqb mode 0 z) many))
+pack-full axes mode s z many old =
+    refused-late axes (coordsOf s) (packedOf mode s) 9 old
+    (too-many axes (coordsOf s) (packedOf mode s) (lengths old) (rw (eq-eqb mode 0 z) many))
 
 module _ {axes starts : ℕ} {job w : List ℕ} {p : Places} {s : Said} (c : Collected axes starts job p s w) where
   abbrev all : List Set
@@ -146,11 +147,11 @@ module _ {axes starts : ℕ} {job w : List ℕ} {p : Places} {s : Said} (c : Col
             omega (arith, packed .distinct-is);
       }
 
-    finished : (k k′ : Packed) (l : Lengths) (r : Built) (out ids map log out′ ids′ map′ log′ : List ℕ) → k ≡ k′
-        → Finished axes (store.coordsOf job axes w′ starts (p .regions)) k l r out ids map log out′ ids′ map′ log′ → Finished axes (coordsOf s) k′ l r out ids map log out′ ids′ map′ log′
-    finished k k′ l r out ids map log out′ ids′ map′ log′ e f =
-        subst (λ (x : Packed). Finished axes (coordsOf s) x l r out ids map log out′ ids′ map′ log′) e
-        (subst (λ (z : List (List ℕ)). Finished axes z k l r out ids map log out′ ids′ map′ log′) coords-kept f)
+    finished : (k k′ : Packed) (r : Built) (old new : Buffers) → k ≡ k′
+        → Finished axes (store.coordsOf job axes w′ starts (p .regions)) k r old new → Finished axes (coordsOf s) k′ r old new
+    finished k k′ r old new e f =
+        subst (λ (x : Packed). Finished axes (coordsOf s) x r old new) e
+        (subst (λ (z : List (List ℕ)). Finished axes z k r old new) coords-kept f)
 
   -- ---- mode 0
 
@@ -158,11 +159,11 @@ module _ {axes starts : ℕ} {job w : List ℕ} {p : Places} {s : Said} (c : Col
     pub shared-fit : FinishFit axes starts job p e w′
     shared-fit = finish-fit (h .only) (shared (p .regions) all) e (h .packed) (shared-merges (p .regions) all) (shared-ids (p .regions) all)
 
-    pub shared-done : (mode : ℕ) → mode ≡ 0 → (l : Lengths) (b : Built) (out ids map log out′ ids′ map′ log′ : List ℕ)
-        → ((k : Packed) → PackedAt k p e w′ → Finished axes (store.coordsOf job axes w′ starts (p .regions)) k l b out ids map log out′ ids′ map′ log′)
-        → Finished axes (coordsOf s) (packedOf mode s) l b out ids map log out′ ids′ map′ log′
-    shared-done mode z l b out ids map log out′ ids′ map′ log′ f =
-        finished (h .only) (shared (p .regions) all) (packedOf mode s) l b out ids map log out′ ids′ map′ log′ (shared-is mode z) (f (shared (p .regions) all) (h .packed))
+    pub shared-done : (mode : ℕ) → mode ≡ 0 → (b : Built) (old new : Buffers)
+        → ((k : Packed) → PackedAt k p e w′ → Finished axes (store.coordsOf job axes w′ starts (p .regions)) k b old new)
+        → Finished axes (coordsOf s) (packedOf mode s) b old new
+    shared-done mode z b old new f =
+        finished (h .only) (shared (p .regions) all) (packedOf mode s) b old new (shared-is mode z) (f (shared (p .regions) all) (h .packed))
 
   -- ---- mode 1
 
@@ -170,21 +171,21 @@ module _ {axes starts : ℕ} {job w : List ℕ} {p : Places} {s : Said} (c : Col
     pub own-fit : FinishFit axes starts job p e w′
     own-fit = finish-fit (h .only) (own (p .regions) all) e (h .result) (own-merges (p .regions) all) (own-ids (p .regions) all)
 
-    pub own-done : (mode : ℕ) → (mode ≡ 0 → ⊥) → (l : Lengths) (b : Built) (out ids map log out′ ids′ map′ log′ : List ℕ)
-        → ((k : Packed) → PackedAt k p e w′ → Finished axes (store.coordsOf job axes w′ starts (p .regions)) k l b out ids map log out′ ids′ map′ log′)
-        → Finished axes (coordsOf s) (packedOf mode s) l b out ids map log out′ ids′ map′ log′
-    own-done mode z l b out ids map log out′ ids′ map′ log′ f =
-        finished (h .only) (own (p .regions) all) (packedOf mode s) l b out ids map log out′ ids′ map′ log′ (own-is mode z) (f (own (p .regions) all) (h .result))
+    pub own-done : (mode : ℕ) → (mode ≡ 0 → ⊥) → (b : Built) (old new : Buffers)
+        → ((k : Packed) → PackedAt k p e w′ → Finished axes (store.coordsOf job axes w′ starts (p .regions)) k b old new)
+        → Finished axes (coordsOf s) (packedOf mode s) b old new
+    own-done mode z b old new f =
+        finished (h .only) (own (p .regions) all) (packedOf mode s) b old new (own-is mode z) (f (own (p .regions) all) (h .result))
 
   -- without sets
-  pub none-own : (mode : ℕ) → (mode ≡ 0 → ⊥) → p .sets ≡ 0 → (l : Lengths) (b : Built) (out ids map log out′ ids′ map′ log′ : List ℕ)
-      → Finished axes [] (own 0 []) l b out ids map log out′ ids′ map′ log′ → Finished axes (coordsOf s) (packedOf mode s) l b out ids map log out′ ids′ map′ log′
-  none-own mode z n l b out ids map log out′ ids′ map′ log′ f =
+  pub none-own : (mode : ℕ) → (mode ≡ 0 → ⊥) → p .sets ≡ 0 → (b : Built) (old new : Buffers)
+      → Finished axes [] (own 0 []) b old new → Finished axes (coordsOf s) (packedOf mode s) b old new
+  none-own mode z n b old new f =
       let long : length (s .sets) ≡ 0 = ap length (sym (c .sets-are)) ∙ sets-length 0 (p .sets) w ∙ n in
       let none : s .sets ≡ [] = empty (s .sets) long in
       let idle : s .used ≡ [] = empty (s .used) (c .no-use long) in
-      subst (λ (x : Packed). Finished axes (coordsOf s) x l b out ids map log out′ ids′ map′ log′) (sym (own-none mode z none idle))
-      (subst (λ (x : List (List ℕ)). Finished axes x (own 0 []) l b out ids map log out′ ids′ map′ log′) (sym (coords-none idle)) f)
+      subst (λ (x : Packed). Finished axes (coordsOf s) x b old new) (sym (own-none mode z none idle))
+      (subst (λ (x : List (List ℕ)). Finished axes x (own 0 []) b old new) (sym (coords-none idle)) f)
     where
       empty : {A : Type 0} (l : List A) → length l ≡ 0 → l ≡ []
       empty [] e = refl

@@ -24,11 +24,10 @@ use Rattle.encoder.specs.Places.{PlacesAt}
 use Rattle.encoder.proofs.PlacesLaws.{laid}
 use Rattle.finishing.specs.declared.answers.Built.{Built}
 use Rattle.finishing.specs.declared.answers.Built.the-variants.{Refused}
-use Rattle.finishing.specs.Late.{Lengths}
-use Rattle.build.specs.Build.{regionBytes, coordsOf, packedOf, answerFrom, answerOf, leftFrom, outAfter, idsAfter, mapAfter, logAfter}
-use Rattle.finishing.specs.Lent.{Finished, lengths}
+use Rattle.finishing.specs.Buffers.{Buffers}
+use Rattle.finishing.specs.Lent.{Finished}
+use Rattle.build.specs.Build.{regionBytes, coordsOf, packedOf, answerFrom, leftFrom}
 use Rattle.build.specs.Collected.{StartsAt, Collected, RecordsBuilt}
-use Rattle.build.specs.Opened.{Whole}
 use Rattle.build.proofs.CoordLaws.{coords-are}
 
 -- ---- sets held below one word are held below a later one
@@ -141,36 +140,27 @@ module _ {axes mode records : ℕ} {job w w₁ : List ℕ} (some : 0 < axes) (fe
 
 -- ---- answers
 
-pub records-refused : (axes mode : ℕ) (o : Outcome) (n at : ℕ) (out ids map log : List ℕ) → o ≡ refused n at → RecordsBuilt axes mode o (Refused n at) out ids map log out ids map log
+pub records-refused : (axes mode : ℕ) (o : Outcome) (n at : ℕ) (old : Buffers) → o ≡ refused n at → RecordsBuilt axes mode o (Refused n at) old old
 unfolding answerFrom leftFrom
-records-refused axes mode o n at out ids map log e = rw e (record { answer = refl; out-is = refl; ids-is = refl; map-is = refl; log-is = refl })
+records-refused axes mode o n at old e = rw e (record { answer = refl; left = refl })
 
-pub records-built : (axes mode : ℕ) (o : Outcome) (s : Said) (b : Built) (out ids map log out′ ids′ map′ log′ : List ℕ) → o ≡ fine s
-    → Finished axes (coordsOf s) (packedOf mode s) (lengths out ids map log) b out ids map log out′ ids′ map′ log′ → RecordsBuilt axes mode o b out ids map log out′ ids′ map′ log′
+pub records-built : (axes mode : ℕ) (o : Outcome) (s : Said) (r : Built) (old new : Buffers) → o ≡ fine s
+    → Finished axes (coordsOf s) (packedOf mode s) r old new → RecordsBuilt axes mode o r old new
 unfolding answerFrom leftFrom
-records-built axes mode o s b out ids map log out′ ids′ map′ log′ e f =
-    rw e (record { answer = f .answer; out-is = f .out-is; ids-is = f .ids-is; map-is = f .map-is; log-is = f .log-is })
+records-built axes mode o s r old new e f = rw e (record { answer = f .answer; left = f .left })
 
 -- ---- the whole
 
-by-outcome : (axes mode : ℕ) (job : List ℕ) (work pairs : ℕ) (o : Outcome) (b : Built) (out ids map log out′ ids′ map′ log′ : List ℕ) → outcome axes mode job work pairs ≡ o
-    → RecordsBuilt axes mode o b out ids map log out′ ids′ map′ log′ → Whole axes mode job work pairs b out ids map log out′ ids′ map′ log′
-unfolding answerOf outAfter idsAfter mapAfter logAfter
-by-outcome axes mode job work pairs o b out ids map log out′ ids′ map′ log′ e f =
-    record { answer = rw e (f .answer); out-is = rw e (f .out-is); ids-is = rw e (f .ids-is); map-is = rw e (f .map-is); log-is = rw e (f .log-is) }
-
 module _ (axes mode : ℕ) (job : List ℕ) (work pairs n : ℕ) (e : n ≡ earlyNo axes mode (length job) work pairs) where
-  pub whole-early : (n ≡ 0 → ⊥) → (out ids map log : List ℕ) → Whole axes mode job work pairs (Refused n 0) out ids map log out ids map log
+  pub built-early : (n ≡ 0 → ⊥) → (old : Buffers) → RecordsBuilt axes mode (outcome axes mode job work pairs) (Refused n 0) old old
   unfolding outcome
-  whole-early h out ids map log =
-      by-outcome axes mode job work pairs (refused n 0) (Refused n 0) out ids map log out ids map log
+  built-early h old = records-refused axes mode (outcome axes mode job work pairs) n 0 old
       (ap (λ (k : ℕ). outcomeFrom k (walk axes mode job job (length job / 12) 0 inAxes)) (sym e) ∙ early-first n (walk axes mode job job (length job / 12) 0 inAxes) h)
-      (records-refused axes mode (refused n 0) n 0 out ids map log refl)
 
-  pub whole-late : n ≡ 0 → (a : ℕ) → a ≡ axes → (b : Built) (out ids map log out′ ids′ map′ log′ : List ℕ)
-      → RecordsBuilt a mode (walk a mode job job (length job / 12) 0 inAxes) b out ids map log out′ ids′ map′ log′ → Whole axes mode job work pairs b out ids map log out′ ids′ map′ log′
+  pub built-late : n ≡ 0 → (a : ℕ) → a ≡ axes → (r : Built) (old new : Buffers)
+      → RecordsBuilt a mode (walk a mode job job (length job / 12) 0 inAxes) r old new → RecordsBuilt axes mode (outcome axes mode job work pairs) r old new
   unfolding outcome
-  whole-late z a q b out ids map log out′ ids′ map′ log′ f =
-      by-outcome axes mode job work pairs (walk axes mode job job (length job / 12) 0 inAxes) b out ids map log out′ ids′ map′ log′
-      (none-early (earlyNo axes mode (length job) work pairs) (walk axes mode job job (length job / 12) 0 inAxes) (sym e ∙ z))
-      (subst (λ (x : ℕ). RecordsBuilt x mode (walk x mode job job (length job / 12) 0 inAxes) b out ids map log out′ ids′ map′ log′) q f)
+  built-late z a q r old new f =
+      subst (λ (o : Outcome). RecordsBuilt axes mode o r old new)
+      (sym (none-early (earlyNo axes mode (length job) work pairs) (walk axes mode job job (length job / 12) 0 inAxes) (sym e ∙ z)))
+      (subst (λ (x : ℕ). RecordsBuilt x mode (walk x mode job job (length job / 12) 0 inAxes) r old new) q f)

@@ -1,4 +1,5 @@
 -- A whole build: its answer, and what it leaves in everything lent, for every axis count, mode and job. Document 01. Assumes nothing.
+use mathlib.Core.Path.{_≡_}
 use mathlib.Core.List.{List, [], _∷_, _++_, map}
 use Prim.Native.Nat.{ℕ}
 use lib.Dec.{eqb}
@@ -13,7 +14,10 @@ use Rattle.said.specs.Job.{Said, Outcome, refused, fine, outcome}
 use Rattle.encoder.specs.Packed.{Packed, shared, own}
 use Rattle.finishing.specs.declared.answers.Built.{Built}
 use Rattle.finishing.specs.declared.answers.Built.the-variants.{Refused}
-use Rattle.finishing.specs.Late.{Lengths, lateAnswer, outLeft, idsLeft, mapLeft, logLeft}
+use Rattle.job.specs.Check.{workLeft}
+use Rattle.finishing.specs.Buffers.{Buffers, Lengths, lengths}
+use Rattle.finishing.specs.Late.{lateAnswer, buffersLeft}
+use Rattle.build.specs.Lending.{Lending, Left}
 
 -- "then start, peak, end per axis": two bytes each
 unfoldable pub regionBytes : Region → List ℕ
@@ -32,27 +36,31 @@ unfoldable pub answerFrom : ℕ → ℕ → Lengths → Outcome → Built
 answerFrom axes mode l (refused n i) = Refused n i
 answerFrom axes mode l (fine s) = lateAnswer axes (coordsOf s) (packedOf mode s) l
 
--- of axis count, mode, job, the words of work, the number of pair records, and the lengths of the rest
-unfoldable pub answerOf : ℕ → ℕ → List ℕ → ℕ → ℕ → Lengths → Built
-answerOf axes mode job work pairs l = answerFrom axes mode l (outcome axes mode job work pairs)
+-- the buffers after the build: as they were where the records refuse
+unfoldable pub leftFrom : ℕ → ℕ → Buffers → Outcome → Buffers
+leftFrom axes mode old (refused n i) = old
+leftFrom axes mode old (fine s) = buffersLeft axes (coordsOf s) (packedOf mode s) old
 
--- something lent after the build: what `f` says of a job that is sound, else as it was
-unfoldable pub leftFrom : (Said → List ℕ) → List ℕ → Outcome → List ℕ
-leftFrom f old (refused n i) = old
-leftFrom f old (fine s) = f s
-
-unfoldable pub outAfter : ℕ → ℕ → List ℕ → ℕ → ℕ → Lengths → List ℕ → List ℕ
-outAfter axes mode job work pairs l old = leftFrom (λ s. outLeft axes (coordsOf s) (packedOf mode s) l old) old (outcome axes mode job work pairs)
-
-unfoldable pub idsAfter : ℕ → ℕ → List ℕ → ℕ → ℕ → Lengths → List ℕ → List ℕ
-idsAfter axes mode job work pairs l old = leftFrom (λ s. idsLeft axes (coordsOf s) (packedOf mode s) l old) old (outcome axes mode job work pairs)
-
-unfoldable pub mapAfter : ℕ → ℕ → List ℕ → ℕ → ℕ → Lengths → List ℕ → List ℕ
-mapAfter axes mode job work pairs l old = leftFrom (λ s. mapLeft axes (coordsOf s) (packedOf mode s) l old) old (outcome axes mode job work pairs)
-
-unfoldable pub logAfter : ℕ → ℕ → List ℕ → ℕ → ℕ → Lengths → List ℕ → List ℕ
-logAfter axes mode job work pairs l old = leftFrom (λ s. logLeft axes (coordsOf s) (packedOf mode s) l old) old (outcome axes mode job work pairs)
-
--- the pair records: as work is, "untouched by 1 to 4 and all zeros to its last word after every other answer"; `work` is how many words that has
+-- the pair records: as work is, untouched by 1 to 4 and zeros to the last after every other answer; `work` is how many words that has
 unfoldable pub pairsLeft : ℕ → ℕ → ℕ → ℕ → List Pair → List Pair
 pairsLeft axes mode bytes work pairs = pick (eqb (earlyNo axes mode bytes work (length pairs)) 0) (replicate (length pairs) none) pairs
+
+-- ---- of a call
+
+abbrev pub outcomeOf : Lending → Outcome
+outcomeOf c = outcome (c .axes) (c .mode) (c .job) (length (c .work)) (length (c .pairs))
+
+unfoldable pub answerOf : Lending → Built
+answerOf c = answerFrom (c .axes) (c .mode) (lengths (c .lent)) (outcomeOf c)
+
+abbrev pub after : Lending → Left
+after c = record {
+  work = workLeft (c .axes) (c .mode) (length (c .job)) (length (c .pairs)) (c .work);
+  pairs = pairsLeft (c .axes) (c .mode) (length (c .job)) (length (c .work)) (c .pairs);
+  lent = leftFrom (c .axes) (c .mode) (c .lent) (outcomeOf c);
+}
+
+-- what is promised of a call: its answer, and all that is left
+pub record Obeys (c : Lending) (r : Built) (l : Left) : Type 0 where
+  pub answer : r ≡ answerOf c
+  pub left : l ≡ after c

@@ -10,9 +10,8 @@ use Rattle.said.specs.Job.{Said, Outcome}
 use Rattle.encoder.specs.Lent.{Fit}
 use Rattle.encoder.specs.declared.places.Places.{Places}
 use Rattle.finishing.specs.declared.answers.Built.{Built}
-use Rattle.finishing.specs.Late.{outLeft, idsLeft, mapLeft, logLeft}
-use Rattle.finishing.specs.Lent.{lengths}
-use Rattle.build.specs.Build.{coordsOf, packedOf, answerFrom, leftFrom}
+use Rattle.finishing.specs.Buffers.{Buffers, lengths}
+use Rattle.build.specs.Build.{coordsOf, answerFrom, leftFrom}
 
 -- n words from `at` on were numbers of regions, and are where in the job the coordinates of these start
 pub record StartsAt (at n axes : ℕ) (old new : List ℕ) : Type 0 where
@@ -30,10 +29,7 @@ pub record Collected (axes starts : ℕ) (job : List ℕ) (p : Places) (s : Said
   pub coords-are : store.coordsOf job axes w starts (p .regions) ≡ coordsOf s
   pub no-use : length (s .sets) ≡ 0 → length (s .used) ≡ 0
 
--- what the records say is answered, and everything lent is as it says
-pub record RecordsBuilt (axes mode : ℕ) (o : Outcome) (r : Built) (out ids map log out′ ids′ map′ log′ : List ℕ) : Type 0 where
-  pub answer : r ≡ answerFrom axes mode (lengths out ids map log) o
-  pub out-is : out′ ≡ leftFrom (λ s. outLeft axes (coordsOf s) (packedOf mode s) (lengths out ids map log) out) out o
-  pub ids-is : ids′ ≡ leftFrom (λ s. idsLeft axes (coordsOf s) (packedOf mode s) (lengths out ids map log) ids) ids o
-  pub map-is : map′ ≡ leftFrom (λ s. mapLeft axes (coordsOf s) (packedOf mode s) (lengths out ids map log) map) map o
-  pub log-is : log′ ≡ leftFrom (λ s. logLeft axes (coordsOf s) (packedOf mode s) (lengths out ids map log) log) log o
+-- what the records say is answered, and the buffers are as it says
+pub record RecordsBuilt (axes mode : ℕ) (o : Outcome) (r : Built) (old new : Buffers) : Type 0 where
+  pub answer : r ≡ answerFrom axes mode (lengths old) o
+  pub left : new ≡ leftFrom axes mode old o

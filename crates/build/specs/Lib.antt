@@ -1,3 +1,4 @@
+pub mod Lending
 pub mod Build
 pub mod Collected
 pub mod Opened

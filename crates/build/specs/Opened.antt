@@ -8,15 +8,14 @@ use Rattle.groups.specs.Groups.{groupsOf, maxShapes}
 use Rattle.merging.specs.declared.encoder.Merged.{Merged}
 use Rattle.merging.specs.Optimized.{Ready, Optimized}
 use Rattle.said.specs.Refusals.{earlyNo}
-use Rattle.said.specs.Job.{Said, Outcome, refused, fine, inAxes, walk}
+use Rattle.said.specs.Job.{Said, Outcome, refused, fine, inAxes, walk, outcome}
 use Rattle.job.specs.Check.{workLeft}
 use Rattle.encoder.specs.declared.places.Places.{Places}
 use Rattle.encoder.specs.Arranged.{tablesOf, JoinFit}
 use Rattle.finishing.specs.declared.answers.Built.{Built}
 use Rattle.build.specs.declared.opening.Stage.{Stage}
-use Rattle.build.specs.Build.{answerOf, outAfter, idsAfter, mapAfter, logAfter}
-use Rattle.finishing.specs.Lent.{lengths}
-use Rattle.build.specs.Collected.{Collected}
+use Rattle.finishing.specs.Buffers.{Buffers}
+use Rattle.build.specs.Collected.{Collected, RecordsBuilt}
 
 -- no tables
 abbrev pub noPlaces : Places
@@ -72,15 +71,8 @@ pub record CloseFit (axes mode : ℕ) (job : List ℕ) (s : Stage) (m : Merged) 
   pub opened : OpenedAt axes mode job old pairs mid s
   pub joined : Joined s m mid w
 
--- ---- and what it leaves: what the build answers, and everything lent
+-- ---- and what it leaves: what the build answers, the buffers and work
 
-pub record Whole (axes mode : ℕ) (job : List ℕ) (work pairs : ℕ) (b : Built) (out ids map log out′ ids′ map′ log′ : List ℕ) : Type 0 where
-  pub answer : b ≡ answerOf axes mode job work pairs (lengths out ids map log)
-  pub out-is : out′ ≡ outAfter axes mode job work pairs (lengths out ids map log) out
-  pub ids-is : ids′ ≡ idsAfter axes mode job work pairs (lengths out ids map log) ids
-  pub map-is : map′ ≡ mapAfter axes mode job work pairs (lengths out ids map log) map
-  pub log-is : log′ ≡ logAfter axes mode job work pairs (lengths out ids map log) log
-
-pub record Closed (axes mode : ℕ) (job old : List ℕ) (pairs : ℕ) (b : Built) (out ids map log out′ ids′ map′ log′ work′ : List ℕ) : Type 0 where
-  pub whole : Whole axes mode job (length old) pairs b out ids map log out′ ids′ map′ log′
-  pub work-is : work′ ≡ workLeft axes mode (length job) pairs old
+pub record Closed (axes mode : ℕ) (job work : List ℕ) (pairs : ℕ) (r : Built) (old new : Buffers) (work′ : List ℕ) : Type 0 where
+  pub built : RecordsBuilt axes mode (outcome axes mode job (length work) pairs) r old new
+  pub work-is : work′ ≡ workLeft axes mode (length job) pairs work

@@ -6,11 +6,9 @@ use encoder::tables;
 use finishing::Built;
 use merging::optimize;
 use pairs::Pair;
-ghost use mathlib.Core.Path.{_≡_};
-ghost use lib.ListN.{length};
-ghost use Rattle.job.specs.Check.{workLeft};
-ghost use Rattle.build.specs.Build.{answerOf, outAfter, idsAfter, mapAfter, logAfter, pairsLeft};
-ghost use Rattle.finishing.specs.Lent.{lengths};
+ghost use Rattle.finishing.specs.Buffers.{buffers};
+ghost use Rattle.build.specs.Lending.{lending, leaves};
+ghost use Rattle.build.specs.Build.{Obeys};
 
 // Takes every job, sound or not.
 pub fn build(
@@ -24,13 +22,7 @@ pub fn build(
     map: &mut [u32],
     log: &mut [u32],
 ) -> Built
-    ensures { λ r. ⌜ r ≡ answerOf axes mode (now (job .entry)) (length (now (work .entry))) (length (now (pairs .entry))) (lengths (now (out .entry)) (now (ids .entry)) (now (map .entry)) (now (log .entry))) ⌝ }
-    ensures { λ _. ⌜ now (out .exit) ≡ outAfter axes mode (now (job .entry)) (length (now (work .entry))) (length (now (pairs .entry))) (lengths (now (out .entry)) (now (ids .entry)) (now (map .entry)) (now (log .entry))) (now (out .entry)) ⌝ }
-    ensures { λ _. ⌜ now (ids .exit) ≡ idsAfter axes mode (now (job .entry)) (length (now (work .entry))) (length (now (pairs .entry))) (lengths (now (out .entry)) (now (ids .entry)) (now (map .entry)) (now (log .entry))) (now (ids .entry)) ⌝ }
-    ensures { λ _. ⌜ now (map .exit) ≡ mapAfter axes mode (now (job .entry)) (length (now (work .entry))) (length (now (pairs .entry))) (lengths (now (out .entry)) (now (ids .entry)) (now (map .entry)) (now (log .entry))) (now (map .entry)) ⌝ }
-    ensures { λ _. ⌜ now (log .exit) ≡ logAfter axes mode (now (job .entry)) (length (now (work .entry))) (length (now (pairs .entry))) (lengths (now (out .entry)) (now (ids .entry)) (now (map .entry)) (now (log .entry))) (now (log .entry)) ⌝ }
-    ensures { λ _. ⌜ now (work .exit) ≡ workLeft axes mode (length (now (job .entry))) (length (now (pairs .entry))) (now (work .entry)) ⌝ }
-    ensures { λ _. ⌜ now (pairs .exit) ≡ pairsLeft axes mode (length (now (job .entry))) (length (now (work .entry))) (now (pairs .entry)) ⌝ }
+    ensures { λ r. ⌜ Obeys (lending axes mode (now (job .entry)) (now (work .entry)) (now (pairs .entry)) (buffers (now (out .entry)) (now (ids .entry)) (now (map .entry)) (now (log .entry)))) r (leaves (now (work .exit)) (now (pairs .exit)) (buffers (now (out .exit)) (now (ids .exit)) (now (map .exit)) (now (log .exit)))) ⌝ }
 {
     let s = open(axes, mode, job, work, pairs.len());
     let m = optimize(pairs, work, tables(s.places, s.groups));

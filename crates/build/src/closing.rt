@@ -15,7 +15,8 @@ ghost use Prim.Native.Nat.{ℕ, _≤_};
 ghost use lib.ListN.{length};
 ghost use Rattle.said.specs.Job.{Outcome};
 ghost use Rattle.encoder.specs.Packed.{own};
-ghost use Rattle.finishing.specs.Lent.{Finished, lengths};
+ghost use Rattle.finishing.specs.Buffers.{buffers};
+ghost use Rattle.finishing.specs.Lent.{Finished};
 ghost use Rattle.build.specs.Collected.{RecordsBuilt};
 ghost use Rattle.build.specs.Opened.{Read, OpenedAt, Joined, PairsUsed, SettleFit, CloseFit, Closed};
 
@@ -29,7 +30,7 @@ fn finish_none(
     log: &mut [u32],
 ) -> Built
     requires { ⌜ axes ≤ 64 ⌝ }
-    ensures { λ r. ⌜ Finished axes [] (own 0 []) (lengths (now (out .entry)) (now (ids .entry)) (now (map .entry)) (now (log .entry))) r (now (out .entry)) (now (ids .entry)) (now (map .entry)) (now (log .entry)) (now (out .exit)) (now (ids .exit)) (now (map .exit)) (now (log .exit)) ⌝ }
+    ensures { λ r. ⌜ Finished axes [] (own 0 []) r (buffers (now (out .entry)) (now (ids .entry)) (now (map .entry)) (now (log .entry))) (buffers (now (out .exit)) (now (ids .exit)) (now (map .exit)) (now (log .exit))) ⌝ }
 {
     let mut null = [0u32; 3];
     null[1] = 3;
@@ -59,7 +60,7 @@ fn settle(
     log: &mut [u32],
 ) -> Built
     requires { ⌜ SettleFit axes mode (now job) s m (now work) ⌝ }
-    ensures { λ r. ⌜ ((o : Outcome) (mid : List ℕ) → Read axes mode (now (job .entry)) o s mid → Joined s m mid (now (work .entry)) → RecordsBuilt axes mode o r (now (out .entry)) (now (ids .entry)) (now (map .entry)) (now (log .entry)) (now (out .exit)) (now (ids .exit)) (now (map .exit)) (now (log .exit))) ⌝ }
+    ensures { λ r. ⌜ ((o : Outcome) (mid : List ℕ) → Read axes mode (now (job .entry)) o s mid → Joined s m mid (now (work .entry)) → RecordsBuilt axes mode o r (buffers (now (out .entry)) (now (ids .entry)) (now (map .entry)) (now (log .entry))) (buffers (now (out .exit)) (now (ids .exit)) (now (map .exit)) (now (log .exit)))) ⌝ }
 {
     if s.no != 0 {
         return Built::Refused(s.no, s.at);
@@ -100,7 +101,7 @@ pub fn close(
     log: &mut [u32],
 ) -> Built
     requires { ⌜ CloseFit axes mode (now job) s m (now work) ⌝ }
-    ensures { λ r. ⌜ ((old : List ℕ) (pairs : ℕ) (mid : List ℕ) → OpenedAt axes mode (now (job .entry)) old pairs mid s → Joined s m mid (now (work .entry)) → Closed axes mode (now (job .entry)) old pairs r (now (out .entry)) (now (ids .entry)) (now (map .entry)) (now (log .entry)) (now (out .exit)) (now (ids .exit)) (now (map .exit)) (now (log .exit)) (now (work .exit))) ⌝ }
+    ensures { λ r. ⌜ ((old : List ℕ) (pairs : ℕ) (mid : List ℕ) → OpenedAt axes mode (now (job .entry)) old pairs mid s → Joined s m mid (now (work .entry)) → Closed axes mode (now (job .entry)) old pairs r (buffers (now (out .entry)) (now (ids .entry)) (now (map .entry)) (now (log .entry))) (buffers (now (out .exit)) (now (ids .exit)) (now (map .exit)) (now (log .exit))) (now (work .exit))) ⌝ }
 {
     if s.early {
         return Built::Refused(s.no, s.at);

@@ -31,8 +31,9 @@ use Rattle.encoder.specs.Packed.{Packed}
 use Rattle.encoder.specs.Lent.{relabel, PackedAt}
 use Rattle.finishing.specs.declared.answers.Report.{Report}
 use Rattle.finishing.specs.declared.answers.Built.the-variants.{Refused, Done}
-use Rattle.finishing.specs.Late.{Lengths, storeFor, regionsKept, lateNo, reportOf, lateAnswer, ifDone, outLeft, idsLeft, mapLeft, logLeft}
-use Rattle.finishing.specs.Lent.{FinishFit, Finished, RoomFor, WordsFit, WordsWritten, lengths, reportIn, shortNo, storeIn}
+use Rattle.finishing.specs.Buffers.{Buffers, Lengths, lengths}
+use Rattle.finishing.specs.Late.{storeFor, regionsKept, lateNo, reportOf, lateAnswer, written, buffersLeft}
+use Rattle.finishing.specs.Lent.{FinishFit, Finished, RoomFor, WordsFit, WordsWritten, reportIn, shortNo, storeIn}
 use Rattle.finishing.proofs.LoopLaws.{room-for}
 use Rattle.finishing.proofs.WordsLaws.{groups-to, handed, small}
 use Rattle.finishing.proofs.StoreLaws.{set-same, runs-count, kept-relabel, forecast-relabel, store-relabel, store-small}
@@ -179,38 +180,40 @@ module _ {axes starts : ℕ} {job : List ℕ} {p : Places} {e : Encoded} {w : Li
             forecast = forecast-are i;
           })
 
-      pub refused-as : (code : ℕ) (out ids map log : List ℕ) → code ≡ shortNo (p .sets) (e .distinct) (e .groups) bytes (length out) (length ids) (length map) (length log) → (code ≡ 0 → ⊥)
-          → Finished axes coords k (lengths out ids map log) (Refused code 0) out ids map log out ids map log
-      unfolding lateAnswer outLeft idsLeft mapLeft logLeft ifDone
-      refused-as code out ids map log q z =
-          let l = lengths out ids map log in
-          let n : code ≡ lateNo axes coords k l = q ∙ late-is l in
-          let t : eqb (lateNo axes coords k l) 0 ≡ false = rw (← n) (ne-eqb code 0 z) in
-          record {
-            answer = rw (t, n);
-            out-is = rw t;
-            ids-is = rw t;
-            map-is = rw t;
-            log-is = rw t;
-          }
+      -- the first test of what is lent that fails
+      abbrev short : Buffers → ℕ
+      short b = shortNo (p .sets) (e .distinct) (e .groups) bytes (length (b .out)) (length (b .ids)) (length (b .map)) (length (b .log))
 
-      pub done-as : (code : ℕ) (r : Report) (out ids map log out′ ids′ map′ log′ : List ℕ) → code ≡ shortNo (p .sets) (e .distinct) (e .groups) bytes (length out) (length ids) (length map) (length log) → code ≡ 0
-          → out′ ≡ over out 0 (length (storeIn axes starts job p e w)) (storeIn axes starts job p e w) → r ≡ reportIn axes p e w bytes runs kept → WordsWritten p e w ids map log ids′ map′ log′
-          → Finished axes coords k (lengths out ids map log) (Done r) out ids map log out′ ids′ map′ log′
-      unfolding lateAnswer outLeft idsLeft mapLeft logLeft ifDone
-      done-as code r out ids map log out′ ids′ map′ log′ q z o m a =
-          let l = lengths out ids map log in
-          let t : eqb (lateNo axes coords k l) 0 ≡ true = eq-eqb (lateNo axes coords k l) 0 (sym (late-is l) ∙ sym q ∙ z) in
-          record {
-            answer = rw t (ap Done (m ∙ report-is));
-            out-is = rw t (o ∙ ap (λ (s : List ℕ). over out 0 (length s) s) store-is);
-            ids-is = rw t (a .ids-is ∙ ap₂ (λ (n : ℕ) (s : List ℕ). over ids 0 n s) (sym ids-long) (at .ids-are));
-            map-is = rw t (a .map-is ∙ ap (λ (gs : List Final). stored (idWords 0 (allRuns gs)) map) renamed);
-            log-is = rw t (a .log-is ∙ ap₂ (λ (n : ℕ) (s : List ℕ). over log 0 n s) log-long (at .log-are));
-          }
+      pub refused-as : (code : ℕ) (old : Buffers) → code ≡ short old → (code ≡ 0 → ⊥) → Finished axes coords k (Refused code 0) old old
+      unfolding lateAnswer buffersLeft
+      refused-as code old q z =
+          let n : code ≡ lateNo axes coords k (lengths old) = q ∙ late-is (lengths old) in
+          let t : eqb (lateNo axes coords k (lengths old)) 0 ≡ false = rw (← n) (ne-eqb code 0 z) in
+          record { answer = rw (t, n); left = rw t }
+
+      pub done-as : (code : ℕ) (r : Report) (old new : Buffers) → code ≡ short old → code ≡ 0
+          → new .out ≡ over (old .out) 0 (length (storeIn axes starts job p e w)) (storeIn axes starts job p e w) → r ≡ reportIn axes p e w bytes runs kept
+          → WordsWritten p e w (old .ids) (old .map) (old .log) (new .ids) (new .map) (new .log)
+          → Finished axes coords k (Done r) old new
+      unfolding lateAnswer buffersLeft written
+      done-as code r old new q z o m a =
+          let t : eqb (lateNo axes coords k (lengths old)) 0 ≡ true = eq-eqb (lateNo axes coords k (lengths old)) 0 (sym (late-is (lengths old)) ∙ sym q ∙ z) in
+          record { answer = rw t (ap Done (m ∙ report-is)); left = rw t (λ i. record { out = out-is i; ids = ids-is i; map = map-is i; log = log-is i }) }
         where
           renamed : relabel (λ x. getD (seg (p .ids) (p .sets) w) x 0) groups ≡ k .finals
           renamed = ap (λ (s : List ℕ). relabel (λ x. getD s x 0) groups) (at .ids-are) ∙ at .finals-are
 
           log-long : 3 * e .merges ≡ length (words (k .log))
           log-long = ap (λ (n : ℕ). 3 * n) (at .merges-is) ∙ sym (words-length (k .log))
+
+          out-is : new .out ≡ over (old .out) 0 (length (storeFor axes coords k)) (storeFor axes coords k)
+          out-is = o ∙ ap (λ (s : List ℕ). over (old .out) 0 (length s) s) store-is
+
+          ids-is : new .ids ≡ over (old .ids) 0 (length (k .ids)) (k .ids)
+          ids-is = a .ids-is ∙ ap₂ (λ (n : ℕ) (s : List ℕ). over (old .ids) 0 n s) (sym ids-long) (at .ids-are)
+
+          map-is : new .map ≡ stored (idWords 0 (allRuns (k .finals))) (old .map)
+          map-is = a .map-is ∙ ap (λ (gs : List Final). stored (idWords 0 (allRuns gs)) (old .map)) renamed
+
+          log-is : new .log ≡ over (old .log) 0 (length (words (k .log))) (words (k .log))
+          log-is = a .log-is ∙ ap₂ (λ (n : ℕ) (s : List ℕ). over (old .log) 0 n s) log-long (at .log-are)

@@ -12,6 +12,7 @@ use Rattle.store.specs.Placing.{storeOf, allRuns, idWords, keptOf, forecastOf}
 use Rattle.store.specs.Lent.{stored}
 use Rattle.said.specs.Refusals.{firstFailed, shapesFull, idsShort, mapShort, logShort, outShort}
 use Rattle.encoder.specs.Packed.{Packed}
+use Rattle.finishing.specs.Buffers.{Buffers, Lengths, lengths}
 use Rattle.finishing.specs.declared.answers.Report.{Report}
 use Rattle.finishing.specs.declared.answers.Built.{Built}
 use Rattle.finishing.specs.declared.answers.Built.the-variants.{Refused, Done}
@@ -25,13 +26,6 @@ storeFor axes coords k = storeOf axes coords (λ x. getD (k .sets) x []) (k .fin
 -- how many regions the store keeps
 unfoldable pub regionsKept : List (List ℕ) → Packed → ℕ
 regionsKept coords k = length (keptOf (length coords) (k .finals))
-
--- how long everything is that is lent
-pub record Lengths : Type 0 where
-  pub out : ℕ
-  pub ids : ℕ
-  pub map : ℕ
-  pub log : ℕ
 
 -- SHAPES_FULL "mode 0, more than 1,024 distinct shapes"; IDS_SHORT "fewer words than end records"; MAP_SHORT "fewer words than distinct ids";
 -- LOG_SHORT "mode 0, N at least 1, fewer than 3 x (N-1) words"; OUT_SHORT "fewer bytes than the store takes". (In mode 1 N is 0.)
@@ -65,22 +59,17 @@ reportOf axes coords k = record {
 unfoldable pub lateAnswer : ℕ → List (List ℕ) → Packed → Lengths → Built
 lateAnswer axes coords k l = pick (eqb (lateNo axes coords k l) 0) (Done (reportOf axes coords k)) (Refused (lateNo axes coords k l) 0)
 
--- ---- what is left in everything lent: "A refusal has .. output, ids, map and log untouched"; past what is written all is as it was
+-- ---- what is left in the buffers
 
-unfoldable pub ifDone : ℕ → List ℕ → List ℕ → List ℕ
-ifDone n new old = pick (eqb n 0) new old
+-- the store; of each set its id; of each id its word; of each merge its two numbers and its gain. Past what is written all is as it was
+unfoldable pub written : ℕ → List (List ℕ) → Packed → Buffers → Buffers
+written axes coords k old = record {
+  out = over (old .out) 0 (length (storeFor axes coords k)) (storeFor axes coords k);
+  ids = over (old .ids) 0 (length (k .ids)) (k .ids);
+  map = stored (idWords 0 (allRuns (k .finals))) (old .map);
+  log = over (old .log) 0 (length (words (k .log))) (words (k .log));
+}
 
-unfoldable pub outLeft : ℕ → List (List ℕ) → Packed → Lengths → List ℕ → List ℕ
-outLeft axes coords k l old = ifDone (lateNo axes coords k l) (over old 0 (length (storeFor axes coords k)) (storeFor axes coords k)) old
-
--- "The n-th word of ids is the n-th set's id."
-unfoldable pub idsLeft : ℕ → List (List ℕ) → Packed → Lengths → List ℕ → List ℕ
-idsLeft axes coords k l old = ifDone (lateNo axes coords k l) (over old 0 (length (k .ids)) (k .ids)) old
-
--- "The id's map word is outer x 65,536 + inner."
-unfoldable pub mapLeft : ℕ → List (List ℕ) → Packed → Lengths → List ℕ → List ℕ
-mapLeft axes coords k l old = ifDone (lateNo axes coords k l) (stored (idWords 0 (allRuns (k .finals))) old) old
-
--- "The log gets first number, second number, gain."
-unfoldable pub logLeft : ℕ → List (List ℕ) → Packed → Lengths → List ℕ → List ℕ
-logLeft axes coords k l old = ifDone (lateNo axes coords k l) (over old 0 (length (words (k .log))) (words (k .log))) old
+-- a refusal leaves all as it was
+unfoldable pub buffersLeft : ℕ → List (List ℕ) → Packed → Buffers → Buffers
+buffersLeft axes coords k old = pick (eqb (lateNo axes coords k (lengths old)) 0) (written axes coords k old) old

@@ -16,7 +16,8 @@ use Rattle.encoder.specs.declared.places.Places.{Places}
 use Rattle.encoder.specs.declared.encoded.Encoded.{Encoded}
 use Rattle.finishing.specs.declared.answers.Report.{Report}
 use Rattle.finishing.specs.declared.answers.Built.{Built}
-use Rattle.finishing.specs.Late.{Lengths, lateAnswer, outLeft, idsLeft, mapLeft, logLeft}
+use Rattle.finishing.specs.Buffers.{Buffers, lengths}
+use Rattle.finishing.specs.Late.{lateAnswer, buffersLeft}
 
 -- sets are packed in work, and from `starts` on stands for each region where in the job its coordinates start
 pub record FinishFit (axes starts : ℕ) (job : List ℕ) (p : Places) (e : Encoded) (w : List ℕ) : Type 0 where
@@ -29,17 +30,10 @@ pub record FinishFit (axes starts : ℕ) (job : List ℕ) (p : Places) (e : Enco
   pub merges-few : e .merges ≤ e .groups - 1
   pub ids-below : (x : ℕ) → x < p .sets → getD w (p .ids + x) 0 < e .distinct
 
--- the answer, and everything lent
-pub record Finished (axes : ℕ) (coords : List (List ℕ)) (k : Packed) (l : Lengths) (r : Built) (out ids map log out′ ids′ map′ log′ : List ℕ) : Type 0 where
-  pub answer : r ≡ lateAnswer axes coords k l
-  pub out-is : out′ ≡ outLeft axes coords k l out
-  pub ids-is : ids′ ≡ idsLeft axes coords k l ids
-  pub map-is : map′ ≡ mapLeft axes coords k l map
-  pub log-is : log′ ≡ logLeft axes coords k l log
-
--- by what is lent
-abbrev pub lengths : List ℕ → List ℕ → List ℕ → List ℕ → Lengths
-lengths out ids map log = record { out = length out; ids = length ids; map = length map; log = length log }
+-- the answer, and the buffers before and after
+pub record Finished (axes : ℕ) (coords : List (List ℕ)) (k : Packed) (r : Built) (old new : Buffers) : Type 0 where
+  pub answer : r ≡ lateAnswer axes coords k (lengths old)
+  pub left : new ≡ buffersLeft axes coords k old
 
 -- the rows from `rows` on, numbers of sets, became ids, which stand from `ids` on
 pub record RowsNamed (rows n ids : ℕ) (old new : List ℕ) : Type 0 where

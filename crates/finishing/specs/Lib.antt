@@ -1,2 +1,3 @@
+pub mod Buffers
 pub mod Late
 pub mod Lent

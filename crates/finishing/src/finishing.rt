@@ -17,7 +17,8 @@ ghost use Rattle.laws.specs.Bytes.{over};
 ghost use Rattle.store.specs.Lent.{Planned, coordsOf};
 ghost use Rattle.encoder.specs.Packed.{Packed};
 ghost use Rattle.encoder.specs.Lent.{PackedAt};
-ghost use Rattle.finishing.specs.Lent.{FinishFit, Finished, RowsNamed, WordsFit, WordsWritten, lengths, reportIn, shortNo, storeIn};
+ghost use Rattle.finishing.specs.Buffers.{buffers};
+ghost use Rattle.finishing.specs.Lent.{FinishFit, Finished, RowsNamed, WordsFit, WordsWritten, reportIn, shortNo, storeIn};
 
 // The most regions of a store.
 const REGIONS: usize = 256;
@@ -174,7 +175,7 @@ pub fn finish(
     log: &mut [u32],
 ) -> Built
     requires { ⌜ FinishFit axes starts (now job) p e (now work) ⌝ }
-    ensures { λ r. ⌜ ((k : Packed) → PackedAt k p e (now (work .entry)) → Finished axes (coordsOf (now (job .entry)) axes (now (work .entry)) starts (p .regions)) k (lengths (now (out .entry)) (now (ids .entry)) (now (map .entry)) (now (log .entry))) r (now (out .entry)) (now (ids .entry)) (now (map .entry)) (now (log .entry)) (now (out .exit)) (now (ids .exit)) (now (map .exit)) (now (log .exit))) ⌝ }
+    ensures { λ r. ⌜ ((k : Packed) → PackedAt k p e (now (work .entry)) → Finished axes (coordsOf (now (job .entry)) axes (now (work .entry)) starts (p .regions)) k r (buffers (now (out .entry)) (now (ids .entry)) (now (map .entry)) (now (log .entry))) (buffers (now (out .exit)) (now (ids .exit)) (now (map .exit)) (now (log .exit)))) ⌝ }
 {
     let mut marks = [0u32; REGIONS];
     let mut numbers = [0u32; REGIONS];

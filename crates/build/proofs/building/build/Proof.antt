@@ -37,11 +37,11 @@ use denote.Triple.Statement.{Triple}
 use denote.Triple.Table.{entered, cited}
 use denote.Triple.Walked.{Stays, stay-slice, stay-none-slice, stay-none, walkOf, goes-slice, goes-none-slice, goes-none, Walks, ends-at, walked, walk-meets}
 use denote.Exit.{yes}
-use Rattle.build.specs.Build.{answerOf, outAfter, idsAfter, mapAfter, logAfter, pairsLeft}
-use Rattle.finishing.specs.Lent.{lengths}
-use Rattle.job.specs.Check.{workLeft}
+use Rattle.build.specs.Lending.{lending, leaves}
+use Rattle.build.specs.Build.{Obeys}
+use Rattle.finishing.specs.Buffers.{buffers}
 use Rattle.encoder.specs.Arranged.{tablesOf as layoutOf}
-use Rattle.build.proofs.CloseLaws.{ready-at, joined-at}
+use Rattle.build.proofs.CloseLaws.{ready-at, joined-at, obeys}
 use Rattle.build.proofs.PairLaws.{used-few, pairs-enough, pairs-idle, pairs-left}
 use Rattle.pairs.specs.declared.Pair.{Pair}
 use Rattle.pairs.proofs.Pair as T
@@ -185,10 +185,10 @@ module _ {M : Type 1} (𝓤 : URA M) (H : Heap 𝓤) (A : Atoms 𝓤) (W : Given
   abbrev Post : Val → SProp 𝓤
   Post = walkOf 𝓤 H A build.ended stayed (build.clauses 𝓤 H A mem run) .post bound
 
-  exits : (work′ : List ℕ) → length work′ ≡ ν₂ → (pairs′ : List Pair) → length pairs′ ≡ ν₃ → (out′ : List ℕ) → length out′ ≡ ν₄ → (ids′ : List ℕ) → length ids′ ≡ ν₅ → (map′ : List ℕ) → length map′ ≡ ν₆ → (log′ : List ℕ) → length log′ ≡ ν₇ → (r : Built) → Is B.the-row r (EL.val B.the-type B′.the-laws r ∷ []) → ((r ≡ answerOf axes mode job (length work) (length pairs) (lengths out ids map log)) × (out′ ≡ outAfter axes mode job (length work) (length pairs) (lengths out ids map log) out) × (ids′ ≡ idsAfter axes mode job (length work) (length pairs) (lengths out ids map log) ids) × (map′ ≡ mapAfter axes mode job (length work) (length pairs) (lengths out ids map log) map) × (log′ ≡ logAfter axes mode job (length work) (length pairs) (lengths out ids map log) log) × (work′ ≡ workLeft axes mode (length job) (length pairs) work) × (pairs′ ≡ pairsLeft axes mode (length job) (length work) pairs)) → ent 𝓤 (⋆ 𝓤 H A (Slice job ∷ Slice₂ work′ ∷ Slice₃ pairs′ ∷ Slice₄ out′ ∷ Slice₅ ids′ ∷ Slice₆ map′ ∷ Slice₇ log′ ∷ [])) (Post (EL.val B.the-type B′.the-laws r))
+  exits : (work′ : List ℕ) → length work′ ≡ ν₂ → (pairs′ : List Pair) → length pairs′ ≡ ν₃ → (out′ : List ℕ) → length out′ ≡ ν₄ → (ids′ : List ℕ) → length ids′ ≡ ν₅ → (map′ : List ℕ) → length map′ ≡ ν₆ → (log′ : List ℕ) → length log′ ≡ ν₇ → (r : Built) → Is B.the-row r (EL.val B.the-type B′.the-laws r ∷ []) → (Obeys (lending axes mode job work pairs (buffers out ids map log)) r (leaves work′ pairs′ (buffers out′ ids′ map′ log′))) → ent 𝓤 (⋆ 𝓤 H A (Slice job ∷ Slice₂ work′ ∷ Slice₃ pairs′ ∷ Slice₄ out′ ∷ Slice₅ ids′ ∷ Slice₆ map′ ∷ Slice₇ log′ ∷ [])) (Post (EL.val B.the-type B′.the-laws r))
   exits work′ long₂ pairs′ long₃ out′ long₄ ids′ long₅ map′ long₆ log′ long₇ r g e =
       qed W (Slice job ∷ Slice₂ work′ ∷ Slice₃ pairs′ ∷ Slice₄ out′ ∷ Slice₅ ids′ ∷ Slice₆ map′ ∷ Slice₇ log′ ∷ []) ∵ suffices ! _ (ends-at 𝓤 H A build.ended stayed (build.clauses 𝓤 H A mem run) W bound (EL.val B.the-type B′.the-laws r) r (tt, (tt, (tt, (work′, (pairs′, (out′, (ids′, (map′, (log′, tt))))))))) (tt, (tt, (tt, (long₂, (long₃, (long₄, (long₅, (long₆, (long₇, tt)))))))))) $
-      split ! $ move ! (2 ∷ []) $ split ! $ move ! (4 ∷ []) $ split ! $ move ! (6 ∷ []) $ split ! $ move ! (8 ∷ []) $ split ! $ move ! (10 ∷ []) $ split ! $ move ! (12 ∷ []) $ split ! $ nothing ! $ move ! (2 ∷ 0 ∷ []) $ join ! $ move ! (3 ∷ 0 ∷ []) $ join ! $ move ! (4 ∷ 0 ∷ []) $ join ! $ move ! (5 ∷ 0 ∷ []) $ join ! $ move ! (6 ∷ 0 ∷ []) $ join ! $ move ! (7 ∷ 0 ∷ []) $ join ! $ move ! (8 ∷ 0 ∷ []) $ join ! $ owned ! B.the-row (Is B.the-row) (EL.makes B.the-type B′.the-plain 𝓤 H A) r _ g $ nothing ! $ move ! (3 ∷ 0 ∷ []) $ fjoin ! $ move ! (3 ∷ 0 ∷ []) $ fjoin ! $ move ! (3 ∷ 0 ∷ []) $ fjoin ! $ move ! (3 ∷ 0 ∷ []) $ fjoin ! $ move ! (3 ∷ 0 ∷ []) $ fjoin ! $ move ! (3 ∷ 0 ∷ []) $ fjoin ! $ move ! (3 ∷ 0 ∷ []) $ fjoin ! $ owned ! u32 (Is u32) (uint-makes 𝓤 H A W w32) mode _ (refl, g-mode) $ fjoin ! $ owned ! u32 (Is u32) (uint-makes 𝓤 H A W w32) axes _ (refl, g-axes) $ fjoin ! $ join ! $ move ! (1 ∷ 0 ∷ []) $ join ! $ frame ! $ use0 W (raw (fact 𝓤 (pairs′ ≡ pairsLeft axes mode (length job) (length work) pairs))) (factI 𝓤 (pairs′ ≡ pairsLeft axes mode (length job) (length work) pairs) (emp 𝓤) (e .6)) $ use0 W (raw (fact 𝓤 (work′ ≡ workLeft axes mode (length job) (length pairs) work))) (factI 𝓤 (work′ ≡ workLeft axes mode (length job) (length pairs) work) (emp 𝓤) (e .5)) $ use0 W (raw (fact 𝓤 (log′ ≡ logAfter axes mode job (length work) (length pairs) (lengths out ids map log) log))) (factI 𝓤 (log′ ≡ logAfter axes mode job (length work) (length pairs) (lengths out ids map log) log) (emp 𝓤) (e .4)) $ use0 W (raw (fact 𝓤 (map′ ≡ mapAfter axes mode job (length work) (length pairs) (lengths out ids map log) map))) (factI 𝓤 (map′ ≡ mapAfter axes mode job (length work) (length pairs) (lengths out ids map log) map) (emp 𝓤) (e .3)) $ use0 W (raw (fact 𝓤 (ids′ ≡ idsAfter axes mode job (length work) (length pairs) (lengths out ids map log) ids))) (factI 𝓤 (ids′ ≡ idsAfter axes mode job (length work) (length pairs) (lengths out ids map log) ids) (emp 𝓤) (e .2)) $ use0 W (raw (fact 𝓤 (out′ ≡ outAfter axes mode job (length work) (length pairs) (lengths out ids map log) out))) (factI 𝓤 (out′ ≡ outAfter axes mode job (length work) (length pairs) (lengths out ids map log) out) (emp 𝓤) (e .1)) $ use0 W (raw (fact 𝓤 (r ≡ answerOf axes mode job (length work) (length pairs) (lengths out ids map log)))) (factI 𝓤 (r ≡ answerOf axes mode job (length work) (length pairs) (lengths out ids map log)) (emp 𝓤) (e .0)) $ done !
+      split ! $ move ! (2 ∷ []) $ split ! $ move ! (4 ∷ []) $ split ! $ move ! (6 ∷ []) $ split ! $ move ! (8 ∷ []) $ split ! $ move ! (10 ∷ []) $ split ! $ move ! (12 ∷ []) $ split ! $ nothing ! $ move ! (2 ∷ 0 ∷ []) $ join ! $ move ! (3 ∷ 0 ∷ []) $ join ! $ move ! (4 ∷ 0 ∷ []) $ join ! $ move ! (5 ∷ 0 ∷ []) $ join ! $ move ! (6 ∷ 0 ∷ []) $ join ! $ move ! (7 ∷ 0 ∷ []) $ join ! $ move ! (8 ∷ 0 ∷ []) $ join ! $ owned ! B.the-row (Is B.the-row) (EL.makes B.the-type B′.the-plain 𝓤 H A) r _ g $ nothing ! $ move ! (3 ∷ 0 ∷ []) $ fjoin ! $ move ! (3 ∷ 0 ∷ []) $ fjoin ! $ move ! (3 ∷ 0 ∷ []) $ fjoin ! $ move ! (3 ∷ 0 ∷ []) $ fjoin ! $ move ! (3 ∷ 0 ∷ []) $ fjoin ! $ move ! (3 ∷ 0 ∷ []) $ fjoin ! $ move ! (3 ∷ 0 ∷ []) $ fjoin ! $ owned ! u32 (Is u32) (uint-makes 𝓤 H A W w32) mode _ (refl, g-mode) $ fjoin ! $ owned ! u32 (Is u32) (uint-makes 𝓤 H A W w32) axes _ (refl, g-axes) $ fjoin ! $ join ! $ move ! (1 ∷ 0 ∷ []) $ join ! $ frame ! $ use0 W (raw (fact 𝓤 (Obeys (lending axes mode job work pairs (buffers out ids map log)) r (leaves work′ pairs′ (buffers out′ ids′ map′ log′))))) (factI 𝓤 (Obeys (lending axes mode job work pairs (buffers out ids map log)) r (leaves work′ pairs′ (buffers out′ ids′ map′ log′))) (emp 𝓤) e) $ done !
 
   module _ (𝓣 : AllCalls 𝓤 H) (known-opens : Triple 𝓤 (𝓣 .C #build·opens) (Open-of 𝓤 H A mem run)) (known-lays : Triple 𝓤 (𝓣 .C #encoder·lays) (Tables-of 𝓤 H A mem run)) (known-optimize : Triple 𝓤 (𝓣 .C #merging·optimize) (Optimize-of 𝓤 H A mem run)) (known-close : Triple 𝓤 (𝓣 .C #build·close) (Close-of 𝓤 H A mem run)) (known-pairs-used : Triple 𝓤 (𝓣 .C #build·pairs-used) (PairsUsed-of 𝓤 H A mem run)) (known-clear : Triple 𝓤 (𝓣 .C #pairs·clear) (Clear-of 𝓤 H A mem run)) (sized : Room u8 ν) (sized₂ : Room u32 ν₂) (sized₃ : Room T.the-row ν₃) (sized₄ : Room u8 ν₄) (sized₅ : Room u32 ν₅) (sized₆ : Room u32 ν₆) (sized₇ : Room u32 ν₇) where
     abbrev C : Calls 𝓤 H
@@ -285,7 +285,7 @@ module _ {M : Type 1} (𝓤 : URA M) (H : Heap 𝓤) (A : Atoms 𝓤) (W : Given
           forget ! 75 refl $ forget ! 73 refl $ forget ! 71 refl $ forget ! 69 refl $ forget ! 67 refl $ forget ! 65 refl $ forget ! 63 refl $ forget ! 61 refl $ forget ! 59 refl $ forget ! 57 refl $ forget ! 55 refl $ forget ! 53 refl $ forget ! 51 refl $ forget ! 49 refl $ forget ! 47 refl $ forget ! 45 refl $ forget ! 43 refl $ forget ! 41 refl $ forget ! 39 refl $ forget ! 37 refl $ forget ! 35 refl $ forget ! 33 refl $ forget ! 31 refl $ forget ! 29 refl $ forget ! 27 refl $ forget ! 25 refl $ forget ! 23 refl $ forget ! 21 refl $ forget ! 19 refl $ forget ! 17 refl $ forget ! 15 refl $ forget ! 13 refl $ forget ! 11 refl $ forget ! 9 refl $ forget ! 7 refl $
           move ! (75 ∷ 76 ∷ []) $ free1 ! $ move ! (73 ∷ 74 ∷ []) $ free1 ! $ move ! (71 ∷ 72 ∷ []) $ free1 ! $ move ! (69 ∷ 70 ∷ []) $ free1 ! $ move ! (67 ∷ 68 ∷ []) $ free1 ! $ move ! (65 ∷ 66 ∷ []) $ free1 ! $ move ! (63 ∷ 64 ∷ []) $ free1 ! $ move ! (61 ∷ 62 ∷ []) $ free1 ! $ move ! (59 ∷ 60 ∷ []) $ free1 ! $ move ! (57 ∷ 58 ∷ []) $ free1 ! $ move ! (55 ∷ 56 ∷ []) $ free1 ! $ move ! (53 ∷ 54 ∷ []) $ free1 ! $ move ! (51 ∷ 52 ∷ []) $ free1 ! $ move ! (49 ∷ 50 ∷ []) $ free1 ! $ move ! (47 ∷ 48 ∷ []) $ free1 ! $ move ! (45 ∷ 46 ∷ []) $ free1 ! $ move ! (43 ∷ 44 ∷ []) $ free1 ! $ move ! (41 ∷ 42 ∷ []) $ free1 ! $ move ! (39 ∷ 40 ∷ []) $ free1 ! $ move ! (37 ∷ 38 ∷ []) $ free1 ! $ move ! (35 ∷ 36 ∷ []) $ free1 ! $ move ! (33 ∷ 34 ∷ []) $ free1 ! $ move ! (31 ∷ 32 ∷ []) $ free1 ! $ move ! (29 ∷ 30 ∷ []) $ free1 ! $ move ! (27 ∷ 28 ∷ []) $ free1 ! $ move ! (25 ∷ 26 ∷ []) $ free1 ! $ move ! (23 ∷ 24 ∷ []) $ free1 ! $ move ! (21 ∷ 22 ∷ []) $ free1 ! $ move ! (19 ∷ 20 ∷ []) $ free1 ! $ move ! (17 ∷ 18 ∷ []) $ free1 ! $ move ! (15 ∷ 16 ∷ []) $ free1 ! $ move ! (13 ∷ 14 ∷ []) $ free1 ! $ move ! (11 ∷ 12 ∷ []) $ free1 ! $ move ! (9 ∷ 10 ∷ []) $ free1 ! $ move ! (7 ∷ 8 ∷ []) $ free1 ! $ free0 ! $
           move ! (6 ∷ 5 ∷ 0 ∷ 4 ∷ 3 ∷ 1 ∷ 2 ∷ []) $
-          by ! (exits (x-b .1 .0) (e-b .0 .1 .0) zs (e-zs .0) (x-b .1 .1 .0) (e-b .0 .1 .1 .0) (x-b .1 .1 .1 .0) (e-b .0 .1 .1 .1 .0) (x-b .1 .1 .1 .1 .0) (e-b .0 .1 .1 .1 .1 .0) (x-b .1 .1 .1 .1 .1) (e-b .0 .1 .1 .1 .1 .1) b (at-B b r-b g-b) (let c = e-b .1 work (length pairs) (x-s .1) (e-s .1) (joined-at tb s e-tb (e-m .1 .0)) in (c .whole .answer, c .whole .out-is, c .whole .ids-is, c .whole .map-is, c .whole .log-is, c .work-is, pairs-left pairs (x-m .0) zs (e-s .1) e-n (e-m .0 .0) (pairs-idle tb e-tb (e-s .1) (e-m .0 .0) (e-m .1 .1)) (e-zs .1))))))))))))))))))))))))))))))))
+          by ! (exits (x-b .1 .0) (e-b .0 .1 .0) zs (e-zs .0) (x-b .1 .1 .0) (e-b .0 .1 .1 .0) (x-b .1 .1 .1 .0) (e-b .0 .1 .1 .1 .0) (x-b .1 .1 .1 .1 .0) (e-b .0 .1 .1 .1 .1 .0) (x-b .1 .1 .1 .1 .1) (e-b .0 .1 .1 .1 .1 .1) b (at-B b r-b g-b) (obeys axes mode job work pairs b (buffers out ids map log) (buffers _ _ _ _) _ zs (e-b .1 work (length pairs) (x-s .1) (e-s .1) (joined-at tb s e-tb (e-m .1 .0))) (pairs-left pairs (x-m .0) zs (e-s .1) e-n (e-m .0 .0) (pairs-idle tb e-tb (e-s .1) (e-m .0 .0) (e-m .1 .1)) (e-zs .1))))))))))))))))))))))))))))))))
 
     walk : ent 𝓤 (onEntry 𝓤 H A build.signature (κ, (κ₂, (κ₃, (κ₄, (κ₅, (κ₆, (κ₇, tt))))))) (θ, (θ₂, (θ₃, (θ₄, (θ₅, (θ₆, (θ₇, tt))))))) (bound .0 .3) (bound .0 .4)) (WpFn 𝓤 H C Λ code.function (vint w32 axes ∷ vint w32 mode ∷ σ ∷ σ₂ ∷ σ₃ ∷ σ₄ ∷ σ₅ ∷ σ₆ ∷ σ₇ ∷ []) Post)
     walk =

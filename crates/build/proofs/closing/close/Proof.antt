@@ -10,7 +10,7 @@ use Rattle.job.proofs.clear.Reads as clear-reads
 use Rattle.laws.proofs.wide.Reads as wide-reads
 
 returns : tie.Need-returns
-returns c = λ old pairs mid p j. close-early old pairs mid p j (c .if1 .taken) _ _ _ _
+returns c = λ old pairs mid p j. close-early old pairs mid p j (c .if1 .taken) _
 
 wide-requires : tie.Need-wide-requires
 wide-requires c κs = search needs
@@ -37,7 +37,7 @@ same-length-5 : tie.Need-same-length-5
 same-length-5 c = search needs
 
 returns-2 : tie.Need-returns-2
-returns-2 c = λ old pairs mid p j. close-late old pairs mid p j (c .before .before .before .before .before .before .before .before .before .before .before .before .before .before .before .before .before .before .before .before .before .if1 .left) _ (c .before .before .before .before .before .before .before .before .before .before .before .before .before .before .before .before .before .before .before .before .wide .ensures) _ _ _ _ _ _ _ _ _ (c .before .before .before .before .before .before .before .before .before .before .before .before .before .before .settle .ensures) _ (c .before .before .before .before .before .before .before .before .before .before .before .before .before .before .settle .kept .1 .1 .1 .0) _ (c .before .before .clear .ensures)
+returns-2 c = λ old pairs mid p j. close-late old pairs mid p j (c .before .before .before .before .before .before .before .before .before .before .before .before .before .before .before .before .before .before .before .before .before .if1 .left) _ (c .before .before .before .before .before .before .before .before .before .before .before .before .before .before .before .before .before .before .before .before .wide .ensures) _ _ _ (c .before .before .before .before .before .before .before .before .before .before .before .before .before .before .settle .ensures) _ (c .before .before .before .before .before .before .before .before .before .before .before .before .before .before .settle .kept .1 .1 .1 .0) _ (c .before .before .clear .ensures)
 
 pub close-spec : {M : Type 1} → statement M
 close-spec =

@@ -33,7 +33,7 @@ same-length-4 : tie.Need-same-length-4
 same-length-4 c = search needs
 
 returns : tie.Need-returns
-returns c = none-done _ _ _ (c .before .before .before .before .before .before .before .before .before .before .before .before .before .before .nowhere .ensures) _ _ _ _ _ _ _ _ _ _ (c .before .before .before .before .before .before .before .before .before .finish .ensures)
+returns c = none-done _ _ _ (c .before .before .before .before .before .before .before .before .before .before .before .before .before .before .nowhere .ensures) _ _ _ (c .before .before .before .before .before .before .before .before .before .finish .ensures)
 
 pub finish-none-spec : {M : Type 1} → statement M
 finish-none-spec =

@@ -11,7 +11,7 @@ use Rattle.encoder.proofs.own.Reads as own-reads
 use Rattle.encoder.proofs.regroup.Reads as regroup-reads
 
 returns : tie.Need-returns
-returns c = λ o mid r j. settle-refused _ _ _ o _ mid r (c .if1 .taken) _ _ _ _
+returns c = λ o mid r j. settle-refused _ _ _ o _ mid r (c .if1 .taken) _
 
 regroup-requires : tie.Need-regroup-requires
 regroup-requires c κs = settle-joined _ _ _ _ (c .before .before .before .before .before .before .before .before .before .before .before .pre .outcome) (c .before .before .before .before .before .before .before .before .before .before .before .pre .mid) (c .before .before .before .before .before .before .before .before .before .before .before .pre .read) (c .before .before .before .before .before .before .before .before .before .before .before .pre .joined) (c .before .before .before .if1 .left) (c .before .if2 .taken)
@@ -35,7 +35,7 @@ same-length-5 : tie.Need-same-length-5
 same-length-5 c = search needs
 
 returns-2 : tie.Need-returns-2
-returns-2 c = λ o mid r j. joined-done _ _ _ _ o mid r j (c .before .before .before .before .before .before .before .before .before .before .before .before .before .before .before .before .before .before .before .before .before .before .if1 .left) (c .before .before .before .before .before .before .before .before .before .before .before .before .before .before .before .before .before .before .before .before .if2 .taken) (c .before .before .before .before .before .before .before .before .before .before .before .before .before .before .before .before .before .before .regroup .ensures) _ _ _ _ _ _ _ _ _ (c .before .before .before .before .before .before .before .before .before .before .finish .ensures)
+returns-2 c = λ o mid r j. joined-done _ _ _ _ o mid r j (c .before .before .before .before .before .before .before .before .before .before .before .before .before .before .before .before .before .before .before .before .before .before .if1 .left) (c .before .before .before .before .before .before .before .before .before .before .before .before .before .before .before .before .before .before .before .before .if2 .taken) (c .before .before .before .before .before .before .before .before .before .before .before .before .before .before .before .before .before .before .regroup .ensures) _ _ _ (c .before .before .before .before .before .before .before .before .before .before .finish .ensures)
 
 finish-none-requires : tie.Need-finish-none-requires
 finish-none-requires c κs = axes-few _ _ _ _ (c .before .before .before .before .before .before .before .before .before .before .before .before .before .before .before .before .pre .outcome) (c .before .before .before .before .before .before .before .before .before .before .before .before .before .before .before .before .pre .mid) (c .before .before .before .before .before .before .before .before .before .before .before .before .before .before .before .before .pre .read) (c .before .before .before .before .before .before .before .before .before .before .before .before .before .before .before .before .pre .joined) (c .before .before .before .before .before .before .before .before .if1 .left)
@@ -53,7 +53,7 @@ same-length-9 : tie.Need-same-length-9
 same-length-9 c = search needs
 
 returns-3 : tie.Need-returns-3
-returns-3 c = λ o mid r j. none-done _ _ _ _ o mid r j (c .before .before .before .before .before .before .before .before .before .before .before .before .before .before .before .before .before .if1 .left) (c .before .before .before .before .before .before .before .before .before .before .before .before .before .before .before .if2 .left) (c .before .before .before .before .before .before .before .before .before .before .before .before .before .if3 .taken) _ _ _ _ _ _ _ _ _ (c .before .before .before .before .before .before .before .before .finish-none .ensures)
+returns-3 c = λ o mid r j. none-done _ _ _ _ o mid r j (c .before .before .before .before .before .before .before .before .before .before .before .before .before .before .before .before .before .if1 .left) (c .before .before .before .before .before .before .before .before .before .before .before .before .before .before .before .if2 .left) (c .before .before .before .before .before .before .before .before .before .before .before .before .before .if3 .taken) _ _ _ (c .before .before .before .before .before .before .before .before .finish-none .ensures)
 
 own-requires : tie.Need-own-requires
 own-requires c κs = (alone-fit _ _ _ _ (c .before .before .before .before .before .before .before .before .before .before .before .before .before .pre .outcome) (c .before .before .before .before .before .before .before .before .before .before .before .before .before .pre .mid) (c .before .before .before .before .before .before .before .before .before .before .before .before .before .pre .read) (c .before .before .before .before .before .before .before .before .before .before .before .before .before .pre .joined) (c .before .before .before .before .before .if1 .left) (c .before .before .before .if2 .left), omega arith)
@@ -77,7 +77,7 @@ same-length-14 : tie.Need-same-length-14
 same-length-14 c = search needs
 
 returns-4 : tie.Need-returns-4
-returns-4 c = λ o mid r j. alone-done _ _ _ _ o mid r j (c .before .before .before .before .before .before .before .before .before .before .before .before .before .before .before .before .before .before .before .before .before .before .before .before .if1 .left) (c .before .before .before .before .before .before .before .before .before .before .before .before .before .before .before .before .before .before .before .before .before .before .if2 .left) (c .before .before .before .before .before .before .before .before .before .before .before .before .before .before .before .before .before .before .own .ensures) _ _ _ _ _ _ _ _ _ (c .before .before .before .before .before .before .before .before .before .before .finish2 .ensures)
+returns-4 c = λ o mid r j. alone-done _ _ _ _ o mid r j (c .before .before .before .before .before .before .before .before .before .before .before .before .before .before .before .before .before .before .before .before .before .before .before .before .if1 .left) (c .before .before .before .before .before .before .before .before .before .before .before .before .before .before .before .before .before .before .before .before .before .before .if2 .left) (c .before .before .before .before .before .before .before .before .before .before .before .before .before .before .before .before .before .before .own .ensures) _ _ _ (c .before .before .before .before .before .before .before .before .before .before .finish2 .ensures)
 
 pub settle-spec : {M : Type 1} → statement M
 settle-spec =
