@@ -14,3 +14,4 @@ pub mod RowsBack
 pub mod ShortLaws
 pub mod ListBack
 pub mod ReadBack
+pub mod Accepted

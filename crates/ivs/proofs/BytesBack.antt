@@ -24,8 +24,8 @@ use Rattle.told.specs.Told.{recordAt, recordCount, endsBefore, ValueIn, coordin
 use Rattle.told.proofs.Bytes.{told}
 use Rattle.finishing.specs.declared.answers.Report.{Report}
 use Rattle.finishing.specs.declared.answers.Built.the-variants.{Done}
-use Rattle.finishing.specs.Late.{Lengths}
-use Rattle.build.specs.Build.{regionBytes, coordsOf, answerOf, outAfter, idsAfter, mapAfter}
+use Rattle.build.specs.Lending.{Lending}
+use Rattle.build.specs.Build.{regionBytes, coordsOf, answerOf, after}
 use Rattle.ivs.proofs.Demand2.{SetBack, RegionBack, InList, Demand2, demand2}
 
 -- "start, peak, end per axis" of region q of a store's list
@@ -141,15 +141,11 @@ module _ (axes : ℕ) (job : List ℕ) (s : Said) (bytes : Bytes job) (t : Told 
     }
 
 -- THE LAW: of every done build and every end record, by the job's bytes and the lent memory alone
-pub bytes-back : (axes mode : ℕ) (job : List ℕ) (work pairs : ℕ) (l : Lengths) (r : Report) → Bytes job → answerOf axes mode job work pairs l ≡ Done r
-    → (out ids map : List ℕ) → length out ≡ l .out → length ids ≡ l .ids → length map ≡ l .map
-    → (n : ℕ) → n < endsBefore job (recordCount job)
-    → SetRead axes job (take (r .bytes) (outAfter axes mode job work pairs l out)) n
-    (getD (mapAfter axes mode job work pairs l map) (getD (idsAfter axes mode job work pairs l ids) n 0) 0)
-bytes-back axes mode job work pairs l r bytes e out ids map p q m n h =
-    let d = demand2 axes mode job work pairs l r bytes e in
+pub bytes-back : (c : Lending) (r : Report) → Bytes (c .job) → answerOf c ≡ Done r → (n : ℕ) → n < endsBefore (c .job) (recordCount (c .job))
+    → SetRead (c .axes) (c .job) (take (r .bytes) (after c .lent .out)) n (getD (after c .lent .map) (getD (after c .lent .ids) n 0) 0)
+bytes-back c r bytes e n h =
+    let d = demand2 c r bytes e in
     let s = d .said in
-    let t = told axes mode job work pairs s (d .said-is) in
+    let t = told (c .axes) (c .mode) (c .job) (length (c .work)) (length (c .pairs)) s (d .said-is) in
     let k : n < length (s .sets) = omega (arith, t .sets-are) in
-    set-read axes job s bytes t (take (r .bytes) (outAfter axes mode job work pairs l out)) n
-    (getD (mapAfter axes mode job work pairs l map) (getD (idsAfter axes mode job work pairs l ids) n 0) 0) k (d .sets-back out ids map p q m n k)
+    set-read (c .axes) (c .job) s bytes t (take (r .bytes) (after c .lent .out)) n (getD (after c .lent .map) (getD (after c .lent .ids) n 0) 0) k (d .sets-back n k)

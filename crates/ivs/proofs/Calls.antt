@@ -27,9 +27,9 @@ use denote.Enum.Laws as EL
 use denote.Triple.Spec.{tripleOf}
 use denote.Triple.Statement.{Contract, Triple}
 use denote.Triple.Clauses.{Lasts, lasts}
-use Rattle.build.specs.Build.{answerOf, outAfter, idsAfter, mapAfter, logAfter, pairsLeft}
-use Rattle.finishing.specs.Lent.{lengths}
-use Rattle.job.specs.Check.{workLeft}
+use Rattle.finishing.specs.Buffers.{buffers}
+use Rattle.build.specs.Lending.{lending, leaves}
+use Rattle.build.specs.Build.{Obeys}
 use Rattle.ivs.specs.Answers.{numberOf, reportWords, filled, numberFew}
 use Rattle.pairs.specs.declared.Pair.{Pair}
 use Rattle.pairs.proofs.Pair as T
@@ -60,30 +60,18 @@ module _ {M : Type 1} (𝓤 : URA M) (H : Heap 𝓤) (A : Atoms 𝓤) (W : Given
     Loan-build-see-mut-mut-mut-mut-mut-mut long₂ long₃ long₄ long₅ long₆ long₇ sized₂ sized₃ sized₄ sized₅ sized₆ sized₇ = both 𝓤 H A W (lent-see u8 κ θ γ β ι 𝓤 H A W job ν) (both 𝓤 H A W (lent-mut u32 κ₂ θ₂ γ₂ β₂ ι₂ 𝓤 H A W work ν₂ long₂ sized₂) (both 𝓤 H A W (lent-mut T.the-row κ₃ θ₃ γ₃ β₃ ι₃ 𝓤 H A W pairs ν₃ long₃ sized₃) (both 𝓤 H A W (lent-mut u8 κ₄ θ₄ γ₄ β₄ ι₄ 𝓤 H A W out ν₄ long₄ sized₄) (both 𝓤 H A W (lent-mut u32 κ₅ θ₅ γ₅ β₅ ι₅ 𝓤 H A W ids ν₅ long₅ sized₅) (both 𝓤 H A W (lent-mut u32 κ₆ θ₆ γ₆ β₆ ι₆ 𝓤 H A W map ν₆ long₆ sized₆) (lent-mut u32 κ₇ θ₇ γ₇ β₇ ι₇ 𝓤 H A W log ν₇ long₇ sized₇))))))
 
     abbrev pub After-build-see-mut-mut-mut-mut-mut-mut : Val → Item 𝓤
-    After-build-see-mut-mut-mut-mut-mut-mut w = later (some (λ (r : Built). some (λ (x : Unit {0} × (List ℕ × (List Pair × (List ℕ × (List ℕ × (List ℕ × List ℕ)))))). given ((Unit {0} × ((length (x .1 .0) ≡ ν₂) × ((length (x .1 .1 .0) ≡ ν₃) × ((length (x .1 .1 .1 .0) ≡ ν₄) × ((length (x .1 .1 .1 .1 .0) ≡ ν₅) × ((length (x .1 .1 .1 .1 .1 .0) ≡ ν₆) × (length (x .1 .1 .1 .1 .1 .1) ≡ ν₇))))))) × ((r ≡ answerOf axes mode job (length work) (length pairs) (lengths out ids map log)) × ((x .1 .1 .1 .0) ≡ outAfter axes mode job (length work) (length pairs) (lengths out ids map log) out) × ((x .1 .1 .1 .1 .0) ≡ idsAfter axes mode job (length work) (length pairs) (lengths out ids map log) ids) × ((x .1 .1 .1 .1 .1 .0) ≡ mapAfter axes mode job (length work) (length pairs) (lengths out ids map log) map) × ((x .1 .1 .1 .1 .1 .1) ≡ logAfter axes mode job (length work) (length pairs) (lengths out ids map log) log) × ((x .1 .0) ≡ workLeft axes mode (length job) (length pairs) work) × ((x .1 .1 .0) ≡ pairsLeft axes mode (length job) (length work) pairs))) ((Sees u8 κ θ γ β ι 𝓤 ν job ⊛ (Has u32 κ₂ θ₂ γ₂ β₂ ι₂ 𝓤 ν₂ (x .1 .0) ⊛ (Has T.the-row κ₃ θ₃ γ₃ β₃ ι₃ 𝓤 ν₃ (x .1 .1 .0) ⊛ (Has u8 κ₄ θ₄ γ₄ β₄ ι₄ 𝓤 ν₄ (x .1 .1 .1 .0) ⊛ (Has u32 κ₅ θ₅ γ₅ β₅ ι₅ 𝓤 ν₅ (x .1 .1 .1 .1 .0) ⊛ (Has u32 κ₆ θ₆ γ₆ β₆ ι₆ 𝓤 ν₆ (x .1 .1 .1 .1 .1 .0) ⊛ Has u32 κ₇ θ₇ γ₇ β₇ ι₇ 𝓤 ν₇ (x .1 .1 .1 .1 .1 .1))))))) ⊛ ‵ (D.the-row .own r (w ∷ []))))))
+    After-build-see-mut-mut-mut-mut-mut-mut w = later (some (λ (r : Built). some (λ (x : Unit {0} × (List ℕ × (List Pair × (List ℕ × (List ℕ × (List ℕ × List ℕ)))))). given ((Unit {0} × ((length (x .1 .0) ≡ ν₂) × ((length (x .1 .1 .0) ≡ ν₃) × ((length (x .1 .1 .1 .0) ≡ ν₄) × ((length (x .1 .1 .1 .1 .0) ≡ ν₅) × ((length (x .1 .1 .1 .1 .1 .0) ≡ ν₆) × (length (x .1 .1 .1 .1 .1 .1) ≡ ν₇))))))) × (Obeys (lending axes mode job work pairs (buffers out ids map log)) r (leaves (x .1 .0) (x .1 .1 .0) (buffers (x .1 .1 .1 .0) (x .1 .1 .1 .1 .0) (x .1 .1 .1 .1 .1 .0) (x .1 .1 .1 .1 .1 .1))))) ((Sees u8 κ θ γ β ι 𝓤 ν job ⊛ (Has u32 κ₂ θ₂ γ₂ β₂ ι₂ 𝓤 ν₂ (x .1 .0) ⊛ (Has T.the-row κ₃ θ₃ γ₃ β₃ ι₃ 𝓤 ν₃ (x .1 .1 .0) ⊛ (Has u8 κ₄ θ₄ γ₄ β₄ ι₄ 𝓤 ν₄ (x .1 .1 .1 .0) ⊛ (Has u32 κ₅ θ₅ γ₅ β₅ ι₅ 𝓤 ν₅ (x .1 .1 .1 .1 .0) ⊛ (Has u32 κ₆ θ₆ γ₆ β₆ ι₆ 𝓤 ν₆ (x .1 .1 .1 .1 .1 .0) ⊛ Has u32 κ₇ θ₇ γ₇ β₇ ι₇ 𝓤 ν₇ (x .1 .1 .1 .1 .1 .1))))))) ⊛ ‵ (D.the-row .own r (w ∷ []))))))
 
     abbrev at-build-see-mut-mut-mut-mut-mut-mut : (g : Unit {0} × ((ℕ × GName) × ((ℕ × GName) × ((ℕ × GName) × ((ℕ × GName) × ((ℕ × GName) × (ℕ × GName))))))) → Build-of 𝓤 H A mem run .Ghost
     at-build-see-mut-mut-mut-mut-mut-mut g = (((κ, (g .1 .0 .0 ∷ [], (g .1 .1 .0 .0 ∷ [], (g .1 .1 .1 .0 .0 ∷ [], (g .1 .1 .1 .1 .0 .0 ∷ [], (g .1 .1 .1 .1 .1 .0 .0 ∷ [], (g .1 .1 .1 .1 .1 .1 .0 ∷ [], tt))))))), (θ, (fullShare, (fullShare, (fullShare, (fullShare, (fullShare, (fullShare, tt))))))), tt, (axes, (mode, (ref u8 κ θ γ β ι γ job, (ref u32 κ₂ θ₂ γ₂ β₂ ι₂ (g .1 .0 .1) work, (ref T.the-row κ₃ θ₃ γ₃ β₃ ι₃ (g .1 .1 .0 .1) pairs, (ref u8 κ₄ θ₄ γ₄ β₄ ι₄ (g .1 .1 .1 .0 .1) out, (ref u32 κ₅ θ₅ γ₅ β₅ ι₅ (g .1 .1 .1 .1 .0 .1) ids, (ref u32 κ₆ θ₆ γ₆ β₆ ι₆ (g .1 .1 .1 .1 .1 .0 .1) map, (ref u32 κ₇ θ₇ γ₇ β₇ ι₇ (g .1 .1 .1 .1 .1 .1 .1) log, tt))))))))), (vint w32 axes ∷ [], (vint w32 mode ∷ [], (sliceVal (β, ι) ν ∷ [], (sliceVal (β₂, ι₂) ν₂ ∷ [], (sliceVal (β₃, ι₃) ν₃ ∷ [], (sliceVal (β₄, ι₄) ν₄ ∷ [], (sliceVal (β₅, ι₅) ν₅ ∷ [], (sliceVal (β₆, ι₆) ν₆ ∷ [], (sliceVal (β₇, ι₇) ν₇ ∷ [], tt)))))))))), tt)
 
-    leaves-build-see-mut-mut-mut-mut-mut-mut : (long₂ : length work ≡ ν₂) (long₃ : length pairs ≡ ν₃) (long₄ : length out ≡ ν₄) (long₅ : length ids ≡ ν₅) (long₆ : length map ≡ ν₆) (long₇ : length log ≡ ν₇) (sized₂ : Room u32 ν₂) (sized₃ : Room T.the-row ν₃) (sized₄ : Room u8 ν₄) (sized₅ : Room u32 ν₅) (sized₆ : Room u32 ν₆) (sized₇ : Room u32 ν₇) → (g : Unit {0} × ((ℕ × GName) × ((ℕ × GName) × ((ℕ × GName) × ((ℕ × GName) × ((ℕ × GName) × (ℕ × GName))))))) → (w : Val) → ent 𝓤 (Build-of 𝓤 H A mem run .post (at-build-see-mut-mut-mut-mut-mut-mut g) w) (mean 𝓤 H A (Gives 𝓤 H A W (Loan-build-see-mut-mut-mut-mut-mut-mut long₂ long₃ long₄ long₅ long₆ long₇ sized₂ sized₃ sized₄ sized₅ sized₆ sized₇) D.the-row (λ x r. (r ≡ answerOf axes mode job (length work) (length pairs) (lengths out ids map log)) × ((x .1 .1 .1 .0) ≡ outAfter axes mode job (length work) (length pairs) (lengths out ids map log) out) × ((x .1 .1 .1 .1 .0) ≡ idsAfter axes mode job (length work) (length pairs) (lengths out ids map log) ids) × ((x .1 .1 .1 .1 .1 .0) ≡ mapAfter axes mode job (length work) (length pairs) (lengths out ids map log) map) × ((x .1 .1 .1 .1 .1 .1) ≡ logAfter axes mode job (length work) (length pairs) (lengths out ids map log) log) × ((x .1 .0) ≡ workLeft axes mode (length job) (length pairs) work) × ((x .1 .1 .0) ≡ pairsLeft axes mode (length job) (length work) pairs)) g w))
+    leaves-build-see-mut-mut-mut-mut-mut-mut : (long₂ : length work ≡ ν₂) (long₃ : length pairs ≡ ν₃) (long₄ : length out ≡ ν₄) (long₅ : length ids ≡ ν₅) (long₆ : length map ≡ ν₆) (long₇ : length log ≡ ν₇) (sized₂ : Room u32 ν₂) (sized₃ : Room T.the-row ν₃) (sized₄ : Room u8 ν₄) (sized₅ : Room u32 ν₅) (sized₆ : Room u32 ν₆) (sized₇ : Room u32 ν₇) → (g : Unit {0} × ((ℕ × GName) × ((ℕ × GName) × ((ℕ × GName) × ((ℕ × GName) × ((ℕ × GName) × (ℕ × GName))))))) → (w : Val) → ent 𝓤 (Build-of 𝓤 H A mem run .post (at-build-see-mut-mut-mut-mut-mut-mut g) w) (mean 𝓤 H A (Gives 𝓤 H A W (Loan-build-see-mut-mut-mut-mut-mut-mut long₂ long₃ long₄ long₅ long₆ long₇ sized₂ sized₃ sized₄ sized₅ sized₆ sized₇) D.the-row (λ x r. Obeys (lending axes mode job work pairs (buffers out ids map log)) r (leaves (x .1 .0) (x .1 .1 .0) (buffers (x .1 .1 .1 .0) (x .1 .1 .1 .1 .0) (x .1 .1 .1 .1 .1 .0) (x .1 .1 .1 .1 .1 .1)))) g w))
     leaves-build-see-mut-mut-mut-mut-mut-mut long₂ long₃ long₄ long₅ long₆ long₇ sized₂ sized₃ sized₄ sized₅ sized₆ sized₇ g w =
         qed W (later (some (λ (r : Built). ((‵ (flft (κ) θ) ⊛ ‵ (flft (g .1 .0 .0 ∷ []) fullShare) ⊛ ‵ (flft (g .1 .1 .0 .0 ∷ []) fullShare) ⊛ ‵ (flft (g .1 .1 .1 .0 .0 ∷ []) fullShare) ⊛ ‵ (flft (g .1 .1 .1 .1 .0 .0 ∷ []) fullShare) ⊛ ‵ (flft (g .1 .1 .1 .1 .1 .0 .0 ∷ []) fullShare) ⊛ ‵ (flft (g .1 .1 .1 .1 .1 .1 .0 ∷ []) fullShare) ⊛ ‵ ftrue) ⊛ ‵ (D.the-row .own r (w ∷ [])))
-        ⊛ some (λ (ws : Lasts build.ended (κ, (g .1 .0 .0 ∷ [], (g .1 .1 .0 .0 ∷ [], (g .1 .1 .1 .0 .0 ∷ [], (g .1 .1 .1 .1 .0 .0 ∷ [], (g .1 .1 .1 .1 .1 .0 .0 ∷ [], (g .1 .1 .1 .1 .1 .1 .0 ∷ [], tt))))))) (at-build-see-mut-mut-mut-mut-mut-mut g .0 .3)). ‵ (lasts build.ended (κ, (g .1 .0 .0 ∷ [], (g .1 .1 .0 .0 ∷ [], (g .1 .1 .1 .0 .0 ∷ [], (g .1 .1 .1 .1 .0 .0 ∷ [], (g .1 .1 .1 .1 .1 .0 .0 ∷ [], (g .1 .1 .1 .1 .1 .1 .0 ∷ [], tt))))))) (at-build-see-mut-mut-mut-mut-mut-mut g .0 .3) ws) ⊛ raw (fact 𝓤 (r ≡ answerOf axes mode job (length work) (length pairs) (lengths out ids map log))) ⊛ raw (fact 𝓤 ((ws .1 .1 .1 .1 .1 .0) ≡ outAfter axes mode job (length work) (length pairs) (lengths out ids map log) out)) ⊛ raw (fact 𝓤 ((ws .1 .1 .1 .1 .1 .1 .0) ≡ idsAfter axes mode job (length work) (length pairs) (lengths out ids map log) ids)) ⊛ raw (fact 𝓤 ((ws .1 .1 .1 .1 .1 .1 .1 .0) ≡ mapAfter axes mode job (length work) (length pairs) (lengths out ids map log) map)) ⊛ raw (fact 𝓤 ((ws .1 .1 .1 .1 .1 .1 .1 .1 .0) ≡ logAfter axes mode job (length work) (length pairs) (lengths out ids map log) log)) ⊛ raw (fact 𝓤 ((ws .1 .1 .1 .0) ≡ workLeft axes mode (length job) (length pairs) work)) ⊛ raw (fact 𝓤 ((ws .1 .1 .1 .1 .0) ≡ pairsLeft axes mode (length job) (length work) pairs))))) ∷ []) ∵
+        ⊛ some (λ (ws : Lasts build.ended (κ, (g .1 .0 .0 ∷ [], (g .1 .1 .0 .0 ∷ [], (g .1 .1 .1 .0 .0 ∷ [], (g .1 .1 .1 .1 .0 .0 ∷ [], (g .1 .1 .1 .1 .1 .0 .0 ∷ [], (g .1 .1 .1 .1 .1 .1 .0 ∷ [], tt))))))) (at-build-see-mut-mut-mut-mut-mut-mut g .0 .3)). ‵ (lasts build.ended (κ, (g .1 .0 .0 ∷ [], (g .1 .1 .0 .0 ∷ [], (g .1 .1 .1 .0 .0 ∷ [], (g .1 .1 .1 .1 .0 .0 ∷ [], (g .1 .1 .1 .1 .1 .0 .0 ∷ [], (g .1 .1 .1 .1 .1 .1 .0 ∷ [], tt))))))) (at-build-see-mut-mut-mut-mut-mut-mut g .0 .3) ws) ⊛ raw (fact 𝓤 (Obeys (lending axes mode job work pairs (buffers out ids map log)) r (leaves (ws .1 .1 .1 .0) (ws .1 .1 .1 .1 .0) (buffers (ws .1 .1 .1 .1 .1 .0) (ws .1 .1 .1 .1 .1 .1 .0) (ws .1 .1 .1 .1 .1 .1 .1 .0) (ws .1 .1 .1 .1 .1 .1 .1 .1 .0)))))))) ∷ []) ∵
         updating ! $ await ! tt $ pick ! (λ r. split ! $ move ! (1 ∷ []) $ pick ! (λ ws. split ! $
         move ! (1 ∷ []) $
-        split ! $
-        heard ! (r ≡ answerOf axes mode job (length work) (length pairs) (lengths out ids map log)) (λ e₀.
-        split ! $
-        heard ! ((ws .1 .1 .1 .1 .1 .0) ≡ outAfter axes mode job (length work) (length pairs) (lengths out ids map log) out) (λ e₁.
-        split ! $
-        heard ! ((ws .1 .1 .1 .1 .1 .1 .0) ≡ idsAfter axes mode job (length work) (length pairs) (lengths out ids map log) ids) (λ e₂.
-        split ! $
-        heard ! ((ws .1 .1 .1 .1 .1 .1 .1 .0) ≡ mapAfter axes mode job (length work) (length pairs) (lengths out ids map log) map) (λ e₃.
-        split ! $
-        heard ! ((ws .1 .1 .1 .1 .1 .1 .1 .1 .0) ≡ logAfter axes mode job (length work) (length pairs) (lengths out ids map log) log) (λ e₄.
-        split ! $
-        heard ! ((ws .1 .1 .1 .0) ≡ workLeft axes mode (length job) (length pairs) work) (λ e₅.
-        heard ! ((ws .1 .1 .1 .1 .0) ≡ pairsLeft axes mode (length job) (length work) pairs) (λ e₆.
+        heard ! (Obeys (lending axes mode job work pairs (buffers out ids map log)) r (leaves (ws .1 .1 .1 .0) (ws .1 .1 .1 .1 .0) (buffers (ws .1 .1 .1 .1 .1 .0) (ws .1 .1 .1 .1 .1 .1 .0) (ws .1 .1 .1 .1 .1 .1 .1 .0) (ws .1 .1 .1 .1 .1 .1 .1 .1 .0)))) (λ e.
         fsplit ! $
         move ! (1 ∷ []) $
         fsplit ! $
@@ -159,10 +147,10 @@ module _ {M : Type 1} (𝓤 : URA M) (H : Heap 𝓤) (A : Atoms 𝓤) (W : Given
         join ! $
         move ! (2 ∷ 0 ∷ []) $
         join ! $
-        keep ! (0 ∷ 2 ∷ []) $ by ! (gives 𝓤 H A W (Loan-build-see-mut-mut-mut-mut-mut-mut long₂ long₃ long₄ long₅ long₆ long₇ sized₂ sized₃ sized₄ sized₅ sized₆ sized₇) D.the-row (λ x r. (r ≡ answerOf axes mode job (length work) (length pairs) (lengths out ids map log)) × ((x .1 .1 .1 .0) ≡ outAfter axes mode job (length work) (length pairs) (lengths out ids map log) out) × ((x .1 .1 .1 .1 .0) ≡ idsAfter axes mode job (length work) (length pairs) (lengths out ids map log) ids) × ((x .1 .1 .1 .1 .1 .0) ≡ mapAfter axes mode job (length work) (length pairs) (lengths out ids map log) map) × ((x .1 .1 .1 .1 .1 .1) ≡ logAfter axes mode job (length work) (length pairs) (lengths out ids map log) log) × ((x .1 .0) ≡ workLeft axes mode (length job) (length pairs) work) × ((x .1 .1 .0) ≡ pairsLeft axes mode (length job) (length work) pairs)) g w r ((tt, (ws .1 .1 .1 .0, (ws .1 .1 .1 .1 .0, (ws .1 .1 .1 .1 .1 .0, (ws .1 .1 .1 .1 .1 .1 .0, (ws .1 .1 .1 .1 .1 .1 .1 .0, ws .1 .1 .1 .1 .1 .1 .1 .1 .0))))))) ((tt, (l₁ ∙ long₂, (l₂ ∙ long₃, (l₃ ∙ long₄, (l₄ ∙ long₅, (l₅ ∙ long₆, l₆ ∙ long₇)))))), (e₀, e₁, e₂, e₃, e₄, e₅, e₆))))))))))))))))))
+        keep ! (0 ∷ 2 ∷ []) $ by ! (gives 𝓤 H A W (Loan-build-see-mut-mut-mut-mut-mut-mut long₂ long₃ long₄ long₅ long₆ long₇ sized₂ sized₃ sized₄ sized₅ sized₆ sized₇) D.the-row (λ x r. Obeys (lending axes mode job work pairs (buffers out ids map log)) r (leaves (x .1 .0) (x .1 .1 .0) (buffers (x .1 .1 .1 .0) (x .1 .1 .1 .1 .0) (x .1 .1 .1 .1 .1 .0) (x .1 .1 .1 .1 .1 .1)))) g w r ((tt, (ws .1 .1 .1 .0, (ws .1 .1 .1 .1 .0, (ws .1 .1 .1 .1 .1 .0, (ws .1 .1 .1 .1 .1 .1 .0, (ws .1 .1 .1 .1 .1 .1 .1 .0, ws .1 .1 .1 .1 .1 .1 .1 .1 .0))))))) ((tt, (l₁ ∙ long₂, (l₂ ∙ long₃, (l₃ ∙ long₄, (l₄ ∙ long₅, (l₅ ∙ long₆, l₆ ∙ long₇)))))), e)))))))))))
 
     pub build-see-mut-mut-mut-mut-mut-mut : (long₂ : length work ≡ ν₂) (long₃ : length pairs ≡ ν₃) (long₄ : length out ≡ ν₄) (long₅ : length ids ≡ ν₅) (long₆ : length map ≡ ν₆) (long₇ : length log ≡ ν₇) (sized₂ : Room u32 ν₂) (sized₃ : Room T.the-row ν₃) (sized₄ : Room u8 ν₄) (sized₅ : Room u32 ν₅) (sized₆ : Room u32 ν₆) (sized₇ : Room u32 ν₇) → axes < 2 ^ 32 → mode < 2 ^ 32 → ent 𝓤 (mean 𝓤 H A (Loan-build-see-mut-mut-mut-mut-mut-mut long₂ long₃ long₄ long₅ long₆ long₇ sized₂ sized₃ sized₄ sized₅ sized₆ sized₇ .held)) (H .⇛ (C #build·build (vint w32 axes ∷ vint w32 mode ∷ sliceVal (β, ι) ν ∷ sliceVal (β₂, ι₂) ν₂ ∷ sliceVal (β₃, ι₃) ν₃ ∷ sliceVal (β₄, ι₄) ν₄ ∷ sliceVal (β₅, ι₅) ν₅ ∷ sliceVal (β₆, ι₆) ν₆ ∷ sliceVal (β₇, ι₇) ν₇ ∷ []) (λ w. mean 𝓤 H A (After-build-see-mut-mut-mut-mut-mut-mut w))))
-    build-see-mut-mut-mut-mut-mut-mut long₂ long₃ long₄ long₅ long₆ long₇ sized₂ sized₃ sized₄ sized₅ sized₆ sized₇ g-axes g-mode = loan-call 𝓤 H A W (Loan-build-see-mut-mut-mut-mut-mut-mut long₂ long₃ long₄ long₅ long₆ long₇ sized₂ sized₃ sized₄ sized₅ sized₆ sized₇) D.the-row (λ x r. (r ≡ answerOf axes mode job (length work) (length pairs) (lengths out ids map log)) × ((x .1 .1 .1 .0) ≡ outAfter axes mode job (length work) (length pairs) (lengths out ids map log) out) × ((x .1 .1 .1 .1 .0) ≡ idsAfter axes mode job (length work) (length pairs) (lengths out ids map log) ids) × ((x .1 .1 .1 .1 .1 .0) ≡ mapAfter axes mode job (length work) (length pairs) (lengths out ids map log) map) × ((x .1 .1 .1 .1 .1 .1) ≡ logAfter axes mode job (length work) (length pairs) (lengths out ids map log) log) × ((x .1 .0) ≡ workLeft axes mode (length job) (length pairs) work) × ((x .1 .1 .0) ≡ pairsLeft axes mode (length job) (length work) pairs)) C fm #build·build (vint w32 axes ∷ vint w32 mode ∷ sliceVal (β, ι) ν ∷ sliceVal (β₂, ι₂) ν₂ ∷ sliceVal (β₃, ι₃) ν₃ ∷ sliceVal (β₄, ι₄) ν₄ ∷ sliceVal (β₅, ι₅) ν₅ ∷ sliceVal (β₆, ι₆) ν₆ ∷ sliceVal (β₇, ι₇) ν₇ ∷ []) (λ g.
+    build-see-mut-mut-mut-mut-mut-mut long₂ long₃ long₄ long₅ long₆ long₇ sized₂ sized₃ sized₄ sized₅ sized₆ sized₇ g-axes g-mode = loan-call 𝓤 H A W (Loan-build-see-mut-mut-mut-mut-mut-mut long₂ long₃ long₄ long₅ long₆ long₇ sized₂ sized₃ sized₄ sized₅ sized₆ sized₇) D.the-row (λ x r. Obeys (lending axes mode job work pairs (buffers out ids map log)) r (leaves (x .1 .0) (x .1 .1 .0) (buffers (x .1 .1 .1 .0) (x .1 .1 .1 .1 .0) (x .1 .1 .1 .1 .1 .0) (x .1 .1 .1 .1 .1 .1)))) C fm #build·build (vint w32 axes ∷ vint w32 mode ∷ sliceVal (β, ι) ν ∷ sliceVal (β₂, ι₂) ν₂ ∷ sliceVal (β₃, ι₃) ν₃ ∷ sliceVal (β₄, ι₄) ν₄ ∷ sliceVal (β₅, ι₅) ν₅ ∷ sliceVal (β₆, ι₆) ν₆ ∷ sliceVal (β₇, ι₇) ν₇ ∷ []) (λ g.
         qed W (Loan-build-see-mut-mut-mut-mut-mut-mut long₂ long₃ long₄ long₅ long₆ long₇ sized₂ sized₃ sized₄ sized₅ sized₆ sized₇ .goes g ∷ []) ∵
         suffices ! (C #build·build (vint w32 axes ∷ vint w32 mode ∷ sliceVal (β, ι) ν ∷ sliceVal (β₂, ι₂) ν₂ ∷ sliceVal (β₃, ι₃) ν₃ ∷ sliceVal (β₄, ι₄) ν₄ ∷ sliceVal (β₅, ι₅) ν₅ ∷ sliceVal (β₆, ι₆) ν₆ ∷ sliceVal (β₇, ι₇) ν₇ ∷ []) (Build-of 𝓤 H A mem run .post (at-build-see-mut-mut-mut-mut-mut-mut g))) (fm→monoC 𝓤 H (W .laws) C fm #build·build (vint w32 axes ∷ vint w32 mode ∷ sliceVal (β, ι) ν ∷ sliceVal (β₂, ι₂) ν₂ ∷ sliceVal (β₃, ι₃) ν₃ ∷ sliceVal (β₄, ι₄) ν₄ ∷ sliceVal (β₅, ι₅) ν₅ ∷ sliceVal (β₆, ι₆) ν₆ ∷ sliceVal (β₇, ι₇) ν₇ ∷ []) (Build-of 𝓤 H A mem run .post (at-build-see-mut-mut-mut-mut-mut-mut g)) _ (leaves-build-see-mut-mut-mut-mut-mut-mut long₂ long₃ long₄ long₅ long₆ long₇ sized₂ sized₃ sized₄ sized₅ sized₆ sized₇ g)) $
         suffices ! (Build-of 𝓤 H A mem run .pre (at-build-see-mut-mut-mut-mut-mut-mut g)) (known (at-build-see-mut-mut-mut-mut-mut-mut g)) $ split ! $

@@ -6,8 +6,7 @@ use mathlib.Core.List.{List, []}
 use Prim.Native.Nat.{ℕ, _+_, _*_, _/_, _≤_, _<_}
 use native.Mathlib.Omega.{arith}
 use lib.Dec.{eqb}
-use lib.ListN.{length, getD, take, drop, List·getD-append}
-use lib.Seq.{take-at}
+use lib.ListN.{length, getD, take, drop}
 use Rattle.laws.specs.Pick.{pick}
 use Rattle.laws.specs.Bytes.{over}
 use Rattle.laws.specs.Signed.{value, zeroWord}
@@ -21,17 +20,18 @@ use Rattle.reader.specs.Store.{readStore, valueOf, listAt, regionCount}
 use Rattle.store.specs.Placing.{allRuns, idWords, names, keptOf, newIndex}
 use Rattle.store.specs.Lent.{stored}
 use Rattle.said.specs.Records.{recordBytes}
-use Rattle.said.specs.Job.{Said, fine, outcome}
+use Rattle.said.specs.Job.{Said, fine}
 use Rattle.said.proofs.SoundLaws.{Bytes}
 use Rattle.encoder.specs.Packed.{Packed, shared, own}
 use Rattle.encoder.proofs.DenseIds.{ids-length}
 use Rattle.finishing.specs.declared.answers.Report.{Report}
 use Rattle.finishing.specs.declared.answers.Built.the-variants.{Done}
-use Rattle.finishing.specs.Late.{Lengths, storeFor, reportOf}
-use Rattle.build.specs.Build.{coordsOf, packedOf, answerOf, outAfter, idsAfter, mapAfter}
+use Rattle.finishing.specs.Late.{storeFor}
+use Rattle.build.specs.Lending.{Lending}
+use Rattle.build.specs.Build.{coordsOf, packedOf, outcomeOf, answerOf, after}
 use Rattle.build.proofs.RowsBack.{RowOf, Listed}
 use Rattle.build.proofs.ReadBack.{Sized, GivesBack, shared-back, own-back}
-use Rattle.ivs.proofs.Accepted.{Accepted, accepted, accepted-sized, coords-once, out-done, ids-done, map-done}
+use Rattle.build.proofs.Accepted.{Accepted, accepted, accepted-sized, coords-once, bytes-are, out-is, map-is, store-front, id-at}
 
 -- ---- what a set's row in a store gives back
 
@@ -169,91 +169,66 @@ module _ (mode : ℕ) (s : Said) where
 
 -- ---- the demand
 
-pub over-front : (old new : List ℕ) → take (length new) (over old 0 (length new) new) ≡ new
-over-front old new = take-at new (drop (0 + length new) old) (length new) refl
-
-over-at : (old new : List ℕ) (n : ℕ) → n < length new → getD (over old 0 (length new) new) n 0 ≡ getD new n 0
-over-at old new n h = List·getD-append new (drop (0 + length new) old) 0 n h
-
-pub record Demand2 (axes mode : ℕ) (job : List ℕ) (work pairs : ℕ) (l : Lengths) (r : Report) : Type 0 where
-  -- what the job says: its regions in use and its sets ("An end record is one `add_deltas` call with the values of its set")
+pub record Demand2 (c : Lending) (r : Report) : Type 0 where
+  -- what the job says: its regions in use and its sets, one for each end record
   pub said : Said
-  pub said-is : outcome axes mode job work pairs ≡ fine said
+  pub said-is : outcomeOf c ≡ fine said
   -- the packed sets give back every set of the job: ids, rows, region list
-  pub gives-back : GivesBack axes (length (said .used)) (coordsOf said) (said .sets) (packedOf mode said)
-  -- "Done (0) gives: store bytes": the output begins with the store, and nothing past it changed
-  pub bytes-are : r .bytes ≡ length (storeFor axes (coordsOf said) (packedOf mode said))
-  pub out-is : (out : List ℕ) → length out ≡ l .out
-      → outAfter axes mode job work pairs l out ≡ over out 0 (r .bytes) (storeFor axes (coordsOf said) (packedOf mode said))
-  pub store-is : (out : List ℕ) → length out ≡ l .out → take (r .bytes) (outAfter axes mode job work pairs l out) ≡ storeFor axes (coordsOf said) (packedOf mode said)
-  -- "The n-th word of ids is the n-th set's id."
-  pub ids-are : (ids : List ℕ) → length ids ≡ l .ids → (n : ℕ) → n < length (said .sets)
-      → getD (idsAfter axes mode job work pairs l ids) n 0 ≡ getD (packedOf mode said .ids) n 0
-  -- "Outer is the run's position, inner the row's. The id's map word is outer x 65,536 + inner."
-  pub map-is : (map : List ℕ) → length map ≡ l .map → mapAfter axes mode job work pairs l map ≡ stored (idWords 0 (allRuns (packedOf mode said .finals))) map
-  -- THE DEMAND, of the lent memory alone: the store is what the output begins with, the n-th set's id is the n-th word of ids, and its row is where
-  -- the map's word of that id says. "Read by the OpenType rules, each id's row gives back its adjustment for every region, and zero for one it
-  -- never named."
-  pub sets-back : (out ids map : List ℕ) → length out ≡ l .out → length ids ≡ l .ids → length map ≡ l .map → (n : ℕ) → n < length (said .sets)
-      → SetBack axes (coordsOf said) (getD (said .sets) n []) (take (r .bytes) (outAfter axes mode job work pairs l out))
-      (getD (mapAfter axes mode job work pairs l map) (getD (idsAfter axes mode job work pairs l ids) n 0) 0)
+  pub gives-back : GivesBack (c .axes) (length (said .used)) (coordsOf said) (said .sets) (packedOf (c .mode) said)
+  -- the output begins with the store, and nothing past it changed
+  pub bytes-are : r .bytes ≡ length (storeFor (c .axes) (coordsOf said) (packedOf (c .mode) said))
+  pub out-is : after c .lent .out ≡ over (c .lent .out) 0 (r .bytes) (storeFor (c .axes) (coordsOf said) (packedOf (c .mode) said))
+  pub store-is : take (r .bytes) (after c .lent .out) ≡ storeFor (c .axes) (coordsOf said) (packedOf (c .mode) said)
+  -- the n-th word of ids is the id of set n
+  pub ids-are : (n : ℕ) → n < length (said .sets) → getD (after c .lent .ids) n 0 ≡ getD (packedOf (c .mode) said .ids) n 0
+  -- the map has the place of each id's row
+  pub map-is : after c .lent .map ≡ stored (idWords 0 (allRuns (packedOf (c .mode) said .finals))) (c .lent .map)
+  -- THE DEMAND, of the lent memory alone: the store is what the output begins with, the id of set n is the n-th word of ids, its row is where the map's
+  -- word of that id says, and what is read there is the set's value for every region, zero for one that it never named
+  pub sets-back : (n : ℕ) → n < length (said .sets)
+      → SetBack (c .axes) (coordsOf said) (getD (said .sets) n []) (take (r .bytes) (after c .lent .out)) (getD (after c .lent .map) (getD (after c .lent .ids) n 0) 0)
 
 -- THE LAW
-pub demand2 : (axes mode : ℕ) (job : List ℕ) (work pairs : ℕ) (l : Lengths) (r : Report) → Bytes job → answerOf axes mode job work pairs l ≡ Done r
-    → Demand2 axes mode job work pairs l r
-demand2 axes mode job work pairs l r bytes e =
+pub demand2 : (c : Lending) (r : Report) → Bytes (c .job) → answerOf c ≡ Done r → Demand2 c r
+demand2 c r bytes e =
     record {
       said = s;
       said-is = a .said-is;
       gives-back = back;
-      bytes-are = long;
-      out-is = λ out _. out-at out;
-      store-is = λ out _. store-at out;
-      ids-are = λ ids _ n h. id-at ids n h;
-      map-is = λ map _. map-done axes mode job work pairs l s (a .said-is) (a .none-late) map;
-      sets-back = λ out ids map _ _ f n h.
-          subst (λ (w : ℕ). SetBack axes coords (getD (s .sets) n []) (take (r .bytes) (outAfter axes mode job work pairs l out)) w)
-          (sym (ap (λ (m : List ℕ). getD m (getD (idsAfter axes mode job work pairs l ids) n 0) 0) (map-done axes mode job work pairs l s (a .said-is) (a .none-late) map)
-          ∙ ap (λ (i : ℕ). getD (stored (idWords 0 (allRuns (k .finals))) map) i 0) (id-at ids n h)))
-          (subst (λ (t : List ℕ). SetBack axes coords (getD (s .sets) n []) t (getD (stored (idWords 0 (allRuns (k .finals))) map) (getD (k .ids) n 0) 0))
-          (sym (store-at out))
-          (set-back axes (length (s .used)) coords (s .sets) k (size .coords-are) back once n h map (omega (arith, a .room .map-fits))));
+      bytes-are = bytes-are c r a;
+      out-is = out-is c r a ∙ ap (λ (n : ℕ). over (c .lent .out) 0 n (storeFor (c .axes) coords k)) (sym (bytes-are c r a));
+      store-is = store-front c r a;
+      ids-are = id-here;
+      map-is = map-is c r a;
+      sets-back = λ n h.
+          subst (λ (w : ℕ). SetBack (c .axes) coords (getD (s .sets) n []) (take (r .bytes) (after c .lent .out)) w)
+          (sym (ap (λ (m : List ℕ). getD m (getD (after c .lent .ids) n 0) 0) (map-is c r a)
+          ∙ ap (λ (i : ℕ). getD (stored (idWords 0 (allRuns (k .finals))) (c .lent .map)) i 0) (id-here n h)))
+          (subst (λ (t : List ℕ). SetBack (c .axes) coords (getD (s .sets) n []) t (getD (stored (idWords 0 (allRuns (k .finals))) (c .lent .map)) (getD (k .ids) n 0) 0))
+          (sym (store-front c r a))
+          (set-back (c .axes) (length (s .used)) coords (s .sets) k (size .coords-are) back once n h (c .lent .map) (omega (arith, a .room .map-fits))));
     }
   where
-    a : Accepted axes mode job work pairs l r
-    a = accepted axes mode job work pairs l r e
+    a : Accepted c r
+    a = accepted c r e
 
     s : Said
     s = a .said
 
     k : Packed
-    k = packedOf mode s
+    k = packedOf (c .mode) s
 
     coords : List (List ℕ)
     coords = coordsOf s
 
-    size : Sized axes (length (s .used)) coords (s .sets)
-    size = accepted-sized axes mode job work pairs l r a bytes
+    size : Sized (c .axes) (length (s .used)) coords (s .sets)
+    size = accepted-sized c r a bytes
 
     once : (x y : ℕ) → x < length coords → y < length coords → getD coords x [] ≡ getD coords y [] → x ≡ y
-    once = coords-once axes mode job (length job / recordBytes) s (a .walked) (a .entered .some) bytes
+    once = coords-once (c .axes) (c .mode) (c .job) (length (c .job) / recordBytes) s (a .walked) (a .entered .some) bytes
 
-    back : GivesBack axes (length (s .used)) coords (s .sets) k
-    back = packed-back mode s axes size (a .room .shapes-few)
+    back : GivesBack (c .axes) (length (s .used)) coords (s .sets) k
+    back = packed-back (c .mode) s (c .axes) size (a .room .shapes-few)
 
-    long : r .bytes ≡ length (storeFor axes coords k)
-    long = unfold reportOf in ap (λ (t : Report). t .bytes) (a .report-is)
-
-    out-at : (out : List ℕ) → outAfter axes mode job work pairs l out ≡ over out 0 (r .bytes) (storeFor axes coords k)
-    out-at out = out-done axes mode job work pairs l s (a .said-is) (a .none-late) out ∙ ap (λ (n : ℕ). over out 0 n (storeFor axes coords k)) (sym long)
-
-    store-at : (out : List ℕ) → take (r .bytes) (outAfter axes mode job work pairs l out) ≡ storeFor axes coords k
-    store-at out =
-        ap (λ (n : ℕ). take n (outAfter axes mode job work pairs l out)) long
-        ∙ ap (take (length (storeFor axes coords k))) (out-done axes mode job work pairs l s (a .said-is) (a .none-late) out)
-        ∙ over-front out (storeFor axes coords k)
-
-    id-at : (ids : List ℕ) (n : ℕ) → n < length (s .sets) → getD (idsAfter axes mode job work pairs l ids) n 0 ≡ getD (k .ids) n 0
-    id-at ids n h =
-        ap (λ (m : List ℕ). getD m n 0) (ids-done axes mode job work pairs l s (a .said-is) (a .none-late) ids)
-        ∙ over-at ids (k .ids) n (omega (arith, ids-long mode s))
+    id-here : (n : ℕ) → n < length (s .sets) → getD (after c .lent .ids) n 0 ≡ getD (k .ids) n 0
+    id-here n h = id-at c r a n (omega (arith, ids-long (c .mode) s))

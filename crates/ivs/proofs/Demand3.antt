@@ -22,14 +22,14 @@ use Rattle.rule.proofs.Theorems as merging
 use Rattle.rule.proofs.Theorems.{Merges, saved, merged-merges, run-total, all-gains-zero, fewer, none-of-none, weighed-is, weighed-few}
 use Rattle.rule.proofs.Origins.{homes, one-home, Made, made}
 use Rattle.store.specs.Placing.{allRuns, storeOf}
-use Rattle.said.specs.Job.{Said, fine, outcome}
+use Rattle.said.specs.Job.{Said, fine}
 use Rattle.encoder.specs.Packed.{Packed, shared, own, isAhead, finalOf, finalsOf, oneCost}
 use Rattle.finishing.specs.declared.answers.Report.{Report}
 use Rattle.finishing.specs.declared.answers.Built.the-variants.{Done}
-use Rattle.finishing.specs.Late.{Lengths, storeFor, reportOf}
-use Rattle.build.specs.Build.{coordsOf, packedOf, answerOf, outAfter, logAfter}
-use Rattle.ivs.proofs.Accepted.{Accepted, accepted, out-done, log-done}
-use Rattle.ivs.proofs.Demand2.{over-front}
+use Rattle.finishing.specs.Late.{storeFor, reportOf}
+use Rattle.build.specs.Lending.{Lending}
+use Rattle.build.specs.Build.{coordsOf, packedOf, outcomeOf, answerOf, after}
+use Rattle.build.proofs.Accepted.{Accepted, accepted, packedIn, words-length, log-is, store-front, log-front}
 use Rattle.ivs.proofs.JoinSteps.{Joins, joins}
 
 -- ---- the rule on a list of groups
@@ -97,35 +97,30 @@ groups-proper n all = record {
   distinct = groups-unlike n all;
 }
 
-words-length : (l : List Entry) → length (words l) ≡ 3 * length l
-unfolding words
-words-length [] = refl
-words-length (e ∷ l) = omega (arith, words-length l)
-
 -- ---- mode 0
 
 -- the groups of what a job says
 abbrev pub groupsSaid : Said → List Group
 groupsSaid s = groupsOf (length (s .used)) (s .sets)
 
-pub record Demand3 (axes : ℕ) (job : List ℕ) (work pairs : ℕ) (l : Lengths) (r : Report) : Type 0 where
+pub record Demand3 (c : Lending) (r : Report) : Type 0 where
   pub said : Said
-  pub said-is : outcome axes 0 job work pairs ≡ fine said
+  pub said-is : outcomeOf c ≡ fine said
   -- what is answered is the rule's, and what the rule does
   pub rule : Ruled (groupsSaid said) (r .groups) (r .merges) (r .weighed) (r .before) (r .after)
   -- "If a living group already has the joined shape, the source folds it in": at no merge of the run has one of the others the joined shape
-  pub no-fold : (j : ℕ) (c : Pair) → choice (run j (start (groupsSaid said)) .living) ≡ some c
-      → All (λ h. h .group .shape ≡ join (c .first .group .shape) (c .second .group .shape) → ⊥) (c .rest)
+  pub no-fold : (j : ℕ) (p : Pair) → choice (run j (start (groupsSaid said)) .living) ≡ some p
+      → All (λ h. h .group .shape ≡ join (p .first .group .shape) (p .second .group .shape) → ⊥) (p .rest)
   -- "The log gets first number, second number, gain": the lent log begins with the rule's, three words a merge, and nothing past them changed
-  pub log-fits : 3 * r .merges ≤ l .log
-  pub log-is : (log : List ℕ) → length log ≡ l .log → logAfter axes 0 job work pairs l log ≡ over log 0 (3 * r .merges) (words (merged (groupsSaid said) .log))
-  pub log-front : (log : List ℕ) → length log ≡ l .log → take (3 * r .merges) (logAfter axes 0 job work pairs l log) ≡ words (merged (groupsSaid said) .log)
+  pub log-fits : 3 * r .merges ≤ length (c .lent .log)
+  pub log-is : after c .lent .log ≡ over (c .lent .log) 0 (3 * r .merges) (words (merged (groupsSaid said) .log))
+  pub log-front : take (3 * r .merges) (after c .lent .log) ≡ words (merged (groupsSaid said) .log)
   -- the groups written are the ones left: the final groups are the living ones "by the order above", each with its sets, and the store is theirs
   -- (`allRuns` cuts "a group of more than 65,535 sets .. into runs of 65,535")
   pub finals-are : packedOf 0 said .finals
       ≡ map (finalOf (length (said .used)) (groupsSaid said) (distinct (said .sets))) (sorted isAhead (merged (groupsSaid said) .living))
-  pub written : (out : List ℕ) → length out ≡ l .out → take (r .bytes) (outAfter axes 0 job work pairs l out)
-      ≡ storeOf axes (coordsOf said) (λ x. getD (distinct (said .sets)) x []) (packedOf 0 said .finals)
+  pub written : take (r .bytes) (after c .lent .out)
+      ≡ storeOf (c .axes) (coordsOf said) (λ x. getD (distinct (said .sets)) x []) (packedOf 0 said .finals)
   pub subtables-are : r .subtables ≡ length (allRuns (packedOf 0 said .finals))
 
 -- what mode 0 makes of the sets
@@ -161,86 +156,73 @@ module _ (s : Said) where
       subst (λ (t : Report). Ruled (groupsSaid s) (t .groups) (t .merges) (t .weighed) (t .before) (t .after)) (sym e)
       (subst (λ (p : Packed). Ruled (groupsSaid s) (p .groups) (length (p .log)) (p .weighed) (p .before) (p .after)) (sym (shared-is s)) shared-rule)
 
-module _ (axes : ℕ) (job : List ℕ) (work pairs : ℕ) (l : Lengths) (r : Report) (a : Accepted axes 0 job work pairs l r) where
-  abbrev s : Said
-  s = a .said
+-- a build in mode 0
+module _ (c : Lending) (r : Report) (a : Accepted c r) (m : c .mode ≡ 0) where
+  packed-is : packedIn c (a .said) ≡ packedOf 0 (a .said)
+  packed-is = ap (λ (k : ℕ). packedOf k (a .said)) m
 
   abbrev entries : List Entry
   entries = merged (groupsSaid (a .said)) .log
 
   ruled-here : Ruled (groupsSaid (a .said)) (r .groups) (r .merges) (r .weighed) (r .before) (r .after)
-  ruled-here = report-rule (a .said) axes r (a .report-is)
+  ruled-here = report-rule (a .said) (c .axes) r (a .report-is ∙ ap (reportOf (c .axes) (coordsOf (a .said))) packed-is)
+
+  log-is-here : packedIn c (a .said) .log ≡ merged (groupsSaid (a .said)) .log
+  log-is-here = ap (λ (p : Packed). p .log) packed-is ∙ log-is-rule (a .said)
 
   three : length (words (merged (groupsSaid (a .said)) .log)) ≡ 3 * r .merges
-  three = words-length (merged (groupsSaid (a .said)) .log) ∙ ap (λ (m : ℕ). 3 * m) (sym (ruled-here .merges-are))
+  three = words-length (merged (groupsSaid (a .said)) .log) ∙ ap (λ (n : ℕ). 3 * n) (sym (ruled-here .merges-are))
 
-  groups-of : packedOf 0 (a .said) .groups ≡ r .groups
+  groups-of : packedIn c (a .said) .groups ≡ r .groups
   groups-of = unfold reportOf in sym (ap (λ (t : Report). t .groups) (a .report-is))
 
-  fits : 3 * r .merges ≤ l .log
-  fits = bound (r .groups) (r .merges) (l .log) (rw groups-of at (a .room .log-fits)) (ruled-here .fewer-merges) (ruled-here .none-merged)
+  fits : 3 * r .merges ≤ length (c .lent .log)
+  fits = bound (r .groups) (r .merges) (length (c .lent .log)) (rw groups-of at (a .room .log-fits)) (ruled-here .fewer-merges) (ruled-here .none-merged)
     where
-      bound : (g m t : ℕ) → 3 * (g - 1) ≤ t → (0 < g → m < g) → (g ≡ 0 → m ≡ 0) → 3 * m ≤ t
-      bound zero m t h f z = omega (arith, z refl)
-      bound (suc g) m t h f z = omega (arith, f (omega arith))
+      bound : (g n t : ℕ) → 3 * (g - 1) ≤ t → (0 < g → n < g) → (g ≡ 0 → n ≡ 0) → 3 * n ≤ t
+      bound zero n t h f z = omega (arith, z refl)
+      bound (suc g) n t h f z = omega (arith, f (omega arith))
 
-  log-words : (log : List ℕ) → logAfter axes 0 job work pairs l log ≡ over log 0 (length (words entries)) (words entries)
-  log-words log =
-      log-done axes 0 job work pairs l s (a .said-is) (a .none-late) log
-      ∙ ap (λ (x : List Entry). over log 0 (length (words x)) (words x)) (log-is-rule s)
-
-  log-all : (log : List ℕ) → logAfter axes 0 job work pairs l log ≡ over log 0 (3 * r .merges) (words entries)
-  log-all log = log-words log ∙ ap (λ (m : ℕ). over log 0 m (words entries)) three
-
-  log-begins : (log : List ℕ) → take (3 * r .merges) (logAfter axes 0 job work pairs l log) ≡ words entries
-  log-begins log =
-      ap (λ (m : ℕ). take m (logAfter axes 0 job work pairs l log)) (sym three) ∙ ap (take (length (words entries))) (log-words log) ∙ over-front log (words entries)
-
-  bytes-of : r .bytes ≡ length (storeFor axes (coordsOf (a .said)) (packedOf 0 (a .said)))
-  bytes-of = unfold reportOf in ap (λ (t : Report). t .bytes) (a .report-is)
+  log-all : after c .lent .log ≡ over (c .lent .log) 0 (3 * r .merges) (words entries)
+  log-all =
+      log-is c r a
+      ∙ ap (λ (x : List Entry). over (c .lent .log) 0 (length (words x)) (words x)) log-is-here
+      ∙ ap (λ (n : ℕ). over (c .lent .log) 0 n (words entries)) three
 
   tables-of : r .subtables ≡ length (allRuns (packedOf 0 (a .said) .finals))
-  tables-of = unfold reportOf in ap (λ (t : Report). t .subtables) (a .report-is)
+  tables-of = unfold reportOf in ap (λ (t : Report). t .subtables) (a .report-is) ∙ ap (λ (p : Packed). length (allRuns (p .finals))) packed-is
 
-  store-begins : (out : List ℕ) → take (r .bytes) (outAfter axes 0 job work pairs l out)
-      ≡ storeOf axes (coordsOf s) (λ x. getD (distinct (s .sets)) x []) (packedOf 0 s .finals)
-  store-begins out =
-      ap (λ (m : ℕ). take m (outAfter axes 0 job work pairs l out)) bytes-of
-      ∙ ap (take (length (storeFor axes (coordsOf s) (packedOf 0 s)))) (out-done axes 0 job work pairs l s (a .said-is) (a .none-late) out)
-      ∙ over-front out (storeFor axes (coordsOf s) (packedOf 0 s))
-      ∙ store-of s axes
-
-  demand : Demand3 axes job work pairs l r
+  demand : Demand3 c r
   demand = record {
-    said = s;
+    said = a .said;
     said-is = a .said-is;
     rule = ruled-here;
-    no-fold = λ j c e. merging.no-fold (length (s .used)) j (groupsSaid s) (groups-proper (length (s .used)) (s .sets)) c e;
+    no-fold = λ j p e. merging.no-fold (length (a .said .used)) j (groupsSaid (a .said)) (groups-proper (length (a .said .used)) (a .said .sets)) p e;
     log-fits = fits;
-    log-is = λ log _. log-all log;
-    log-front = λ log _. log-begins log;
-    finals-are = finals-living s;
-    written = λ out _. store-begins out;
+    log-is = log-all;
+    log-front = log-front c r a ∙ ap words log-is-here;
+    finals-are = finals-living (a .said);
+    written = store-front c r a ∙ ap (storeFor (c .axes) (coordsOf (a .said))) packed-is ∙ store-of (a .said) (c .axes);
     subtables-are = tables-of;
   }
 
 -- THE LAW
-pub demand3 : (axes : ℕ) (job : List ℕ) (work pairs : ℕ) (l : Lengths) (r : Report) → answerOf axes 0 job work pairs l ≡ Done r → Demand3 axes job work pairs l r
-demand3 axes job work pairs l r e = demand axes job work pairs l r (accepted axes 0 job work pairs l r e)
+pub demand3 : (c : Lending) (r : Report) → c .mode ≡ 0 → answerOf c ≡ Done r → Demand3 c r
+demand3 c r m e = demand c r (accepted c r e) m
 
 -- ---- mode 1
 
 -- "In mode 1 N, merges and pairs are 0 and both sizes are the one group's cost, or 0 when there are no sets."
-pub record NoMerging (axes : ℕ) (job : List ℕ) (work pairs : ℕ) (l : Lengths) (r : Report) : Type 0 where
+pub record NoMerging (c : Lending) (r : Report) : Type 0 where
   pub said : Said
-  pub said-is : outcome axes 1 job work pairs ≡ fine said
+  pub said-is : outcomeOf c ≡ fine said
   pub no-groups : r .groups ≡ 0
   pub no-merges : r .merges ≡ 0
   pub no-pairs : r .weighed ≡ 0
   pub before-is : r .before ≡ oneCost (length (said .used)) (said .sets)
   pub after-is : r .after ≡ oneCost (length (said .used)) (said .sets)
   -- the log is untouched
-  pub log-kept : (log : List ℕ) → length log ≡ l .log → logAfter axes 1 job work pairs l log ≡ log
+  pub log-kept : after c .lent .log ≡ c .lent .log
 
 own-is : (s : Said) → packedOf 1 s ≡ own (length (s .used)) (s .sets)
 unfolding packedOf
@@ -262,10 +244,11 @@ own-log : (s : Said) (log : List ℕ) → over log 0 (length (words (packedOf 1 
 unfolding own words
 own-log s log = ap (λ (p : Packed). over log 0 (length (words (p .log))) (words (p .log))) (own-is s)
 
-pub no-merging : (axes : ℕ) (job : List ℕ) (work pairs : ℕ) (l : Lengths) (r : Report) → answerOf axes 1 job work pairs l ≡ Done r → NoMerging axes job work pairs l r
-no-merging axes job work pairs l r e =
-    let a = accepted axes 1 job work pairs l r e in
-    let t = report-own axes (a .said) r (a .report-is) in
+pub no-merging : (c : Lending) (r : Report) → c .mode ≡ 1 → answerOf c ≡ Done r → NoMerging c r
+no-merging c r m e =
+    let a = accepted c r e in
+    let p : packedIn c (a .said) ≡ packedOf 1 (a .said) = ap (λ (k : ℕ). packedOf k (a .said)) m in
+    let t = report-own (c .axes) (a .said) r (a .report-is ∙ ap (reportOf (c .axes) (coordsOf (a .said))) p) in
     record {
       said = a .said;
       said-is = a .said-is;
@@ -274,5 +257,5 @@ no-merging axes job work pairs l r e =
       no-pairs = t .2;
       before-is = t .3;
       after-is = t .4;
-      log-kept = λ log _. log-done axes 1 job work pairs l (a .said) (a .said-is) (a .none-late) log ∙ own-log (a .said) log;
+      log-kept = log-is c r a ∙ ap (λ (k : Packed). over (c .lent .log) 0 (length (words (k .log))) (words (k .log))) p ∙ own-log (a .said) (c .lent .log);
     }

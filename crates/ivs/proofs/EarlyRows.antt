@@ -13,7 +13,7 @@ use Rattle.said.specs.Refusals.{firstFailed, publishedWork, pairRecords, earlyN
 use Rattle.said.specs.Job.{outcome, refused}
 use Rattle.finishing.specs.declared.answers.Built.{Built}
 use Rattle.finishing.specs.declared.answers.Built.the-variants.{Refused}
-use Rattle.finishing.specs.Late.{Lengths}
+use Rattle.build.specs.Lending.{Lending}
 use Rattle.build.specs.Build.{answerOf}
 use Rattle.ivs.specs.Exactly.{Exactly}
 use Rattle.ivs.specs.Fits.{AxesFit, ModeFit, LengthFit, WorkFit}
@@ -172,25 +172,25 @@ module _ (axes mode bytes work pairs : ℕ) where
 
 -- ---- the rows
 
-module _ (axes mode : ℕ) (job : List ℕ) (work pairs : ℕ) (l : Lengths) (p : ℕ) where
-  row : (n : ℕ) (Why : Type 0) → 0 < n → n ≤ 4 → Exactly (earlyNo axes mode (length job) work pairs ≡ n) Why → Exactly (answerOf axes mode job work pairs l ≡ Refused n p) ((p ≡ 0) × Why)
+module _ (c : Lending) (p : ℕ) where
+  row : (n : ℕ) (Why : Type 0) → 0 < n → n ≤ 4 → Exactly (earlyNo (c .axes) (c .mode) (length (c .job)) (length (c .work)) (length (c .pairs)) ≡ n) Why → Exactly (answerOf c ≡ Refused n p) ((p ≡ 0) × Why)
   row n Why low high x = record {
-    given = λ b. answer-refused axes mode job work pairs l n p (rw (b .0) (outcome-early axes mode job work pairs n (x .given (b .1)) low));
-    only = λ e. let a = early-only axes mode job work pairs n p high (job-only axes mode job work pairs l n p (omega arith) e) in (a .1, x .only (a .0));
+    given = λ b. answer-refused c n p (rw (b .0) (outcome-early c n (x .given (b .1)) low));
+    only = λ e. let a = early-only c n p high (job-only c n p (omega arith) e) in (a .1, x .only (a .0));
   }
 
   -- 1 BAD_AXES: "axis count 0 or above 64"
-  pub bad-axes : Exactly (answerOf axes mode job work pairs l ≡ Refused 1 p) ((p ≡ 0) × ((axes ≡ 0) ⊎ (64 < axes)))
-  bad-axes = row 1 ((axes ≡ 0) ⊎ (64 < axes)) (omega arith) (omega arith) (early-axes axes mode (length job) work pairs)
+  pub bad-axes : Exactly (answerOf c ≡ Refused 1 p) ((p ≡ 0) × (((c .axes) ≡ 0) ⊎ (64 < (c .axes))))
+  bad-axes = row 1 (((c .axes) ≡ 0) ⊎ (64 < (c .axes))) (omega arith) (omega arith) (early-axes (c .axes) (c .mode) (length (c .job)) (length (c .work)) (length (c .pairs)))
 
   -- 2 BAD_MODE: "mode neither 0 nor 1"
-  pub bad-mode : Exactly (answerOf axes mode job work pairs l ≡ Refused 2 p) ((p ≡ 0) × (AxesFit axes × (1 < mode)))
-  bad-mode = row 2 (AxesFit axes × (1 < mode)) (omega arith) (omega arith) (early-mode axes mode (length job) work pairs)
+  pub bad-mode : Exactly (answerOf c ≡ Refused 2 p) ((p ≡ 0) × (AxesFit (c .axes) × (1 < (c .mode))))
+  bad-mode = row 2 (AxesFit (c .axes) × (1 < (c .mode))) (omega arith) (omega arith) (early-mode (c .axes) (c .mode) (length (c .job)) (length (c .work)) (length (c .pairs)))
 
   -- 3 BAD_JOB_LENGTH: "bytes not a multiple of 12, or over the record limit"
-  pub bad-job-length : Exactly (answerOf axes mode job work pairs l ≡ Refused 3 p) ((p ≡ 0) × (ModeFit axes mode × ((length job % 12 ≡ 0 → ⊥) ⊎ (1048576 < length job / 12))))
-  bad-job-length = row 3 (ModeFit axes mode × ((length job % 12 ≡ 0 → ⊥) ⊎ (1048576 < length job / 12))) (omega arith) (omega arith) (early-length axes mode (length job) work pairs)
+  pub bad-job-length : Exactly (answerOf c ≡ Refused 3 p) ((p ≡ 0) × (ModeFit (c .axes) (c .mode) × ((length (c .job) % 12 ≡ 0 → ⊥) ⊎ (1048576 < length (c .job) / 12))))
+  bad-job-length = row 3 (ModeFit (c .axes) (c .mode) × ((length (c .job) % 12 ≡ 0 → ⊥) ⊎ (1048576 < length (c .job) / 12))) (omega arith) (omega arith) (early-length (c .axes) (c .mode) (length (c .job)) (length (c .work)) (length (c .pairs)))
 
   -- 4 WORK_SHORT: "work below the published number", or fewer pair records than 1,048,576
-  pub work-short : Exactly (answerOf axes mode job work pairs l ≡ Refused 4 p) ((p ≡ 0) × (LengthFit axes mode (length job) × ((work < publishedWork (length job / 12)) ⊎ (pairs < pairRecords))))
-  work-short = row 4 (LengthFit axes mode (length job) × ((work < publishedWork (length job / 12)) ⊎ (pairs < pairRecords))) (omega arith) (omega arith) (early-work axes mode (length job) work pairs)
+  pub work-short : Exactly (answerOf c ≡ Refused 4 p) ((p ≡ 0) × (LengthFit (c .axes) (c .mode) (length (c .job)) × (((length (c .work)) < publishedWork (length (c .job) / 12)) ⊎ ((length (c .pairs)) < pairRecords))))
+  work-short = row 4 (LengthFit (c .axes) (c .mode) (length (c .job)) × (((length (c .work)) < publishedWork (length (c .job) / 12)) ⊎ ((length (c .pairs)) < pairRecords))) (omega arith) (omega arith) (early-work (c .axes) (c .mode) (length (c .job)) (length (c .work)) (length (c .pairs)))

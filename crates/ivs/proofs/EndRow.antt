@@ -13,8 +13,8 @@ use Rattle.laws.specs.Pick.{pick}
 use Rattle.laws.proofs.Cases.{same-or-not}
 use Rattle.said.specs.Job.{Said, State, inAxes, inSets, regionsOnly, Outcome, refused, fine, ended, endedSets, walk, outcome}
 use Rattle.finishing.specs.declared.answers.Built.the-variants.{Refused}
-use Rattle.finishing.specs.Late.{Lengths}
-use Rattle.build.specs.Build.{answerOf}
+use Rattle.build.specs.Lending.{Lending}
+use Rattle.build.specs.Build.{outcomeOf, answerOf}
 use Rattle.ivs.specs.Exactly.{Exactly}
 use Rattle.ivs.specs.Passing.{Passed, EndsAs, saidAt}
 use Rattle.ivs.specs.Counts.{InRegion, axisRecords, Unfinished}
@@ -77,40 +77,40 @@ module _ (axes : ℕ) (job : List ℕ) (k : ℕ) where
 
 -- ---- the row
 
-module _ (axes mode : ℕ) (job : List ℕ) (work pairs : ℕ) where
+module _ (c : Lending) where
   abbrev records : ℕ
-  records = length job / 12
+  records = length (c .job) / 12
 
   -- 8 UNFINISHED: "the job ends inside a set or a region"
-  pub unfinished : (l : Lengths) (p : ℕ) → Exactly (answerOf axes mode job work pairs l ≡ Refused 8 p) ((p ≡ records) × AllPass axes mode job work pairs (Unfinished axes job records))
-  unfinished l p = record {
+  pub unfinished : (p : ℕ) → Exactly (answerOf c ≡ Refused 8 p) ((p ≡ records) × AllPass c (Unfinished (c .axes) (c .job) records))
+  unfinished p = record {
     given = λ b.
         let a = b .1 in
-        let m = means axes mode job records (a .state) (a .all-pass) in
-        rw (b .0) (answer-refused axes mode job work pairs l 8 records (outcome-walked axes mode job work pairs (early-none axes mode (length job) work pairs .given (a .fits))
-        ∙ ends-given axes mode job records (refused 8 records) (record { state = a .state; all-pass = a .all-pass; ends = unfinished-is axes job records (a .state) m .given (a .why) })));
+        let m = means (c .axes) (c .mode) (c .job) records (a .state) (a .all-pass) in
+        rw (b .0) (answer-refused c 8 records (outcome-walked c (early-none (c .axes) (c .mode) (length (c .job)) (length (c .work)) (length (c .pairs)) .given (a .fits))
+        ∙ ends-given (c .axes) (c .mode) (c .job) records (refused 8 records) (record { state = a .state; all-pass = a .all-pass; ends = unfinished-is (c .axes) (c .job) records (a .state) m .given (a .why) })));
     only = λ e.
-        let o = job-only axes mode job work pairs l 8 p (omega arith) e in
-        let w = walked-only axes mode job work pairs (refused 8 p) (λ n q f. let z : 8 ≡ n = cc in omega arith) o in
-        let a = ends-only axes mode job records (refused 8 p) (λ n q f. cc) (w .1) in
-        let at : p ≡ records = ended-no axes job records (a .state) 8 p (a .ends) .1 in
-        let m = means axes mode job records (a .state) (a .all-pass) in (
+        let o = job-only c 8 p (omega arith) e in
+        let w = walked-only c (refused 8 p) (λ n q f. let z : 8 ≡ n = cc in omega arith) o in
+        let a = ends-only (c .axes) (c .mode) (c .job) records (refused 8 p) (λ n q f. cc) (w .1) in
+        let at : p ≡ records = ended-no (c .axes) (c .job) records (a .state) 8 p (a .ends) .1 in
+        let m = means (c .axes) (c .mode) (c .job) records (a .state) (a .all-pass) in (
           at,
           record {
-            fits = early-none axes mode (length job) work pairs .only (w .0);
+            fits = early-none (c .axes) (c .mode) (length (c .job)) (length (c .work)) (length (c .pairs)) .only (w .0);
             state = a .state;
             all-pass = a .all-pass;
-            why = unfinished-is axes job records (a .state) m .only (a .ends ∙ ap (λ (x : ℕ). refused 8 x) at);
+            why = unfinished-is (c .axes) (c .job) records (a .state) m .only (a .ends ∙ ap (λ (x : ℕ). refused 8 x) at);
           },
         );
   }
 
   -- sound: none of 1 to 9
-  pub sound : (s : Said) → Exactly (outcome axes mode job work pairs ≡ fine s) (AllPass axes mode job work pairs (EndsAs axes mode job records (fine s)))
+  pub sound : (s : Said) → Exactly (outcomeOf c ≡ fine s) (AllPass c (EndsAs (c .axes) (c .mode) (c .job) records (fine s)))
   sound s = record {
-    given = λ a. outcome-walked axes mode job work pairs (early-none axes mode (length job) work pairs .given (a .fits)) ∙ ends-given axes mode job records (fine s) (a .why);
+    given = λ a. outcome-walked c (early-none (c .axes) (c .mode) (length (c .job)) (length (c .work)) (length (c .pairs)) .given (a .fits)) ∙ ends-given (c .axes) (c .mode) (c .job) records (fine s) (a .why);
     only = λ e.
-        let w = walked-only axes mode job work pairs (fine s) (λ n q f. let z : _≡_ {A = ℕ} 0 1 = cc in absurd (omega arith)) e in
-        let a = ends-only axes mode job records (fine s) (λ n q f. let z : _≡_ {A = ℕ} 0 1 = cc in absurd (omega arith)) (w .1) in
-        record { fits = early-none axes mode (length job) work pairs .only (w .0); state = a .state; all-pass = a .all-pass; why = a };
+        let w = walked-only c (fine s) (λ n q f. let z : _≡_ {A = ℕ} 0 1 = cc in absurd (omega arith)) e in
+        let a = ends-only (c .axes) (c .mode) (c .job) records (fine s) (λ n q f. let z : _≡_ {A = ℕ} 0 1 = cc in absurd (omega arith)) (w .1) in
+        record { fits = early-none (c .axes) (c .mode) (length (c .job)) (length (c .work)) (length (c .pairs)) .only (w .0); state = a .state; all-pass = a .all-pass; why = a };
   }

@@ -37,9 +37,11 @@ use Rattle.encoder.specs.Packed as packed
 use Rattle.finishing.specs.declared.answers.Report.{Report}
 use Rattle.finishing.specs.declared.answers.Built.{Built}
 use Rattle.finishing.specs.declared.answers.Built.the-variants.{Done}
-use Rattle.finishing.specs.Late.{storeFor, regionsKept, lateNo, reportOf, lateAnswer, ifDone, outLeft, idsLeft, mapLeft, logLeft}
-use Rattle.finishing.specs.Lent.{lengths}
-use Rattle.build.specs.Build.{regionBytes, coordsOf, packedOf, answerFrom, answerOf, leftFrom, outAfter, idsAfter, mapAfter, logAfter}
+use Rattle.pairs.specs.declared.Pair.{Pair}
+use Rattle.pairs.specs.Queue.{none}
+use Rattle.finishing.specs.Buffers.{Buffers, buffers, lengths}
+use Rattle.finishing.specs.Late.{storeFor, regionsKept, lateNo, reportOf, lateAnswer, written, buffersLeft}
+use Rattle.build.specs.Build.{regionBytes, coordsOf, packedOf, answerFrom, leftFrom}
 
 -- ---- jobs of one axis, with R0 and R1: in each set a region number and a value for each value record
 
@@ -114,21 +116,25 @@ x = 0xEE
 abbrev full : ℕ → List ℕ
 full n = replicate n x
 
--- a build of these bytes with this lent, and just so many pair records as there must be (they are zeros after it, whatever they held: Buffers `pairs-done`)
-abbrev builtWith : ℕ → List ℕ → List ℕ → List ℕ → List ℕ → List ℕ → List ℕ → Left
-builtWith mode bytes out ids map log work = record {
-  answer = answerOf 1 mode bytes (length work) pairRecords (lengths out ids map log);
-  out = outAfter 1 mode bytes (length work) pairRecords (lengths out ids map log) out;
-  ids = idsAfter 1 mode bytes (length work) pairRecords (lengths out ids map log) ids;
-  map = mapAfter 1 mode bytes (length work) pairRecords (lengths out ids map log) map;
-  log = logAfter 1 mode bytes (length work) pairRecords (lengths out ids map log) log;
-  work = workLeft 1 mode (length bytes) pairRecords work;
-}
+-- a build of these bytes with this lent, and just so many pair records as there must be (they are zeros after it, whatever they held: Buffers `pairs-done`).
+-- `answerOf` and `after` of such a call, said by the number of pair records, which are too many to write down
+abbrev builtWith : ℕ → List ℕ → Buffers → List ℕ → Left
+builtWith mode bytes old work =
+    let o = job.outcome 1 mode bytes (length work) pairRecords in
+    let new = leftFrom 1 mode old o in
+    record {
+      answer = answerFrom 1 mode (lengths old) o;
+      out = new .out;
+      ids = new .ids;
+      map = new .map;
+      log = new .log;
+      work = workLeft 1 mode (length bytes) pairRecords work;
+    }
 
 -- with one word of work more than is published
 abbrev built : Ask → Left
 built a =
-    builtWith (a .mode) (jobOf (a .sets)) (full (a .out)) (full (a .ids)) (full (a .map)) (full (a .log))
+    builtWith (a .mode) (jobOf (a .sets)) (buffers (full (a .out)) (full (a .ids)) (full (a .map)) (full (a .log)))
     (full (suc (publishedWork (length (jobOf (a .sets)) / 12))))
 
 abbrev ask : ℕ → List Values → ℕ → ℕ → ℕ → ℕ → Ask
@@ -280,5 +286,5 @@ pub examples : answers ≡
     ∷ x ∷ x ∷ [])
     (0 ∷ 1 ∷ x ∷ []) (0 ∷ 1 ∷ x ∷ []) (0 ∷ 1 ∷ 9 ∷ x ∷ []) 106
     ∷ []
-unfolding answers setRecords setsRecords jobOf weigh allBelow tabulate be bytesOf compared thenBy isMost fits isZero signed twos word value insert sorted keep widthOf costOf rowCost columns overhead join shapes.widthsOrder shapes.order groupCost joined gain wordOf sameSet sets.byWords sets.orderNone sets.orderHead sets.order place withSet idsFrom distinctFrom groups.shapeOf groups.placed groups.withShape groups.groupsFrom groups.groupsOf coverFrom rule.keepOut rule.outs rule.pairWith rule.keepPair rule.pairs rule.either rule.better rule.lead rule.best rule.worth rule.ifWorth rule.choice rule.entry rule.merge rule.follow rule.step rule.run rule.number rule.start rule.merged rule.total decLt words addIf ofWidth columnsOf wordCount bytesFor wordIn cellsOf rowOf rows.joinAll rows.runCount store.runsOf store.allRuns store.inRun store.idWords store.names rows.indexBytes rows.rowsOf rows.subtableOf store.offsetsOf store.listOf store.placed store.storeOf store.modelOf store.modelled store.forecastOf stored zeros axisZeros valueZeros endZeros valueWord firstFailed publishedWork earlyNo axisNo valueNo endNo said.coordinates said.regionList said.sameRegion said.like said.firstLike said.has said.withUse said.indexIn said.placed said.withValue job.unless job.afterValue job.afterEnd job.valueStep job.endStep job.setStep job.regionsOnly job.step job.endedSets job.ended job.follow job.walk job.outcomeFrom job.outcome workLeft packed.noLater packed.dense packed.sameShape packed.numberOf packed.isAmong packed.belongs packed.finalOf packed.isAhead packed.finalsOf packed.shared packed.oneCost packed.own storeFor regionsKept lateNo reportOf lateAnswer ifDone outLeft idsLeft mapLeft logLeft regionBytes coordsOf packedOf answerFrom answerOf leftFrom outAfter idsAfter mapAfter logAfter
+unfolding answers setRecords setsRecords jobOf weigh allBelow tabulate be bytesOf compared thenBy isMost fits isZero signed twos word value insert sorted keep widthOf costOf rowCost columns overhead join shapes.widthsOrder shapes.order groupCost joined gain wordOf sameSet sets.byWords sets.orderNone sets.orderHead sets.order place withSet idsFrom distinctFrom groups.shapeOf groups.placed groups.withShape groups.groupsFrom groups.groupsOf coverFrom rule.keepOut rule.outs rule.pairWith rule.keepPair rule.pairs rule.either rule.better rule.lead rule.best rule.worth rule.ifWorth rule.choice rule.entry rule.merge rule.follow rule.step rule.run rule.number rule.start rule.merged rule.total decLt words addIf ofWidth columnsOf wordCount bytesFor wordIn cellsOf rowOf rows.joinAll rows.runCount store.runsOf store.allRuns store.inRun store.idWords store.names rows.indexBytes rows.rowsOf rows.subtableOf store.offsetsOf store.listOf store.placed store.storeOf store.modelOf store.modelled store.forecastOf stored zeros axisZeros valueZeros endZeros valueWord firstFailed publishedWork earlyNo axisNo valueNo endNo said.coordinates said.regionList said.sameRegion said.like said.firstLike said.has said.withUse said.indexIn said.placed said.withValue job.unless job.afterValue job.afterEnd job.valueStep job.endStep job.setStep job.regionsOnly job.step job.endedSets job.ended job.follow job.walk job.outcomeFrom job.outcome workLeft packed.noLater packed.dense packed.sameShape packed.numberOf packed.isAmong packed.belongs packed.finalOf packed.isAhead packed.finalsOf packed.shared packed.oneCost packed.own storeFor regionsKept lateNo reportOf lateAnswer written buffersLeft regionBytes coordsOf packedOf answerFrom leftFrom
 examples = refl

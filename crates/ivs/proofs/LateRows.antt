@@ -19,8 +19,10 @@ use Rattle.encoder.proofs.DenseIds.{ids-length}
 use Rattle.finishing.specs.declared.answers.Report.{Report}
 use Rattle.finishing.specs.declared.answers.Built.{Built}
 use Rattle.finishing.specs.declared.answers.Built.the-variants.{Refused, Done}
-use Rattle.finishing.specs.Late.{Lengths, lateNo, storeFor, reportOf}
-use Rattle.build.specs.Build.{coordsOf, packedOf, answerOf}
+use Rattle.finishing.specs.Buffers.{Lengths, lengths}
+use Rattle.finishing.specs.Late.{lateNo, storeFor, reportOf}
+use Rattle.build.specs.Lending.{Lending}
+use Rattle.build.specs.Build.{coordsOf, packedOf, outcomeOf, answerOf}
 use Rattle.ivs.specs.Exactly.{Exactly}
 use Rattle.ivs.specs.Rooms.{Accepted, shapeCount, endRecords, distinctIds, storeBytes, ShapesFit, IdsFit, MapFit, LogFit, OutFit}
 use Rattle.ivs.proofs.FailedLaws.{Tests, this, failed, other, later, passed, none-failed}
@@ -179,50 +181,50 @@ module _ (axes mode : ℕ) (s : Said) (l : Lengths) where
 
 -- ---- the rows
 
-module _ (axes mode : ℕ) (job : List ℕ) (work pairs : ℕ) (l : Lengths) where
+module _ (c : Lending) where
   module _ (p : ℕ) where
-    row : (n : ℕ) (Why : Said → Type 0) → 10 ≤ n → ((s : Said) → Exactly (late axes mode s l ≡ n) (Why s))
-        → Exactly (answerOf axes mode job work pairs l ≡ Refused n p) ((p ≡ 0) × Accepted axes mode job work pairs Why)
+    row : (n : ℕ) (Why : Said → Type 0) → 10 ≤ n → ((s : Said) → Exactly (late (c .axes) (c .mode) s (lengths (c .lent)) ≡ n) (Why s))
+        → Exactly (answerOf c ≡ Refused n p) ((p ≡ 0) × Accepted c Why)
     row n Why low x = record {
-      given = λ b. rw (b .0) (answer-late axes mode job work pairs l (b .1 .said) n (b .1 .sound) (x (b .1 .said) .given (b .1 .holds)) (omega arith));
+      given = λ b. rw (b .0) (answer-late c (b .1 .said) n (b .1 .sound) (x (b .1 .said) .given (b .1 .holds)) (omega arith));
       only = λ e.
-          let a = late-only axes mode job work pairs l n p low e in
+          let a = late-only c n p low e in
           (a .0, record { said = a .1; sound = a .2; holds = x (a .1) .only (a .3) });
     }
 
     -- 10 SHAPES_FULL: "mode 0, more than 1,024 distinct shapes"
-    pub shapes-full : Exactly (answerOf axes mode job work pairs l ≡ Refused 10 p) ((p ≡ 0) × Accepted axes mode job work pairs (λ s. (mode ≡ 0) × (1024 < shapeCount mode s)))
-    shapes-full = row 10 (λ s. (mode ≡ 0) × (1024 < shapeCount mode s)) (omega arith) (λ s. late-shapes axes mode s l)
+    pub shapes-full : Exactly (answerOf c ≡ Refused 10 p) ((p ≡ 0) × Accepted c (λ s. ((c .mode) ≡ 0) × (1024 < shapeCount (c .mode) s)))
+    shapes-full = row 10 (λ s. ((c .mode) ≡ 0) × (1024 < shapeCount (c .mode) s)) (omega arith) (λ s. late-shapes (c .axes) (c .mode) s (lengths (c .lent)))
 
     -- 11 IDS_SHORT: "fewer words than end records"
-    pub ids-short : Exactly (answerOf axes mode job work pairs l ≡ Refused 11 p) ((p ≡ 0) × Accepted axes mode job work pairs (λ s. ShapesFit mode s × (l .ids < endRecords s)))
-    ids-short = row 11 (λ s. ShapesFit mode s × (l .ids < endRecords s)) (omega arith) (λ s. late-ids axes mode s l)
+    pub ids-short : Exactly (answerOf c ≡ Refused 11 p) ((p ≡ 0) × Accepted c (λ s. ShapesFit (c .mode) s × ((lengths (c .lent)) .ids < endRecords s)))
+    ids-short = row 11 (λ s. ShapesFit (c .mode) s × ((lengths (c .lent)) .ids < endRecords s)) (omega arith) (λ s. late-ids (c .axes) (c .mode) s (lengths (c .lent)))
 
     -- 12 MAP_SHORT: "fewer words than distinct ids"
-    pub map-short : Exactly (answerOf axes mode job work pairs l ≡ Refused 12 p) ((p ≡ 0) × Accepted axes mode job work pairs (λ s. IdsFit mode s l × (l .map < distinctIds mode s)))
-    map-short = row 12 (λ s. IdsFit mode s l × (l .map < distinctIds mode s)) (omega arith) (λ s. late-map axes mode s l)
+    pub map-short : Exactly (answerOf c ≡ Refused 12 p) ((p ≡ 0) × Accepted c (λ s. IdsFit (c .mode) s (lengths (c .lent)) × ((lengths (c .lent)) .map < distinctIds (c .mode) s)))
+    map-short = row 12 (λ s. IdsFit (c .mode) s (lengths (c .lent)) × ((lengths (c .lent)) .map < distinctIds (c .mode) s)) (omega arith) (λ s. late-map (c .axes) (c .mode) s (lengths (c .lent)))
 
     -- 13 LOG_SHORT: "mode 0, N at least 1, fewer than 3 x (N-1) words"
-    pub log-short : Exactly (answerOf axes mode job work pairs l ≡ Refused 13 p)
-        ((p ≡ 0) × Accepted axes mode job work pairs (λ s. MapFit mode s l × (mode ≡ 0) × (1 ≤ shapeCount mode s) × (l .log < 3 * (shapeCount mode s - 1))))
-    log-short = row 13 (λ s. MapFit mode s l × (mode ≡ 0) × (1 ≤ shapeCount mode s) × (l .log < 3 * (shapeCount mode s - 1))) (omega arith) (λ s. late-log axes mode s l)
+    pub log-short : Exactly (answerOf c ≡ Refused 13 p)
+        ((p ≡ 0) × Accepted c (λ s. MapFit (c .mode) s (lengths (c .lent)) × ((c .mode) ≡ 0) × (1 ≤ shapeCount (c .mode) s) × ((lengths (c .lent)) .log < 3 * (shapeCount (c .mode) s - 1))))
+    log-short = row 13 (λ s. MapFit (c .mode) s (lengths (c .lent)) × ((c .mode) ≡ 0) × (1 ≤ shapeCount (c .mode) s) × ((lengths (c .lent)) .log < 3 * (shapeCount (c .mode) s - 1))) (omega arith) (λ s. late-log (c .axes) (c .mode) s (lengths (c .lent)))
 
     -- 14 OUT_SHORT: "fewer bytes than the store takes"
-    pub out-short : Exactly (answerOf axes mode job work pairs l ≡ Refused 14 p) ((p ≡ 0) × Accepted axes mode job work pairs (λ s. LogFit mode s l × (l .out < storeBytes axes mode s)))
-    out-short = row 14 (λ s. LogFit mode s l × (l .out < storeBytes axes mode s)) (omega arith) (λ s. late-out axes mode s l)
+    pub out-short : Exactly (answerOf c ≡ Refused 14 p) ((p ≡ 0) × Accepted c (λ s. LogFit (c .mode) s (lengths (c .lent)) × ((lengths (c .lent)) .out < storeBytes (c .axes) (c .mode) s)))
+    out-short = row 14 (λ s. LogFit (c .mode) s (lengths (c .lent)) × ((lengths (c .lent)) .out < storeBytes (c .axes) (c .mode) s)) (omega arith) (λ s. late-out (c .axes) (c .mode) s (lengths (c .lent)))
 
   -- done: the job is sound, and none of 10 to 14 is given
-  pub is-done : (r : Report) → Exactly (answerOf axes mode job work pairs l ≡ Done r)
-      (Accepted axes mode job work pairs (λ s. OutFit axes mode s l × (r ≡ reportOf axes (coordsOf s) (packedOf mode s))))
+  pub is-done : (r : Report) → Exactly (answerOf c ≡ Done r)
+      (Accepted c (λ s. OutFit (c .axes) (c .mode) s (lengths (c .lent)) × (r ≡ reportOf (c .axes) (coordsOf s) (packedOf (c .mode) s))))
   is-done r = record {
-    given = λ b. answer-done axes mode job work pairs l (b .said) (b .sound) (late-none axes mode (b .said) l .given (b .holds .0)) ∙ ap Done (sym (b .holds .1));
-    only = λ e. go e (answers axes mode job work pairs l);
+    given = λ b. answer-done c (b .said) (b .sound) (late-none (c .axes) (c .mode) (b .said) (lengths (c .lent)) .given (b .holds .0)) ∙ ap Done (sym (b .holds .1));
+    only = λ e. go e (answers c);
   }
     where
-      go : answerOf axes mode job work pairs l ≡ Done r → Answers axes mode job work pairs l
-          → Accepted axes mode job work pairs (λ s. OutFit axes mode s l × (r ≡ reportOf axes (coordsOf s) (packedOf mode s)))
+      go : answerOf c ≡ Done r → Answers c
+          → Accepted c (λ s. OutFit (c .axes) (c .mode) s (lengths (c .lent)) × (r ≡ reportOf (c .axes) (coordsOf s) (packedOf (c .mode) s)))
       go e (by-job n p f g b) = let z : _≡_ {A = ℕ} 0 1 = cc in absurd (omega arith)
       go e (by-late s f b g) = let z : _≡_ {A = ℕ} 0 1 = cc in absurd (omega arith)
       go e (done s f b g) =
-          let z : r ≡ reportOf axes (coordsOf s) (packedOf mode s) = cc in
-          record { said = s; sound = f; holds = (late-none axes mode s l .only b, z) }
+          let z : r ≡ reportOf (c .axes) (coordsOf s) (packedOf (c .mode) s) = cc in
+          record { said = s; sound = f; holds = (late-none (c .axes) (c .mode) s (lengths (c .lent)) .only b, z) }

@@ -15,7 +15,6 @@ pub mod EndRow
 pub mod KnownLaws
 pub mod RecordTests
 pub mod RecordRows
-pub mod Accepted
 pub mod Demand2
 pub mod JoinSteps
 pub mod Demand3

@@ -14,8 +14,10 @@ use Rattle.said.specs.Refusals.{firstFailed, earlyNo}
 use Rattle.said.specs.Job.{Said, State, inAxes, inSets, step, Outcome, refused, fine, ended, endedSets, walk, outcome, outcomeFrom}
 use Rattle.finishing.specs.declared.answers.Built.{Built}
 use Rattle.finishing.specs.declared.answers.Built.the-variants.{Refused, Done}
-use Rattle.finishing.specs.Late.{Lengths, lateNo, lateAnswer, reportOf}
-use Rattle.build.specs.Build.{coordsOf, packedOf, answerFrom, answerOf}
+use Rattle.finishing.specs.Buffers.{Lengths, lengths}
+use Rattle.finishing.specs.Late.{lateNo, lateAnswer, reportOf}
+use Rattle.build.specs.Lending.{Lending}
+use Rattle.build.specs.Build.{coordsOf, packedOf, answerFrom, outcomeOf, answerOf}
 use Rattle.ivs.specs.Exactly.{Exactly}
 use Rattle.ivs.specs.Passing.{recordAt, StopsAt, EndsAs}
 use Rattle.ivs.proofs.FailedLaws.{among}
@@ -96,14 +98,14 @@ module _ (axes mode : ℕ) (job : List ℕ) (records : ℕ) where
 
 -- ---- the outcome
 
-module _ (axes mode : ℕ) (job : List ℕ) (work pairs : ℕ) where
+module _ (c : Lending) where
   abbrev pub walked : Outcome
-  walked = walk axes mode job job (length job / 12) 0 inAxes
+  walked = walk (c .axes) (c .mode) (c .job) (c .job) (length (c .job) / 12) 0 inAxes
 
   abbrev pub early : ℕ
-  early = earlyNo axes mode (length job) work pairs
+  early = earlyNo (c .axes) (c .mode) (length (c .job)) (length (c .work)) (length (c .pairs))
 
-  pub outcome-early : (n : ℕ) → early ≡ n → 0 < n → outcome axes mode job work pairs ≡ refused n 0
+  pub outcome-early : (n : ℕ) → early ≡ n → 0 < n → outcomeOf c ≡ refused n 0
   unfolding outcome
   outcome-early n e h = go early e
     where
@@ -111,90 +113,90 @@ module _ (axes mode : ℕ) (job : List ℕ) (work pairs : ℕ) where
       go zero f = absurd (omega arith)
       go (suc k) f = unfold outcomeFrom in ap (λ (x : ℕ). refused x 0) f
 
-  pub outcome-walked : early ≡ 0 → outcome axes mode job work pairs ≡ walked
+  pub outcome-walked : early ≡ 0 → outcomeOf c ≡ walked
   unfolding outcome outcomeFrom
   outcome-walked e = rw e
 
   -- where none of 1 to 4 is given, records answer; else the number at place 0
-  pub outcome-by : (early ≡ 0) ⊎ ((0 < early) × (outcome axes mode job work pairs ≡ refused early 0))
+  pub outcome-by : (early ≡ 0) ⊎ ((0 < early) × (outcomeOf c ≡ refused early 0))
   outcome-by = ⊎-elim inl (λ d. let h : 0 < early = omega arith in inr (h, outcome-early early refl h)) (same-or-not early 0)
 
-  pub early-only : (n p : ℕ) → n ≤ 4 → outcome axes mode job work pairs ≡ refused n p → (early ≡ n) × (p ≡ 0)
+  pub early-only : (n p : ℕ) → n ≤ 4 → outcomeOf c ≡ refused n p → (early ≡ n) × (p ≡ 0)
   early-only n p h e = ⊎-elim none some outcome-by
     where
       none : early ≡ 0 → (early ≡ n) × (p ≡ 0)
-      none z = let w = walk-no axes mode job (length job / 12) n p (sym (outcome-walked z) ∙ e) in absurd (omega arith)
+      none z = let w = walk-no (c .axes) (c .mode) (c .job) (length (c .job) / 12) n p (sym (outcome-walked z) ∙ e) in absurd (omega arith)
 
-      some : (0 < early) × (outcome axes mode job work pairs ≡ refused early 0) → (early ≡ n) × (p ≡ 0)
+      some : (0 < early) × (outcomeOf c ≡ refused early 0) → (early ≡ n) × (p ≡ 0)
       some f = let g = f .1 in let a : early ≡ n = cc in let b : p ≡ 0 = cc in (a, b)
 
-  pub walked-only : (o : Outcome) → ((n p : ℕ) → o ≡ refused n p → 5 ≤ n) → outcome axes mode job work pairs ≡ o → (early ≡ 0) × (walked ≡ o)
+  pub walked-only : (o : Outcome) → ((n p : ℕ) → o ≡ refused n p → 5 ≤ n) → outcomeOf c ≡ o → (early ≡ 0) × (walked ≡ o)
   walked-only o d e = ⊎-elim none some outcome-by
     where
       none : early ≡ 0 → (early ≡ 0) × (walked ≡ o)
       none z = (z, sym (outcome-walked z) ∙ e)
 
-      some : (0 < early) × (outcome axes mode job work pairs ≡ refused early 0) → (early ≡ 0) × (walked ≡ o)
-      some f = let b = early-few axes mode (length job) work pairs in let a = d early 0 (sym e ∙ f .1) in absurd (omega arith)
+      some : (0 < early) × (outcomeOf c ≡ refused early 0) → (early ≡ 0) × (walked ≡ o)
+      some f = let b = early-few (c .axes) (c .mode) (length (c .job)) (length (c .work)) (length (c .pairs)) in let a = d early 0 (sym e ∙ f .1) in absurd (omega arith)
 
 -- ---- the answer
 
-module _ (axes mode : ℕ) (job : List ℕ) (work pairs : ℕ) (l : Lengths) where
+module _ (c : Lending) where
   -- the number of the tests after the records
   abbrev pub late : Said → ℕ
-  late s = lateNo axes (coordsOf s) (packedOf mode s) l
+  late s = lateNo (c .axes) (coordsOf s) (packedOf (c .mode) s) (lengths (c .lent))
 
-  pub answer-refused : (n p : ℕ) → outcome axes mode job work pairs ≡ refused n p → answerOf axes mode job work pairs l ≡ Refused n p
+  pub answer-refused : (n p : ℕ) → outcomeOf c ≡ refused n p → answerOf c ≡ Refused n p
   unfolding answerOf answerFrom
   answer-refused n p e = rw e
 
-  pub answer-late : (s : Said) (n : ℕ) → outcome axes mode job work pairs ≡ fine s → late s ≡ n → 0 < n → answerOf axes mode job work pairs l ≡ Refused n 0
+  pub answer-late : (s : Said) (n : ℕ) → outcomeOf c ≡ fine s → late s ≡ n → 0 < n → answerOf c ≡ Refused n 0
   unfolding answerOf answerFrom lateAnswer
   answer-late s n e f h = rw (e, f, ne-eqb n 0 (λ (z : n ≡ 0). omega arith))
 
-  pub answer-done : (s : Said) → outcome axes mode job work pairs ≡ fine s → late s ≡ 0 → answerOf axes mode job work pairs l ≡ Done (reportOf axes (coordsOf s) (packedOf mode s))
+  pub answer-done : (s : Said) → outcomeOf c ≡ fine s → late s ≡ 0 → answerOf c ≡ Done (reportOf (c .axes) (coordsOf s) (packedOf (c .mode) s))
   unfolding answerOf answerFrom lateAnswer
   answer-done s e f = rw (e, f)
 
   -- who answers
   pub data Answers : Type 0 where
-    by-job : (n p : ℕ) → outcome axes mode job work pairs ≡ refused n p → answerOf axes mode job work pairs l ≡ Refused n p → (0 < n) × (n ≤ 9) → Answers
-    by-late : (s : Said) → outcome axes mode job work pairs ≡ fine s → (10 ≤ late s) × (late s ≤ 14) → answerOf axes mode job work pairs l ≡ Refused (late s) 0 → Answers
-    done : (s : Said) → outcome axes mode job work pairs ≡ fine s → late s ≡ 0 → answerOf axes mode job work pairs l ≡ Done (reportOf axes (coordsOf s) (packedOf mode s)) → Answers
+    by-job : (n p : ℕ) → outcomeOf c ≡ refused n p → answerOf c ≡ Refused n p → (0 < n) × (n ≤ 9) → Answers
+    by-late : (s : Said) → outcomeOf c ≡ fine s → (10 ≤ late s) × (late s ≤ 14) → answerOf c ≡ Refused (late s) 0 → Answers
+    done : (s : Said) → outcomeOf c ≡ fine s → late s ≡ 0 → answerOf c ≡ Done (reportOf (c .axes) (coordsOf s) (packedOf (c .mode) s)) → Answers
 
   pub answers : Answers
-  answers = go (outcome axes mode job work pairs) refl
+  answers = go (outcomeOf c) refl
     where
-      few : (n p : ℕ) → outcome axes mode job work pairs ≡ refused n p → (0 < n) × (n ≤ 9)
+      few : (n p : ℕ) → outcomeOf c ≡ refused n p → (0 < n) × (n ≤ 9)
       few n p e =
-          ⊎-elim (λ z. let w = walk-no axes mode job (length job / 12) n p (sym (outcome-walked axes mode job work pairs z) ∙ e) in (omega arith, omega arith))
-          (λ f. let g = f .1 in let a : early axes mode job work pairs ≡ n = cc in let b = early-few axes mode (length job) work pairs in (omega arith, omega arith))
-          (outcome-by axes mode job work pairs)
+          ⊎-elim (λ z. let w = walk-no (c .axes) (c .mode) (c .job) (length (c .job) / 12) n p (sym (outcome-walked c z) ∙ e) in (omega arith, omega arith))
+          (λ f. let g = f .1 in let a : early c ≡ n = cc in let b = early-few (c .axes) (c .mode) (length (c .job)) (length (c .work)) (length (c .pairs)) in (omega arith, omega arith))
+          (outcome-by c)
 
-      go : (o : Outcome) → outcome axes mode job work pairs ≡ o → Answers
+      go : (o : Outcome) → outcomeOf c ≡ o → Answers
       go (refused n p) e = by-job n p e (answer-refused n p e) (few n p e)
       go (fine s) e =
           ⊎-elim (λ z. done s e z (answer-done s e z)) (λ h. by-late s e h (answer-late s (late s) e refl (omega arith)))
-          (late-many axes s mode l)
+          (late-many (c .axes) s (c .mode) (lengths (c .lent)))
 
-  pub job-only : (n p : ℕ) → n ≤ 9 → answerOf axes mode job work pairs l ≡ Refused n p → outcome axes mode job work pairs ≡ refused n p
+  pub job-only : (n p : ℕ) → n ≤ 9 → answerOf c ≡ Refused n p → outcomeOf c ≡ refused n p
   job-only n p h e = go answers
     where
-      go : Answers → outcome axes mode job work pairs ≡ refused n p
+      go : Answers → outcomeOf c ≡ refused n p
       go (by-job m q f g b) = cc
       go (by-late s f b g) = let z : late s ≡ n = cc in absurd (omega arith)
       go (done s f b g) = let z : _≡_ {A = ℕ} 0 1 = cc in absurd (omega arith)
 
-  pub late-only : (n p : ℕ) → 10 ≤ n → answerOf axes mode job work pairs l ≡ Refused n p → (p ≡ 0) × (s : Said) × (outcome axes mode job work pairs ≡ fine s) × (late s ≡ n)
+  pub late-only : (n p : ℕ) → 10 ≤ n → answerOf c ≡ Refused n p → (p ≡ 0) × (s : Said) × (outcomeOf c ≡ fine s) × (late s ≡ n)
   late-only n p h e = go answers
     where
-      go : Answers → (p ≡ 0) × (s : Said) × (outcome axes mode job work pairs ≡ fine s) × (late s ≡ n)
+      go : Answers → (p ≡ 0) × (s : Said) × (outcomeOf c ≡ fine s) × (late s ≡ n)
       go (by-job m q f g b) = let z : m ≡ n = cc in absurd (omega arith)
       go (by-late s f b g) = let z : late s ≡ n = cc in let y : p ≡ 0 = cc in (y, s, f, z)
       go (done s f b g) = let z : _≡_ {A = ℕ} 0 1 = cc in absurd (omega arith)
 
   -- there are no numbers but those of the table
-  pub numbers : (n p : ℕ) → answerOf axes mode job work pairs l ≡ Refused n p → (1 ≤ n) × (n ≤ 14)
+  pub numbers : (n p : ℕ) → answerOf c ≡ Refused n p → (1 ≤ n) × (n ≤ 14)
   numbers n p e = go answers
     where
       go : Answers → (1 ≤ n) × (n ≤ 14)

@@ -12,7 +12,7 @@ use Rattle.said.specs.Refusals.{axisNo}
 use Rattle.said.specs.Sets.{Region, firstLike}
 use Rattle.said.specs.Job.{Said, State, inAxes, stop, valueStep, endStep, step, refused}
 use Rattle.finishing.specs.declared.answers.Built.the-variants.{Refused}
-use Rattle.finishing.specs.Late.{Lengths}
+use Rattle.build.specs.Lending.{Lending}
 use Rattle.build.specs.Build.{answerOf}
 use Rattle.ivs.specs.Exactly.{Exactly}
 use Rattle.ivs.specs.Passing.{recordAt, Passed, saidAt, Whole}
@@ -207,24 +207,24 @@ module _ (axes mode : ℕ) (job : List ℕ) (i : ℕ) (s : State) (m : Means axe
 
 -- ---- the rows
 
-module _ (axes mode : ℕ) (job : List ℕ) (work pairs : ℕ) (l : Lengths) (i : ℕ) where
+module _ (c : Lending) (i : ℕ) where
   abbrev records : ℕ
-  records = length job / 12
+  records = length (c .job) / 12
 
   row : (n : ℕ) (Why : Type 0) → 5 ≤ n → n ≤ 9 → (n ≡ 8 → ⊥)
-      → ((s : State) → Passed axes mode job i s → Exactly (step axes mode job (recordAt job i) i s ≡ stop n) Why)
-      → Exactly (answerOf axes mode job work pairs l ≡ Refused n i) (EarliestBad axes mode job work pairs i Why)
+      → ((s : State) → Passed (c .axes) (c .mode) (c .job) i s → Exactly (step (c .axes) (c .mode) (c .job) (recordAt (c .job) i) i s ≡ stop n) Why)
+      → Exactly (answerOf c ≡ Refused n i) (EarliestBad c i Why)
   row n Why low high d x = record {
     given = λ b.
-        answer-refused axes mode job work pairs l n i (outcome-walked axes mode job work pairs (early-none axes mode (length job) work pairs .given (b .fits))
-        ∙ stops-given axes mode job records n i
+        answer-refused c n i (outcome-walked c (early-none (c .axes) (c .mode) (length (c .job)) (length (c .work)) (length (c .pairs)) .given (b .fits))
+        ∙ stops-given (c .axes) (c .mode) (c .job) records n i
         (record { state = b .state; within = b .within; before-pass = b .before-pass; stops = x (b .state) (b .before-pass) .given (b .why) }));
     only = λ e.
-        let o = job-only axes mode job work pairs l n i high e in
-        let w = walked-only axes mode job work pairs (refused n i) (λ k p f. let z : n ≡ k = cc in omega arith) o in
-        let a = stops-only axes mode job records n i d (w .1) in
+        let o = job-only c n i high e in
+        let w = walked-only c (refused n i) (λ k p f. let z : n ≡ k = cc in omega arith) o in
+        let a = stops-only (c .axes) (c .mode) (c .job) records n i d (w .1) in
         record {
-          fits = early-none axes mode (length job) work pairs .only (w .0);
+          fits = early-none (c .axes) (c .mode) (length (c .job)) (length (c .work)) (length (c .pairs)) .only (w .0);
           within = a .within;
           state = a .state;
           before-pass = a .before-pass;
@@ -234,25 +234,25 @@ module _ (axes mode : ℕ) (job : List ℕ) (work pairs : ℕ) (l : Lengths) (i 
 
   -- 5 BAD_RECORD: "unknown kind, a zero byte not zero, an axis record out of its order or after the first value or end, a value or end inside an
   -- unfinished region"
-  pub bad-record : Exactly (answerOf axes mode job work pairs l ≡ Refused 5 i) (EarliestBad axes mode job work pairs i (BadRecord axes job i (recordAt job i)))
+  pub bad-record : Exactly (answerOf c ≡ Refused 5 i) (EarliestBad c i (BadRecord (c .axes) (c .job) i (recordAt (c .job) i)))
   bad-record =
-      row 5 (BadRecord axes job i (recordAt job i)) (omega arith) (omega arith) (λ z. omega arith)
-      (λ s p. stops-five axes mode job i s (means axes mode job i s p))
+      row 5 (BadRecord (c .axes) (c .job) i (recordAt (c .job) i)) (omega arith) (omega arith) (λ z. omega arith)
+      (λ s p. stops-five (c .axes) (c .mode) (c .job) i s (means (c .axes) (c .mode) (c .job) i s p))
 
   -- 6 UNKNOWN_REGION: "a value names a region with no axis records"
-  pub unknown-region : Exactly (answerOf axes mode job work pairs l ≡ Refused 6 i) (EarliestBad axes mode job work pairs i (UnknownRegion axes job i (recordAt job i)))
+  pub unknown-region : Exactly (answerOf c ≡ Refused 6 i) (EarliestBad c i (UnknownRegion (c .axes) (c .job) i (recordAt (c .job) i)))
   unknown-region =
-      row 6 (UnknownRegion axes job i (recordAt job i)) (omega arith) (omega arith) (λ z. omega arith)
-      (λ s p. stops-six axes mode job i s (means axes mode job i s p))
+      row 6 (UnknownRegion (c .axes) (c .job) i (recordAt (c .job) i)) (omega arith) (omega arith) (λ z. omega arith)
+      (λ s p. stops-six (c .axes) (c .mode) (c .job) i s (means (c .axes) (c .mode) (c .job) i s p))
 
   -- 7 REGION_TWICE: "a value's region has the same coordinates as an earlier one's in its set, zero values counted too"
-  pub region-twice : Exactly (answerOf axes mode job work pairs l ≡ Refused 7 i) (EarliestBad axes mode job work pairs i (RegionTwice axes job i (recordAt job i)))
+  pub region-twice : Exactly (answerOf c ≡ Refused 7 i) (EarliestBad c i (RegionTwice (c .axes) (c .job) i (recordAt (c .job) i)))
   region-twice =
-      row 7 (RegionTwice axes job i (recordAt job i)) (omega arith) (omega arith) (λ z. omega arith)
-      (λ s p. stops-seven axes mode job i s (means axes mode job i s p) p)
+      row 7 (RegionTwice (c .axes) (c .job) i (recordAt (c .job) i)) (omega arith) (omega arith) (λ z. omega arith)
+      (λ s p. stops-seven (c .axes) (c .mode) (c .job) i s (means (c .axes) (c .mode) (c .job) i s p) p)
 
   -- 9 SETS_FULL: "mode 1, the 65,536th end record"
-  pub sets-full : Exactly (answerOf axes mode job work pairs l ≡ Refused 9 i) (EarliestBad axes mode job work pairs i (SetsFull axes mode job i (recordAt job i)))
+  pub sets-full : Exactly (answerOf c ≡ Refused 9 i) (EarliestBad c i (SetsFull (c .axes) (c .mode) (c .job) i (recordAt (c .job) i)))
   sets-full =
-      row 9 (SetsFull axes mode job i (recordAt job i)) (omega arith) (omega arith) (λ z. omega arith)
-      (λ s p. stops-nine axes mode job i s (means axes mode job i s p))
+      row 9 (SetsFull (c .axes) (c .mode) (c .job) i (recordAt (c .job) i)) (omega arith) (omega arith) (λ z. omega arith)
+      (λ s p. stops-nine (c .axes) (c .mode) (c .job) i s (means (c .axes) (c .mode) (c .job) i s p))

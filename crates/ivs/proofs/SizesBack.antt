@@ -6,19 +6,19 @@ use lib.ListN.{length}
 use Rattle.laws.specs.Bag.{weigh}
 use Rattle.groups.specs.Groups.{groupsOf}
 use Rattle.rule.specs.Model.{merged, total}
-use Rattle.said.specs.Job.{Said, fine, outcome}
+use Rattle.said.specs.Job.{Said, fine}
 use Rattle.encoder.specs.Packed.{Packed, shared}
 use Rattle.sizes.specs.Sizes.{costOf, Sizes}
 use Rattle.sizes.proofs.Counted.{sizes}
 use Rattle.finishing.specs.declared.answers.Report.{Report}
 use Rattle.finishing.specs.declared.answers.Built.the-variants.{Done}
-use Rattle.finishing.specs.Late.{Lengths}
-use Rattle.build.specs.Build.{packedOf, answerOf}
+use Rattle.build.specs.Lending.{Lending}
+use Rattle.build.specs.Build.{packedOf, outcomeOf, answerOf}
 use Rattle.ivs.proofs.Demand3.{Demand3, demand3}
 
-pub record Sized (axes : ℕ) (job : List ℕ) (work pairs : ℕ) (r : Report) : Type 0 where
+pub record Sized (c : Lending) (r : Report) : Type 0 where
   pub said : Said
-  pub said-is : outcome axes 0 job work pairs ≡ fine said
+  pub said-is : outcomeOf c ≡ fine said
   -- the counts of the rule's groups are those of the sets, from the starting groups to the final ones
   pub counted : Sizes (length (said .used)) (said .sets)
   -- "modelled size before and after merging": after it, "overhead + row cost x sets" of each group that is written, by its own ids
@@ -32,10 +32,10 @@ shared-after : (s : Said) → shared (length (s .used)) (s .sets) .after ≡ tot
 unfolding shared
 shared-after s = refl
 
--- THE LAW
-pub sized : (axes : ℕ) (job : List ℕ) (work pairs : ℕ) (l : Lengths) (r : Report) → answerOf axes 0 job work pairs l ≡ Done r → Sized axes job work pairs r
-sized axes job work pairs l r e =
-    let d = demand3 axes job work pairs l r e in
+-- THE LAW, in mode 0
+pub sized : (c : Lending) (r : Report) → c .mode ≡ 0 → answerOf c ≡ Done r → Sized c r
+sized c r m e =
+    let d = demand3 c r m e in
     let s = d .said in
     let z = sizes (length (s .used)) (s .sets) in
     record {

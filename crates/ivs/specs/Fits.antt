@@ -2,7 +2,9 @@
 -- are not given. Assumes nothing.
 use mathlib.Core.Path.{_≡_}
 use Prim.Native.Nat.{ℕ, _/_, _%_, _≤_, _<_}
+use lib.ListN.{length}
 use Rattle.said.specs.Refusals.{publishedWork, pairRecords}
+use Rattle.build.specs.Lending.{Lending}
 
 -- "1 to 64 axes"
 pub record AxesFit (axes : ℕ) : Type 0 where
@@ -23,3 +25,7 @@ pub record WorkFit (axes mode bytes work pairs : ℕ) : Type 0 where
   pub length-fit : LengthFit axes mode bytes
   pub enough : publishedWork (bytes / 12) ≤ work
   pub paired : pairRecords ≤ pairs
+
+-- of a call
+abbrev pub Fits : Lending → Type 0
+Fits c = WorkFit (c .axes) (c .mode) (length (c .job)) (length (c .work)) (length (c .pairs))

@@ -1,9 +1,9 @@
 pub mod Answers
 pub mod Exactly
-pub mod Obeys
 pub mod Fits
 pub mod Passing
 pub mod Rooms
 pub mod Counts
 pub mod Rows
 pub mod GlyphWords
+pub mod Told

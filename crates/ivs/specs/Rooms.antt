@@ -6,13 +6,15 @@ use Prim.Native.Nat.{ℕ, _-_, _*_, _≤_}
 use lib.ListN.{length}
 use Rattle.said.specs.Job.{Said, fine, outcome}
 use Rattle.encoder.specs.Packed.{Packed}
-use Rattle.finishing.specs.Late.{Lengths, storeFor}
-use Rattle.build.specs.Build.{coordsOf, packedOf}
+use Rattle.finishing.specs.Buffers.{Lengths}
+use Rattle.finishing.specs.Late.{storeFor}
+use Rattle.build.specs.Lending.{Lending}
+use Rattle.build.specs.Build.{coordsOf, packedOf, outcomeOf}
 
 -- the job is sound, and this holds of what it says
-pub record Accepted (axes mode : ℕ) (job : List ℕ) (work pairs : ℕ) (P : Said → Type 0) : Type 0 where
+pub record Accepted (c : Lending) (P : Said → Type 0) : Type 0 where
   pub said : Said
-  pub sound : outcome axes mode job work pairs ≡ fine said
+  pub sound : outcomeOf c ≡ fine said
   pub holds : P said
 
 -- N, the count of distinct shapes; it is 0 in mode 1

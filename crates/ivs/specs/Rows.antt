@@ -3,20 +3,21 @@ use mathlib.Core.List.{List}
 use Prim.Native.Nat.{ℕ, _/_, _<_}
 use lib.ListN.{length}
 use Rattle.said.specs.Job.{State}
-use Rattle.ivs.specs.Fits.{WorkFit}
+use Rattle.build.specs.Lending.{Lending}
+use Rattle.ivs.specs.Fits.{Fits}
 use Rattle.ivs.specs.Passing.{Passed}
 
 -- none of 1 to 4; records 0 to i, without i, pass; and this holds of record i
-pub record EarliestBad (axes mode : ℕ) (job : List ℕ) (work pairs i : ℕ) (Why : Type 0) : Type 0 where
-  pub fits : WorkFit axes mode (length job) work pairs
-  pub within : i < length job / 12
+pub record EarliestBad (c : Lending) (i : ℕ) (Why : Type 0) : Type 0 where
+  pub fits : Fits c
+  pub within : i < length (c .job) / 12
   pub state : State
-  pub before-pass : Passed axes mode job i state
+  pub before-pass : Passed (c .axes) (c .mode) (c .job) i state
   pub why : Why
 
 -- none of 1 to 4; all records pass; and this holds of the job
-pub record AllPass (axes mode : ℕ) (job : List ℕ) (work pairs : ℕ) (Why : Type 0) : Type 0 where
-  pub fits : WorkFit axes mode (length job) work pairs
+pub record AllPass (c : Lending) (Why : Type 0) : Type 0 where
+  pub fits : Fits c
   pub state : State
-  pub all-pass : Passed axes mode job (length job / 12) state
+  pub all-pass : Passed (c .axes) (c .mode) (c .job) (length (c .job) / 12) state
   pub why : Why

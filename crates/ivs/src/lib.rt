@@ -11,11 +11,10 @@ ghost use mathlib.Core.Path.{_≡_};
 ghost use Rattle.laws.specs.Signed.{twos};
 ghost use Rattle.said.specs.Refusals.{workWords};
 ghost use Rattle.reader.specs.Store.{readStore};
-ghost use lib.ListN.{length};
-ghost use Rattle.job.specs.Check.{workLeft};
-ghost use Rattle.finishing.specs.Lent.{lengths};
-ghost use Rattle.build.specs.Build.{answerOf, outAfter, idsAfter, mapAfter, logAfter, pairsLeft};
-ghost use Rattle.ivs.specs.Answers.{readWord, numberOf, reportWords, filled};
+ghost use Rattle.finishing.specs.Buffers.{buffers};
+ghost use Rattle.build.specs.Lending.{lending, leaves};
+ghost use Rattle.ivs.specs.Answers.{readWord};
+ghost use Rattle.ivs.specs.Told.{Told};
 
 // The words of work that a job of so many records needs; 0 above the record limit.
 #[no_mangle]
@@ -61,14 +60,7 @@ pub extern "C" fn ivs_build(
     log: &mut [u32],
     report: &mut [u64; 16],
 ) -> u32
-    ensures { λ r. ⌜ r ≡ numberOf (answerOf axes mode (now (job .entry)) (length (now (work .entry))) (length (now (pairs .entry))) (lengths (now (out .entry)) (now (ids .entry)) (now (map .entry)) (now (log .entry)))) ⌝ }
-    ensures { λ _. ⌜ now (report .exit) ≡ filled 0 (reportWords (answerOf axes mode (now (job .entry)) (length (now (work .entry))) (length (now (pairs .entry))) (lengths (now (out .entry)) (now (ids .entry)) (now (map .entry)) (now (log .entry))))) (now (report .entry)) ⌝ }
-    ensures { λ _. ⌜ now (out .exit) ≡ outAfter axes mode (now (job .entry)) (length (now (work .entry))) (length (now (pairs .entry))) (lengths (now (out .entry)) (now (ids .entry)) (now (map .entry)) (now (log .entry))) (now (out .entry)) ⌝ }
-    ensures { λ _. ⌜ now (ids .exit) ≡ idsAfter axes mode (now (job .entry)) (length (now (work .entry))) (length (now (pairs .entry))) (lengths (now (out .entry)) (now (ids .entry)) (now (map .entry)) (now (log .entry))) (now (ids .entry)) ⌝ }
-    ensures { λ _. ⌜ now (map .exit) ≡ mapAfter axes mode (now (job .entry)) (length (now (work .entry))) (length (now (pairs .entry))) (lengths (now (out .entry)) (now (ids .entry)) (now (map .entry)) (now (log .entry))) (now (map .entry)) ⌝ }
-    ensures { λ _. ⌜ now (log .exit) ≡ logAfter axes mode (now (job .entry)) (length (now (work .entry))) (length (now (pairs .entry))) (lengths (now (out .entry)) (now (ids .entry)) (now (map .entry)) (now (log .entry))) (now (log .entry)) ⌝ }
-    ensures { λ _. ⌜ now (work .exit) ≡ workLeft axes mode (length (now (job .entry))) (length (now (pairs .entry))) (now (work .entry)) ⌝ }
-    ensures { λ _. ⌜ now (pairs .exit) ≡ pairsLeft axes mode (length (now (job .entry))) (length (now (work .entry))) (now (pairs .entry)) ⌝ }
+    ensures { λ r. ⌜ Told (lending axes mode (now (job .entry)) (now (work .entry)) (now (pairs .entry)) (buffers (now (out .entry)) (now (ids .entry)) (now (map .entry)) (now (log .entry)))) r (leaves (now (work .exit)) (now (pairs .exit)) (buffers (now (out .exit)) (now (ids .exit)) (now (map .exit)) (now (log .exit)))) (now (report .entry)) (now (report .exit)) ⌝ }
 {
     let answer = build::build(axes, mode, job, work, pairs, out, ids, map, log);
     tell(report, answer)

@@ -37,11 +37,10 @@ use denote.Triple.Statement.{Triple}
 use denote.Triple.Table.{entered, cited}
 use denote.Triple.Walked.{Stays, stay-ref, stay-slice, stay-none-slice, stay-none, walkOf, goes-ref, goes-slice, goes-none-slice, goes-none, Walks, ends-at, walked, walk-meets}
 use denote.Exit.{yes}
-use Rattle.build.specs.Build.{answerOf, outAfter, idsAfter, mapAfter, logAfter, pairsLeft}
-use Rattle.finishing.specs.Lent.{lengths}
-use Rattle.job.specs.Check.{workLeft}
-use Rattle.ivs.specs.Answers.{numberOf, reportWords, filled}
-use Rattle.ivs.proofs.TellLaws.{answer-few, told}
+use Rattle.finishing.specs.Buffers.{buffers}
+use Rattle.build.specs.Lending.{lending, leaves}
+use Rattle.ivs.specs.Told.{Told}
+use Rattle.ivs.proofs.TellLaws.{answer-few}
 use Rattle.pairs.specs.declared.Pair.{Pair}
 use Rattle.pairs.proofs.Pair as T
 use Rattle.finishing.specs.declared.answers.Built.{Built}
@@ -152,10 +151,10 @@ module _ {M : Type 1} (𝓤 : URA M) (H : Heap 𝓤) (A : Atoms 𝓤) (W : Given
   abbrev Post : Val → SProp 𝓤
   Post = walkOf 𝓤 H A ivs-build.ended stayed (ivs-build.clauses 𝓤 H A mem run) .post bound
 
-  exits : (work′ : List ℕ) → length work′ ≡ ν₂ → (pairs′ : List Pair) → length pairs′ ≡ ν₃ → (out′ : List ℕ) → length out′ ≡ ν₄ → (ids′ : List ℕ) → length ids′ ≡ ν₅ → (map′ : List ℕ) → length map′ ≡ ν₆ → (log′ : List ℕ) → length log′ ≡ ν₇ → (report′ : List ℕ) → (r : ℕ) → r < 2 ^ 32 → ((r ≡ numberOf (answerOf axes mode job (length work) (length pairs) (lengths out ids map log))) × (report′ ≡ filled 0 (reportWords (answerOf axes mode job (length work) (length pairs) (lengths out ids map log))) report) × (out′ ≡ outAfter axes mode job (length work) (length pairs) (lengths out ids map log) out) × (ids′ ≡ idsAfter axes mode job (length work) (length pairs) (lengths out ids map log) ids) × (map′ ≡ mapAfter axes mode job (length work) (length pairs) (lengths out ids map log) map) × (log′ ≡ logAfter axes mode job (length work) (length pairs) (lengths out ids map log) log) × (work′ ≡ workLeft axes mode (length job) (length pairs) work) × (pairs′ ≡ pairsLeft axes mode (length job) (length work) pairs)) → ent 𝓤 (⋆ 𝓤 H A (Slice job ∷ Slice₂ work′ ∷ Slice₃ pairs′ ∷ Slice₄ out′ ∷ Slice₅ ids′ ∷ Slice₆ map′ ∷ Slice₇ log′ ∷ Slice₈ report′ ∷ [])) (Post (vint w32 r))
+  exits : (work′ : List ℕ) → length work′ ≡ ν₂ → (pairs′ : List Pair) → length pairs′ ≡ ν₃ → (out′ : List ℕ) → length out′ ≡ ν₄ → (ids′ : List ℕ) → length ids′ ≡ ν₅ → (map′ : List ℕ) → length map′ ≡ ν₆ → (log′ : List ℕ) → length log′ ≡ ν₇ → (report′ : List ℕ) → (r : ℕ) → r < 2 ^ 32 → (Told (lending axes mode job work pairs (buffers out ids map log)) r (leaves work′ pairs′ (buffers out′ ids′ map′ log′)) report report′) → ent 𝓤 (⋆ 𝓤 H A (Slice job ∷ Slice₂ work′ ∷ Slice₃ pairs′ ∷ Slice₄ out′ ∷ Slice₅ ids′ ∷ Slice₆ map′ ∷ Slice₇ log′ ∷ Slice₈ report′ ∷ [])) (Post (vint w32 r))
   exits work′ long₂ pairs′ long₃ out′ long₄ ids′ long₅ map′ long₆ log′ long₇ report′ r g e =
       qed W (Slice job ∷ Slice₂ work′ ∷ Slice₃ pairs′ ∷ Slice₄ out′ ∷ Slice₅ ids′ ∷ Slice₆ map′ ∷ Slice₇ log′ ∷ Slice₈ report′ ∷ []) ∵ suffices ! _ (ends-at 𝓤 H A ivs-build.ended stayed (ivs-build.clauses 𝓤 H A mem run) W bound (vint w32 r) r (tt, (tt, (tt, (work′, (pairs′, (out′, (ids′, (map′, (log′, (report′, tt)))))))))) (tt, (tt, (tt, (long₂, (long₃, (long₄, (long₅, (long₆, (long₇, (tt, tt))))))))))) $
-      split ! $ move ! (2 ∷ []) $ split ! $ move ! (4 ∷ []) $ split ! $ move ! (6 ∷ []) $ split ! $ move ! (8 ∷ []) $ split ! $ move ! (10 ∷ []) $ split ! $ move ! (12 ∷ []) $ split ! $ move ! (14 ∷ []) $ split ! $ nothing ! $ move ! (2 ∷ 0 ∷ []) $ join ! $ move ! (3 ∷ 0 ∷ []) $ join ! $ move ! (4 ∷ 0 ∷ []) $ join ! $ move ! (5 ∷ 0 ∷ []) $ join ! $ move ! (6 ∷ 0 ∷ []) $ join ! $ move ! (7 ∷ 0 ∷ []) $ join ! $ move ! (8 ∷ 0 ∷ []) $ join ! $ move ! (9 ∷ 0 ∷ []) $ join ! $ owned ! u32 (Is u32) (uint-makes 𝓤 H A W w32) r _ (refl, g) $ nothing ! $ move ! (3 ∷ 0 ∷ []) $ fjoin ! $ move ! (3 ∷ 0 ∷ []) $ fjoin ! $ move ! (3 ∷ 0 ∷ []) $ fjoin ! $ move ! (3 ∷ 0 ∷ []) $ fjoin ! $ move ! (3 ∷ 0 ∷ []) $ fjoin ! $ move ! (3 ∷ 0 ∷ []) $ fjoin ! $ move ! (3 ∷ 0 ∷ []) $ fjoin ! $ move ! (3 ∷ 0 ∷ []) $ fjoin ! $ owned ! u32 (Is u32) (uint-makes 𝓤 H A W w32) mode _ (refl, g-mode) $ fjoin ! $ owned ! u32 (Is u32) (uint-makes 𝓤 H A W w32) axes _ (refl, g-axes) $ fjoin ! $ join ! $ move ! (1 ∷ 0 ∷ []) $ join ! $ frame ! $ use0 W (raw (fact 𝓤 (pairs′ ≡ pairsLeft axes mode (length job) (length work) pairs))) (factI 𝓤 (pairs′ ≡ pairsLeft axes mode (length job) (length work) pairs) (emp 𝓤) (e .7)) $ use0 W (raw (fact 𝓤 (work′ ≡ workLeft axes mode (length job) (length pairs) work))) (factI 𝓤 (work′ ≡ workLeft axes mode (length job) (length pairs) work) (emp 𝓤) (e .6)) $ use0 W (raw (fact 𝓤 (log′ ≡ logAfter axes mode job (length work) (length pairs) (lengths out ids map log) log))) (factI 𝓤 (log′ ≡ logAfter axes mode job (length work) (length pairs) (lengths out ids map log) log) (emp 𝓤) (e .5)) $ use0 W (raw (fact 𝓤 (map′ ≡ mapAfter axes mode job (length work) (length pairs) (lengths out ids map log) map))) (factI 𝓤 (map′ ≡ mapAfter axes mode job (length work) (length pairs) (lengths out ids map log) map) (emp 𝓤) (e .4)) $ use0 W (raw (fact 𝓤 (ids′ ≡ idsAfter axes mode job (length work) (length pairs) (lengths out ids map log) ids))) (factI 𝓤 (ids′ ≡ idsAfter axes mode job (length work) (length pairs) (lengths out ids map log) ids) (emp 𝓤) (e .3)) $ use0 W (raw (fact 𝓤 (out′ ≡ outAfter axes mode job (length work) (length pairs) (lengths out ids map log) out))) (factI 𝓤 (out′ ≡ outAfter axes mode job (length work) (length pairs) (lengths out ids map log) out) (emp 𝓤) (e .2)) $ use0 W (raw (fact 𝓤 (report′ ≡ filled 0 (reportWords (answerOf axes mode job (length work) (length pairs) (lengths out ids map log))) report))) (factI 𝓤 (report′ ≡ filled 0 (reportWords (answerOf axes mode job (length work) (length pairs) (lengths out ids map log))) report) (emp 𝓤) (e .1)) $ use0 W (raw (fact 𝓤 (r ≡ numberOf (answerOf axes mode job (length work) (length pairs) (lengths out ids map log))))) (factI 𝓤 (r ≡ numberOf (answerOf axes mode job (length work) (length pairs) (lengths out ids map log))) (emp 𝓤) (e .0)) $ done !
+      split ! $ move ! (2 ∷ []) $ split ! $ move ! (4 ∷ []) $ split ! $ move ! (6 ∷ []) $ split ! $ move ! (8 ∷ []) $ split ! $ move ! (10 ∷ []) $ split ! $ move ! (12 ∷ []) $ split ! $ move ! (14 ∷ []) $ split ! $ nothing ! $ move ! (2 ∷ 0 ∷ []) $ join ! $ move ! (3 ∷ 0 ∷ []) $ join ! $ move ! (4 ∷ 0 ∷ []) $ join ! $ move ! (5 ∷ 0 ∷ []) $ join ! $ move ! (6 ∷ 0 ∷ []) $ join ! $ move ! (7 ∷ 0 ∷ []) $ join ! $ move ! (8 ∷ 0 ∷ []) $ join ! $ move ! (9 ∷ 0 ∷ []) $ join ! $ owned ! u32 (Is u32) (uint-makes 𝓤 H A W w32) r _ (refl, g) $ nothing ! $ move ! (3 ∷ 0 ∷ []) $ fjoin ! $ move ! (3 ∷ 0 ∷ []) $ fjoin ! $ move ! (3 ∷ 0 ∷ []) $ fjoin ! $ move ! (3 ∷ 0 ∷ []) $ fjoin ! $ move ! (3 ∷ 0 ∷ []) $ fjoin ! $ move ! (3 ∷ 0 ∷ []) $ fjoin ! $ move ! (3 ∷ 0 ∷ []) $ fjoin ! $ move ! (3 ∷ 0 ∷ []) $ fjoin ! $ owned ! u32 (Is u32) (uint-makes 𝓤 H A W w32) mode _ (refl, g-mode) $ fjoin ! $ owned ! u32 (Is u32) (uint-makes 𝓤 H A W w32) axes _ (refl, g-axes) $ fjoin ! $ join ! $ move ! (1 ∷ 0 ∷ []) $ join ! $ frame ! $ use0 W (raw (fact 𝓤 (Told (lending axes mode job work pairs (buffers out ids map log)) r (leaves work′ pairs′ (buffers out′ ids′ map′ log′)) report report′))) (factI 𝓤 (Told (lending axes mode job work pairs (buffers out ids map log)) r (leaves work′ pairs′ (buffers out′ ids′ map′ log′)) report report′) (emp 𝓤) e) $ done !
 
   module _ (𝓣 : AllCalls 𝓤 H) (known-build : Triple 𝓤 (𝓣 .C #build·build) (Build-of 𝓤 H A mem run)) (known-tell : Triple 𝓤 (𝓣 .C #ivs·tell) (Tell-of 𝓤 H A mem run)) (sized : Room u8 ν) (sized₂ : Room u32 ν₂) (sized₃ : Room T.the-row ν₃) (sized₄ : Room u8 ν₄) (sized₅ : Room u32 ν₅) (sized₆ : Room u32 ν₆) (sized₇ : Room u32 ν₇) where
     abbrev C : Calls 𝓤 H
@@ -220,7 +219,7 @@ module _ {M : Type 1} (𝓤 : URA M) (H : Heap 𝓤) (A : Atoms 𝓤) (W : Given
           split ! $
           assigns ! (addr ! (from ! (hop ! (look ! 36 refl) (stop !)))) (from ! (stop !)) (init ! 8 refl (tt, tt)) $
           move ! (7 ∷ []) $
-          use1 W (later (raw (C #ivs·tell (σ₈ ∷ EL.val D.the-type D′.the-laws b ∷ []) (λ w. mean 𝓤 H A (After-tell-call 𝓤 H A W mem run C fm known-tell κ₈ θ₈ γ₈ β₈ ι₈ ν₈ report b w))))) (tell-call 𝓤 H A W mem run C fm known-tell κ₈ θ₈ γ₈ β₈ ι₈ ν₈ report b (at-D b r-b g-b) (answer-few axes mode job (length work) (length pairs) (lengths out ids map log) b (e-b .1 .0))) $ await ! tt $
+          use1 W (later (raw (C #ivs·tell (σ₈ ∷ EL.val D.the-type D′.the-laws b ∷ []) (λ w. mean 𝓤 H A (After-tell-call 𝓤 H A W mem run C fm known-tell κ₈ θ₈ γ₈ β₈ ι₈ ν₈ report b w))))) (tell-call 𝓤 H A W mem run C fm known-tell κ₈ θ₈ γ₈ β₈ ι₈ ν₈ report b (at-D b r-b g-b) (answer-few (lending axes mode job work pairs (buffers out ids map log)) b (e-b .1 .answer))) $ await ! tt $
           calls ! fm (After-tell-call 𝓤 H A W mem run C fm known-tell κ₈ θ₈ γ₈ β₈ ι₈ ν₈ report b) (and-then ! (load ! (from ! (stop !)) (look ! 8 refl)) (and-then ! (load ! (from ! (stop !)) (look ! 34 refl)) (no-more !))) (λ r-n. await ! tt $ pick ! (λ n. pick ! (λ x-n. learn ! (λ e-n. split ! $ move ! (1 ∷ []) $ facts ! u32 (Is u32) (shows 𝓤 H A u32) n (r-n ∷ []) (λ g-n.
           land ! (from ! (stop !)) (init ! 56 refl (uint-lawful 𝓤 H A W w32 .typed n _ g-n .0)) $
           rewrite ! 56 (λ (u : Val). ‵ (fat fullShare (tyInt w32) l₀ 0 u)) (ap only (g-n .0)) refl $
@@ -228,7 +227,7 @@ module _ {M : Type 1} (𝓤 : URA M) (H : Heap 𝓤) (A : Atoms 𝓤) (W : Given
           forget ! 56 refl $ forget ! 54 refl $ forget ! 52 refl $ forget ! 50 refl $ forget ! 48 refl $ forget ! 46 refl $ forget ! 44 refl $ forget ! 42 refl $ forget ! 40 refl $ forget ! 38 refl $ forget ! 36 refl $ forget ! 34 refl $ forget ! 32 refl $ forget ! 30 refl $ forget ! 28 refl $ forget ! 26 refl $ forget ! 24 refl $ forget ! 22 refl $ forget ! 20 refl $ forget ! 18 refl $ forget ! 16 refl $ forget ! 14 refl $ forget ! 12 refl $ forget ! 10 refl $ forget ! 8 refl $
           move ! (56 ∷ 57 ∷ []) $ free1 ! $ move ! (54 ∷ 55 ∷ []) $ free1 ! $ move ! (52 ∷ 53 ∷ []) $ free1 ! $ move ! (50 ∷ 51 ∷ []) $ free1 ! $ move ! (48 ∷ 49 ∷ []) $ free1 ! $ move ! (46 ∷ 47 ∷ []) $ free1 ! $ move ! (44 ∷ 45 ∷ []) $ free1 ! $ move ! (42 ∷ 43 ∷ []) $ free1 ! $ move ! (40 ∷ 41 ∷ []) $ free1 ! $ move ! (38 ∷ 39 ∷ []) $ free1 ! $ move ! (36 ∷ 37 ∷ []) $ free1 ! $ move ! (34 ∷ 35 ∷ []) $ free1 ! $ move ! (32 ∷ 33 ∷ []) $ free1 ! $ move ! (30 ∷ 31 ∷ []) $ free1 ! $ move ! (28 ∷ 29 ∷ []) $ free1 ! $ move ! (26 ∷ 27 ∷ []) $ free1 ! $ move ! (24 ∷ 25 ∷ []) $ free1 ! $ move ! (22 ∷ 23 ∷ []) $ free1 ! $ move ! (20 ∷ 21 ∷ []) $ free1 ! $ move ! (18 ∷ 19 ∷ []) $ free1 ! $ move ! (16 ∷ 17 ∷ []) $ free1 ! $ move ! (14 ∷ 15 ∷ []) $ free1 ! $ move ! (12 ∷ 13 ∷ []) $ free1 ! $ move ! (10 ∷ 11 ∷ []) $ free1 ! $ move ! (8 ∷ 9 ∷ []) $ free1 ! $ free0 ! $
           move ! (7 ∷ 6 ∷ 5 ∷ 4 ∷ 3 ∷ 1 ∷ 2 ∷ 0 ∷ []) $
-          by ! (exits (x-b .1 .0) (e-b .0 .1 .0) (x-b .1 .1 .0) (e-b .0 .1 .1 .0) (x-b .1 .1 .1 .0) (e-b .0 .1 .1 .1 .0) (x-b .1 .1 .1 .1 .0) (e-b .0 .1 .1 .1 .1 .0) (x-b .1 .1 .1 .1 .1 .0) (e-b .0 .1 .1 .1 .1 .1 .0) (x-b .1 .1 .1 .1 .1 .1) (e-b .0 .1 .1 .1 .1 .1 .1) x-n n (g-n .1) (let c = e-b .1 in let a = told b (answerOf axes mode job (length work) (length pairs) (lengths out ids map log)) (c .0) n x-n report (e-n .1 .0) (e-n .1 .1) in (a .0, a .1, c .1, c .2, c .3, c .4, c .5, c .6)))))))))))))
+          by ! (exits (x-b .1 .0) (e-b .0 .1 .0) (x-b .1 .1 .0) (e-b .0 .1 .1 .0) (x-b .1 .1 .1 .0) (e-b .0 .1 .1 .1 .0) (x-b .1 .1 .1 .1 .0) (e-b .0 .1 .1 .1 .1 .0) (x-b .1 .1 .1 .1 .1 .0) (e-b .0 .1 .1 .1 .1 .1 .0) (x-b .1 .1 .1 .1 .1 .1) (e-b .0 .1 .1 .1 .1 .1 .1) x-n n (g-n .1) (record { answer = b; obeys = e-b .1; number-is = e-n .1 .0; report-is = e-n .1 .1 }))))))))))))
 
     walk : ent 𝓤 (onEntry 𝓤 H A ivs-build.signature (κ, (κ₂, (κ₃, (κ₄, (κ₅, (κ₆, (κ₇, (κ₈, tt)))))))) (θ, (θ₂, (θ₃, (θ₄, (θ₅, (θ₆, (θ₇, (θ₈, tt)))))))) (bound .0 .3) (bound .0 .4)) (WpFn 𝓤 H C Λ code.function (vint w32 axes ∷ vint w32 mode ∷ σ ∷ σ₂ ∷ σ₃ ∷ σ₄ ∷ σ₅ ∷ σ₆ ∷ σ₇ ∷ σ₈ ∷ []) Post)
     walk =

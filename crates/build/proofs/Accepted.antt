@@ -5,7 +5,8 @@ use mathlib.Core.List.{List, [], _∷_}
 use Prim.Native.Nat.{ℕ, _+_, _-_, _*_, _/_, _≤_, _<_}
 use native.Mathlib.Omega.{arith}
 use lib.Dec.{eqb, leb}
-use lib.ListN.{length, getD, length-append, length-map}
+use lib.ListN.{length, getD, take, drop, length-append, length-map, List·getD-append}
+use lib.Seq.{take-at}
 use borrow.Author.Tests.{eq-eqb, eqb-true, leb-true}
 use Rattle.laws.specs.Pick.{pick}
 use Rattle.laws.specs.Every.{All}
@@ -17,12 +18,13 @@ use Rattle.laws.proofs.EveryLaws.{all-imp, all-map, all-getD, two-getD}
 use Rattle.laws.proofs.ListLaws.{getD-map-in}
 use Rattle.laws.proofs.BytesLaws.{bytes-length}
 use Rattle.groups.specs.Groups.{maxShapes}
+use Rattle.rule.specs.Model.{Entry}
 use Rattle.rule.specs.Told.{words}
 use Rattle.store.specs.Placing.{allRuns, idWords}
 use Rattle.store.specs.Lent.{stored}
 use Rattle.said.specs.Records.{recordBytes}
 use Rattle.said.specs.Sets.{Region}
-use Rattle.said.specs.Job.{Said, Outcome, refused, fine, inAxes, walk, outcome}
+use Rattle.said.specs.Job.{Said, Outcome, refused, fine, inAxes, walk}
 use Rattle.said.specs.Open.{Open}
 use Rattle.said.proofs.SaidLaws.{room-of}
 use Rattle.said.proofs.SoundLaws.{Bytes, Coordinates, WellSaid, well-said, first-passed, fine-walk}
@@ -30,9 +32,11 @@ use Rattle.encoder.specs.Packed.{Packed}
 use Rattle.finishing.specs.declared.answers.Report.{Report}
 use Rattle.finishing.specs.declared.answers.Built.{Built}
 use Rattle.finishing.specs.declared.answers.Built.the-variants.{Refused, Done}
-use Rattle.finishing.specs.Late.{Lengths, storeFor, lateNo, reportOf, lateAnswer, ifDone, outLeft, idsLeft, mapLeft, logLeft}
-use Rattle.build.specs.Build.{regionBytes, coordsOf, packedOf, answerFrom, answerOf, leftFrom, outAfter, idsAfter, mapAfter, logAfter}
+use Rattle.finishing.specs.Buffers.{Buffers, Lengths, lengths}
+use Rattle.finishing.specs.Late.{storeFor, lateNo, reportOf, lateAnswer, written, buffersLeft}
+use Rattle.build.specs.Lending.{Lending}
+use Rattle.build.specs.Build.{regionBytes, coordsOf, packedOf, answerFrom, leftFrom, outcomeOf, answerOf, after}
 use Rattle.build.proofs.ReadBack.{Sized}
 
 -- ---- the sizes of what a sound job says
 
@@ -106,6 +110,12 @@ module _ (axes mode : ℕ) (job : List ℕ) (records : ℕ) (s : Said) (e : walk
         sets-few = omega (arith, room .0);
       }
 
+-- three words a merge
+pub words-length : (l : List Entry) → length (words l) ≡ 3 * length l
+unfolding words
+words-length [] = refl
+words-length (e ∷ l) = omega (arith, words-length l)
+
 -- ---- what is not refused late
 
 -- each of refusals 10 to 14 is not given
@@ -139,14 +149,23 @@ roomy axes coords k l z =
 
 -- ---- done
 
-pub record Accepted (axes mode : ℕ) (job : List ℕ) (work pairs : ℕ) (l : Lengths) (r : Report) : Type 0 where
+-- what is packed of a job that says s, and its store
+abbrev pub packedIn : Lending → Said → Packed
+packedIn c s = packedOf (c .mode) s
+
+abbrev pub storeIn : Lending → Said → List ℕ
+storeIn c s = storeFor (c .axes) (coordsOf s) (packedOf (c .mode) s)
+
+pub record Accepted (c : Lending) (r : Report) : Type 0 where
   pub said : Said
-  pub said-is : outcome axes mode job work pairs ≡ fine said
-  pub entered : Open axes mode (length job) work pairs
-  pub walked : walk axes mode job job (length job / recordBytes) 0 inAxes ≡ fine said
-  pub none-late : lateNo axes (coordsOf said) (packedOf mode said) l ≡ 0
-  pub room : Roomy axes (coordsOf said) (packedOf mode said) l
-  pub report-is : r ≡ reportOf axes (coordsOf said) (packedOf mode said)
+  pub said-is : outcomeOf c ≡ fine said
+  pub entered : Open (c .axes) (c .mode) (length (c .job)) (length (c .work)) (length (c .pairs))
+  pub walked : walk (c .axes) (c .mode) (c .job) (c .job) (length (c .job) / recordBytes) 0 inAxes ≡ fine said
+  pub none-late : lateNo (c .axes) (coordsOf said) (packedIn c said) (lengths (c .lent)) ≡ 0
+  pub room : Roomy (c .axes) (coordsOf said) (packedIn c said) (lengths (c .lent))
+  pub report-is : r ≡ reportOf (c .axes) (coordsOf said) (packedIn c said)
+  -- everything that is written
+  pub lent-is : after c .lent ≡ written (c .axes) (coordsOf said) (packedIn c said) (c .lent)
 
 abbrev reported : Report → Built → Report
 reported d (Refused n i) = d
@@ -164,48 +183,77 @@ late-done axes coords k l r e = go (which (eqb (lateNo axes coords k l) 0)) e
         (eqb-true (lateNo axes coords k l) 0 h, sym (ap (reported r) g))
     go (fails h) f = let g = rw h at f in let z : _≡_ {A = ℕ} 0 1 = cc in absurd (omega arith)
 
-pub accepted : (axes mode : ℕ) (job : List ℕ) (work pairs : ℕ) (l : Lengths) (r : Report) → answerOf axes mode job work pairs l ≡ Done r → Accepted axes mode job work pairs l r
+lent-done : (c : Lending) (s : Said) → outcomeOf c ≡ fine s → lateNo (c .axes) (coordsOf s) (packedIn c s) (lengths (c .lent)) ≡ 0
+    → after c .lent ≡ written (c .axes) (coordsOf s) (packedIn c s) (c .lent)
+unfolding leftFrom buffersLeft
+lent-done c s e z = rw (e, eq-eqb (lateNo (c .axes) (coordsOf s) (packedIn c s) (lengths (c .lent))) 0 z) refl
+
+pub accepted : (c : Lending) (r : Report) → answerOf c ≡ Done r → Accepted c r
 unfolding answerOf answerFrom
-accepted axes mode job work pairs l r e = go (outcome axes mode job work pairs) refl e
+accepted c r e = go (outcomeOf c) refl e
   where
-    go : (o : Outcome) → outcome axes mode job work pairs ≡ o → answerFrom axes mode l o ≡ Done r → Accepted axes mode job work pairs l r
+    go : (o : Outcome) → outcomeOf c ≡ o → answerFrom (c .axes) (c .mode) (lengths (c .lent)) o ≡ Done r → Accepted c r
     go (refused n i) f g = let z : _≡_ {A = ℕ} 0 1 = cc in absurd (omega arith)
     go (fine s) f g =
-        let w = fine-walk axes mode job work pairs s f in
-        let d = late-done axes (coordsOf s) (packedOf mode s) l r g in
+        let w = fine-walk (c .axes) (c .mode) (c .job) (length (c .work)) (length (c .pairs)) s f in
+        let d = late-done (c .axes) (coordsOf s) (packedIn c s) (lengths (c .lent)) r g in
         record {
           said = s;
           said-is = f;
           entered = w .0;
           walked = w .1;
           none-late = d .0;
-          room = roomy axes (coordsOf s) (packedOf mode s) l (d .0);
+          room = roomy (c .axes) (coordsOf s) (packedIn c s) (lengths (c .lent)) (d .0);
           report-is = d .1;
+          lent-is = lent-done c s f (d .0);
         }
 
 -- what its job says is of these sizes
-pub accepted-sized : (axes mode : ℕ) (job : List ℕ) (work pairs : ℕ) (l : Lengths) (r : Report) (a : Accepted axes mode job work pairs l r) → Bytes job
-    → Sized axes (length (a .said .used)) (coordsOf (a .said)) (a .said .sets)
-accepted-sized axes mode job work pairs l r a b =
-    sized axes mode job (length job / recordBytes) (a .said) (a .walked) (a .entered .some) b (a .entered .most) (a .entered .few)
+pub accepted-sized : (c : Lending) (r : Report) (a : Accepted c r) → Bytes (c .job) → Sized (c .axes) (length (a .said .used)) (coordsOf (a .said)) (a .said .sets)
+accepted-sized c r a b =
+    sized (c .axes) (c .mode) (c .job) (length (c .job) / recordBytes) (a .said) (a .walked) (a .entered .some) b (a .entered .most) (a .entered .few)
 
--- ---- and what is left in everything lent
+-- ---- and what is left in the buffers, one by one
 
-module _ (axes mode : ℕ) (job : List ℕ) (work pairs : ℕ) (l : Lengths) (s : Said) (e : outcome axes mode job work pairs ≡ fine s)
-    (z : lateNo axes (coordsOf s) (packedOf mode s) l ≡ 0) where
-  pub out-done : (old : List ℕ) → outAfter axes mode job work pairs l old
-      ≡ over old 0 (length (storeFor axes (coordsOf s) (packedOf mode s))) (storeFor axes (coordsOf s) (packedOf mode s))
-  unfolding outAfter leftFrom outLeft ifDone
-  out-done old = rw (e, eq-eqb (lateNo axes (coordsOf s) (packedOf mode s) l) 0 z) refl
+pub over-front : (old new : List ℕ) (n : ℕ) → n ≡ length new → take n (over old 0 (length new) new) ≡ new
+over-front old new n e = take-at new (drop (0 + length new) old) n (sym e)
 
-  pub ids-done : (old : List ℕ) → idsAfter axes mode job work pairs l old ≡ over old 0 (length (packedOf mode s .ids)) (packedOf mode s .ids)
-  unfolding idsAfter leftFrom idsLeft ifDone
-  ids-done old = rw (e, eq-eqb (lateNo axes (coordsOf s) (packedOf mode s) l) 0 z) refl
+over-at : (old new : List ℕ) (n : ℕ) → n < length new → getD (over old 0 (length new) new) n 0 ≡ getD new n 0
+over-at old new n h = List·getD-append new (drop (0 + length new) old) 0 n h
 
-  pub map-done : (old : List ℕ) → mapAfter axes mode job work pairs l old ≡ stored (idWords 0 (allRuns (packedOf mode s .finals))) old
-  unfolding mapAfter leftFrom mapLeft ifDone
-  map-done old = rw (e, eq-eqb (lateNo axes (coordsOf s) (packedOf mode s) l) 0 z) refl
+module _ (c : Lending) (r : Report) (a : Accepted c r) where
+  pub bytes-are : r .bytes ≡ length (storeIn c (a .said))
+  unfolding reportOf
+  bytes-are = ap (λ (t : Report). t .bytes) (a .report-is)
 
-  pub log-done : (old : List ℕ) → logAfter axes mode job work pairs l old ≡ over old 0 (length (words (packedOf mode s .log))) (words (packedOf mode s .log))
-  unfolding logAfter leftFrom logLeft ifDone
-  log-done old = rw (e, eq-eqb (lateNo axes (coordsOf s) (packedOf mode s) l) 0 z) refl
+  pub merges-are : r .merges ≡ length (packedIn c (a .said) .log)
+  unfolding reportOf
+  merges-are = ap (λ (t : Report). t .merges) (a .report-is)
+
+  pub out-is : after c .lent .out ≡ over (c .lent .out) 0 (length (storeIn c (a .said))) (storeIn c (a .said))
+  unfolding written
+  out-is = ap (λ (b : Buffers). b .out) (a .lent-is)
+
+  pub ids-is : after c .lent .ids ≡ over (c .lent .ids) 0 (length (packedIn c (a .said) .ids)) (packedIn c (a .said) .ids)
+  unfolding written
+  ids-is = ap (λ (b : Buffers). b .ids) (a .lent-is)
+
+  pub map-is : after c .lent .map ≡ stored (idWords 0 (allRuns (packedIn c (a .said) .finals))) (c .lent .map)
+  unfolding written
+  map-is = ap (λ (b : Buffers). b .map) (a .lent-is)
+
+  pub log-is : after c .lent .log ≡ over (c .lent .log) 0 (length (words (packedIn c (a .said) .log))) (words (packedIn c (a .said) .log))
+  unfolding written
+  log-is = ap (λ (b : Buffers). b .log) (a .lent-is)
+
+  -- the output begins with the store, and the log with the merges
+  pub store-front : take (r .bytes) (after c .lent .out) ≡ storeIn c (a .said)
+  store-front = ap (take (r .bytes)) out-is ∙ over-front (c .lent .out) (storeIn c (a .said)) (r .bytes) bytes-are
+
+  pub log-front : take (3 * r .merges) (after c .lent .log) ≡ words (packedIn c (a .said) .log)
+  log-front =
+      ap (take (3 * r .merges)) log-is
+      ∙ over-front (c .lent .log) (words (packedIn c (a .said) .log)) (3 * r .merges) (omega (arith, merges-are, words-length (packedIn c (a .said) .log)))
+
+  pub id-at : (n : ℕ) → n < length (packedIn c (a .said) .ids) → getD (after c .lent .ids) n 0 ≡ getD (packedIn c (a .said) .ids) n 0
+  id-at n h = ap (λ (l : List ℕ). getD l n 0) ids-is ∙ over-at (c .lent .ids) (packedIn c (a .said) .ids) n h
