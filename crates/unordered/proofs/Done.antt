@@ -1,85 +1,31 @@
 -- What is known of a build in mode 0 that is done: what its job says is well formed, its report is that of the packed sets, and what then lies in
 -- output, ids, map and log. Assumes nothing.
 use mathlib.Core.Path.{_≡_, refl, sym, ap, subst, _∙_}
-use mathlib.Core.Bool.{true}
-use mathlib.Core.List.{List, [], _∷_}
-use Prim.Native.Nat.{ℕ, _+_, _-_, _*_, _/_, _≤_, _<_}
+use mathlib.Core.List.{List, []}
+use Prim.Native.Nat.{ℕ, _+_, _*_, _/_, _≤_, _<_}
 use native.Mathlib.Omega.{arith}
-use lib.Dec.{eqb, leb}
-use lib.ListN.{length, getD, take, drop, length-map, List·getD-append}
-use lib.Seq.{take-at}
-use borrow.Author.Tests.{eq-eqb, eqb-true, leb-true}
-use Rattle.laws.specs.Pick.{pick}
+use lib.ListN.{length, getD, take, length-map}
 use Rattle.laws.specs.Every.{All}
-use Rattle.laws.specs.Bytes.{over}
-use Rattle.laws.proofs.Cases.{Which, which}
-use Rattle.laws.proofs.Cases.Which.{holds, fails}
 use Rattle.laws.proofs.EveryLaws.{all-and}
-use Rattle.groups.specs.Groups.{maxShapes}
 use Rattle.sets.specs.Set.{Set, Ascending, Proper}
 use Rattle.sets.specs.Ids.{place, distinct, sharedIds}
-use Rattle.sets.proofs.IdLaws.{id-at}
-use Rattle.rule.specs.Model.{Entry}
+use Rattle.sets.proofs.IdLaws as ids
 use Rattle.rule.specs.Told.{words}
 use Rattle.store.specs.Placing.{allRuns, idWords}
 use Rattle.store.specs.Lent.{stored}
 use Rattle.said.specs.Records.{recordBytes}
 use Rattle.said.specs.Job.{Said, fine}
-use Rattle.said.proofs.SoundLaws.{Bytes, WellSaid, well-said, first-passed, fine-walk}
+use Rattle.said.proofs.SoundLaws.{Bytes, WellSaid, well-said}
 use Rattle.encoder.specs.Packed.{Packed, shared}
 use Rattle.encoder.proofs.DenseIds.{ids-length}
 use Rattle.finishing.specs.declared.answers.Report.{Report}
-use Rattle.finishing.specs.declared.answers.Built.{Built}
-use Rattle.finishing.specs.declared.answers.Built.the-variants.{Refused, Done}
-use Rattle.finishing.specs.Late.{Lengths, storeFor, lateNo, reportOf, lateAnswer, ifDone, outLeft, idsLeft, mapLeft, logLeft}
-use Rattle.build.specs.Build.{coordsOf, packedOf, answerFrom, answerOf, leftFrom, outAfter, idsAfter, mapAfter, logAfter}
+use Rattle.finishing.specs.declared.answers.Built.the-variants.{Done}
+use Rattle.finishing.specs.Late.{storeFor, reportOf}
+use Rattle.build.specs.Lending.{Lending}
+use Rattle.build.specs.Build.{coordsOf, packedOf, outcomeOf, answerOf, after}
 use Rattle.build.proofs.PackedLaws.{Good, shared-good}
-use Rattle.unordered.specs.Same.{Lending, saidBy, answerTo, outOf, idsOf, mapOf, logOf}
+use Rattle.build.proofs.Accepted.{Accepted, accepted, packedIn, map-is, store-front, log-front, id-at}
 use Rattle.unordered.proofs.Alike.{Fine}
-
--- ---- lists put over others
-
-over-front : (old new : List ℕ) (n : ℕ) → n ≡ length new → take n (over old 0 (length new) new) ≡ new
-over-front old new n e = take-at new (drop (0 + length new) old) n (sym e)
-
-over-at : (old new : List ℕ) (n : ℕ) → n < length new → getD (over old 0 (length new) new) n 0 ≡ getD new n 0
-over-at old new n h = List·getD-append new (drop (0 + length new) old) 0 n h
-
-words-long : (l : List Entry) → 3 * length l ≡ length (words l)
-unfolding words
-words-long [] = refl
-words-long (e ∷ l) = omega (arith, words-long l)
-
--- ---- not refused
-
-reported : Report → Built → Report
-reported d (Refused n i) = d
-reported d (Done r) = r
-
-late-done : (axes : ℕ) (coords : List (List ℕ)) (k : Packed) (l : Lengths) (r : Report) → lateAnswer axes coords k l ≡ Done r
-    → (lateNo axes coords k l ≡ 0) × (r ≡ reportOf axes coords k)
-unfolding lateAnswer reported
-late-done axes coords k l r e = go (which (eqb (lateNo axes coords k l) 0)) e
-  where
-    go : Which (eqb (lateNo axes coords k l) 0) → pick (eqb (lateNo axes coords k l) 0) (Done (reportOf axes coords k)) (Refused (lateNo axes coords k l) 0) ≡ Done r
-        → (lateNo axes coords k l ≡ 0) × (r ≡ reportOf axes coords k)
-    go (holds h) f =
-        let g : Done (reportOf axes coords k) ≡ Done r = rw h at f in
-        (eqb-true (lateNo axes coords k l) 0 h, sym (ap (reported r) g))
-    go (fails h) f = let g = rw h at f in let z : _≡_ {A = ℕ} 0 1 = cc in absurd (omega arith)
-
--- MAP_SHORT "fewer words than distinct ids" is not given
-map-fits : (axes : ℕ) (coords : List (List ℕ)) (k : Packed) (l : Lengths) → lateNo axes coords k l ≡ 0 → length (k .sets) ≤ l .map
-unfolding lateNo
-map-fits axes coords k l z =
-    let t₁ = leb (k .groups) maxShapes in
-    let t₂ = leb (length (k .ids)) (l .ids) in
-    let t₃ = leb (length (k .sets)) (l .map) in
-    let t₄ = leb (3 * (k .groups - 1)) (l .log) in
-    let t₅ = leb (length (storeFor axes coords k)) (l .out) in
-    let a = first-passed t₁ 9 ((t₂, 11) ∷ (t₃, 12) ∷ (t₄, 13) ∷ (t₅, 14) ∷ []) z in
-    let b = first-passed t₂ 10 ((t₃, 12) ∷ (t₄, 13) ∷ (t₅, 14) ∷ []) (a .1) in
-    leb-true (length (k .sets)) (l .map) (first-passed t₃ 11 ((t₄, 13) ∷ (t₅, 14) ∷ []) (b .1) .0)
 
 -- ---- the packed sets of mode 0
 
@@ -111,76 +57,47 @@ pub record IsDone (axes : ℕ) (a : Lending) (s : Said) (c : Report) : Type 0 wh
   pub fine-sets : All (Fine (length (s .used))) (s .sets)
   pub good : Good (length (s .used)) (packedOf 0 s)
   pub report-is : c ≡ reportOf axes (coordsOf s) (packedOf 0 s)
-  pub map-room : length (packedOf 0 s .sets) ≤ length (a .map)
-  pub store-is : take (c .bytes) (outOf axes a) ≡ storeFor axes (coordsOf s) (packedOf 0 s)
-  pub log-is : take (3 * c .merges) (logOf axes a) ≡ words (packedOf 0 s .log)
-  pub map-is : mapOf axes a ≡ stored (idWords 0 (allRuns (packedOf 0 s .finals))) (a .map)
-  -- the id of the n-th set is the place of that among the distinct ones
-  pub id-is : (n : ℕ) → n < length (s .sets) → getD (idsOf axes a) n 0 ≡ place (getD (s .sets) n []) (distinct (s .sets))
+  pub map-room : length (packedOf 0 s .sets) ≤ length (a .lent .map)
+  pub store-is : take (c .bytes) (after a .lent .out) ≡ storeFor axes (coordsOf s) (packedOf 0 s)
+  pub log-is : take (3 * c .merges) (after a .lent .log) ≡ words (packedOf 0 s .log)
+  pub map-is : after a .lent .map ≡ stored (idWords 0 (allRuns (packedOf 0 s .finals))) (a .lent .map)
+  -- the id of set n is the place of that among the distinct ones
+  pub id-is : (n : ℕ) → n < length (s .sets) → getD (after a .lent .ids) n 0 ≡ place (getD (s .sets) n []) (distinct (s .sets))
 
-module _ (axes : ℕ) (a : Lending) (s : Said) (c : Report) (bytes : Bytes (a .job)) (e : saidBy axes a ≡ fine s) (done : answerTo axes a ≡ Done c) where
-  abbrev k : Packed
-  k = packedOf 0 s
+module _ (a : Lending) (c : Report) (mode : a .mode ≡ 0) (bytes : Bytes (a .job)) (z : Accepted a c) where
+  packed-is : packedIn a (z .said) ≡ packedOf 0 (z .said)
+  packed-is = ap (λ (m : ℕ). packedOf m (z .said)) mode
 
-  abbrev room : Lengths
-  room = record { out = length (a .out); ids = length (a .ids); map = length (a .map); log = length (a .log) }
+  ids-here : packedIn a (z .said) .ids ≡ sharedIds (z .said .sets)
+  ids-here = ap (λ (k : Packed). k .ids) packed-is ∙ ids-are (z .said)
 
-  late : lateAnswer axes (coordsOf s) k room ≡ Done c
-  unfolding answerOf answerFrom
-  late = rw e at done
+  well : WellSaid (a .axes) (a .job) (length (a .job) / recordBytes) (z .said)
+  well = well-said (a .axes) (a .mode) (a .job) (length (a .job) / recordBytes) (z .said) (z .entered .some) bytes (z .walked)
 
-  late-none : lateNo axes (coordsOf s) k room ≡ 0
-  late-none = late-done axes (coordsOf s) k room c late .0
-
-  report : c ≡ reportOf axes (coordsOf s) k
-  report = late-done axes (coordsOf s) k room c late .1
-
-  bytes-is : c .bytes ≡ length (storeFor axes (coordsOf s) k)
-  unfolding reportOf
-  bytes-is = ap (λ (r : Report). r .bytes) report
-
-  merges-is : c .merges ≡ length (k .log)
-  unfolding reportOf
-  merges-is = ap (λ (r : Report). r .merges) report
-
-  none : eqb (lateNo axes (coordsOf s) k room) 0 ≡ true
-  none = eq-eqb (lateNo axes (coordsOf s) k room) 0 late-none
-
-  out-done : outOf axes a ≡ over (a .out) 0 (length (storeFor axes (coordsOf s) k)) (storeFor axes (coordsOf s) k)
-  unfolding outAfter leftFrom outLeft ifDone
-  out-done = rw (e, none) refl
-
-  ids-done : idsOf axes a ≡ over (a .ids) 0 (length (k .ids)) (k .ids)
-  unfolding idsAfter leftFrom idsLeft ifDone
-  ids-done = rw (e, none) refl
-
-  map-done : mapOf axes a ≡ stored (idWords 0 (allRuns (k .finals))) (a .map)
-  unfolding mapAfter leftFrom mapLeft ifDone
-  map-done = rw (e, none) refl
-
-  log-done : logOf axes a ≡ over (a .log) 0 (length (words (k .log))) (words (k .log))
-  unfolding logAfter leftFrom logLeft ifDone
-  log-done = rw (e, none) refl
-
-  well : WellSaid axes (a .job) (length (a .job) / recordBytes) s
-  well = let w = fine-walk axes 0 (a .job) (a .work) (a .pairs) s e in well-said axes 0 (a .job) (length (a .job) / recordBytes) s (w .0 .some) bytes (w .1)
-
-  id-at-set : (n : ℕ) → n < length (s .sets) → getD (idsOf axes a) n 0 ≡ place (getD (s .sets) n []) (distinct (s .sets))
+  id-at-set : (n : ℕ) → n < length (z .said .sets) → getD (after a .lent .ids) n 0 ≡ place (getD (z .said .sets) n []) (distinct (z .said .sets))
   id-at-set n h =
-      ap (λ (l : List ℕ). getD l n 0) ids-done
-      ∙ over-at (a .ids) (k .ids) n (omega (arith, ap length (ids-are s), ids-length (s .sets)))
-      ∙ ap (λ (l : List ℕ). getD l n 0) (ids-are s)
-      ∙ id-at (s .sets) n h
+      id-at a c z n (omega (arith, ap length ids-here, ids-length (z .said .sets)))
+      ∙ ap (λ (l : List ℕ). getD l n 0) ids-here
+      ∙ ids.id-at (z .said .sets) n h
 
-  -- THE LAW
-  pub is-done : IsDone axes a s c
-  is-done = record {
-    fine-sets = all-and (Ascending 0) (Proper (length (s .used))) (s .sets) (well .good .sets-rising) (well .good .sets-proper);
-    good = subst (Good (length (s .used))) (sym (shared-of s)) (shared-good (length (s .used)) (s .sets) (well .good .sets-proper) (well .words-low));
-    report-is = report;
-    map-room = map-fits axes (coordsOf s) k room late-none;
-    store-is = ap (take (c .bytes)) out-done ∙ over-front (a .out) (storeFor axes (coordsOf s) k) (c .bytes) bytes-is;
-    log-is = ap (take (3 * c .merges)) log-done ∙ over-front (a .log) (words (k .log)) (3 * c .merges) (omega (arith, merges-is, words-long (k .log)));
-    map-is = map-done;
-    id-is = id-at-set;
-  }
+  done-so : IsDone (a .axes) a (z .said) c
+  done-so =
+      let s = z .said in
+      record {
+        fine-sets = all-and (Ascending 0) (Proper (length (s .used))) (s .sets) (well .good .sets-rising) (well .good .sets-proper);
+        good = subst (Good (length (s .used))) (sym (shared-of s)) (shared-good (length (s .used)) (s .sets) (well .good .sets-proper) (well .words-low));
+        report-is = z .report-is ∙ ap (reportOf (a .axes) (coordsOf s)) packed-is;
+        map-room = subst (λ (k : Packed). length (k .sets) ≤ length (a .lent .map)) packed-is (z .room .map-fits);
+        store-is = store-front a c z ∙ ap (storeFor (a .axes) (coordsOf s)) packed-is;
+        log-is = log-front a c z ∙ ap (λ (k : Packed). words (k .log)) packed-is;
+        map-is = map-is a c z ∙ ap (λ (k : Packed). stored (idWords 0 (allRuns (k .finals))) (a .lent .map)) packed-is;
+        id-is = id-at-set;
+      }
+
+-- THE LAW
+pub is-done : (a : Lending) (s : Said) (c : Report) → a .mode ≡ 0 → Bytes (a .job) → outcomeOf a ≡ fine s → answerOf a ≡ Done c → IsDone (a .axes) a s c
+is-done a s c mode bytes e done =
+    let z = accepted a c done in
+    let f = z .said-is in
+    let same : z .said ≡ s = cc in
+    subst (λ (x : Said). IsDone (a .axes) a x c) same (done-so a c mode bytes z)

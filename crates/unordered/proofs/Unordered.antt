@@ -1,5 +1,5 @@
 -- The order of glyphs does not show: two builds in mode 0 that are done, of jobs that say the same sets over the same regions. Assumes nothing.
-use mathlib.Core.Path.{_≡_, sym, ap, subst, _∙_}
+use mathlib.Core.Path.{_≡_, refl, sym, ap, subst, _∙_}
 use mathlib.Core.List.{List, [], map}
 use Prim.Native.Nat.{ℕ, _<_}
 use native.Mathlib.Omega.{arith}
@@ -15,9 +15,10 @@ use Rattle.encoder.specs.Packed.{Packed, shared}
 use Rattle.finishing.specs.declared.answers.Report.{Report}
 use Rattle.finishing.specs.declared.answers.Built.the-variants.{Done}
 use Rattle.finishing.specs.Late.{storeFor, reportOf}
-use Rattle.build.specs.Build.{regionBytes, coordsOf, packedOf}
+use Rattle.build.specs.Lending.{Lending}
+use Rattle.build.specs.Build.{regionBytes, coordsOf, packedOf, outcomeOf, answerOf, after}
 use Rattle.build.proofs.PackedLaws.{Good}
-use Rattle.unordered.specs.Same.{SameSets, Lending, saidBy, answerTo, mapOf, placeOf, SameBuild}
+use Rattle.unordered.specs.Same.{SameSets, placeOf, SameBuild}
 use Rattle.unordered.proofs.Alike.{Fine}
 use Rattle.unordered.proofs.Rows.{map-map, Renamed, shared-same}
 use Rattle.unordered.proofs.Stores.{store-same, report-same, word-same}
@@ -58,24 +59,24 @@ module _ (axes : ℕ) (a b : Lending) (s t : Said) (c d : Report) (same : SameSe
       ∙ ap (λ (x : List (List ℕ)). reportOf axes x (packedOf 0 t)) (same .regions-same)
       ∙ sym (q .report-is)
 
-  places-same : (x y : ℕ) → x < length (s .sets) → y < length (t .sets) → getD (s .sets) x [] ≡ getD (t .sets) y [] → placeOf axes a x ≡ placeOf axes b y
+  places-same : (x y : ℕ) → x < length (s .sets) → y < length (t .sets) → getD (s .sets) x [] ≡ getD (t .sets) y [] → placeOf a x ≡ placeOf b y
   places-same x y h k e =
       let u = getD (s .sets) x [] in
       let i = place u (distinct (s .sets)) in
       let low : i < length (packedOf 0 s .sets) = omega (arith, ap length (sets-are s), id-below (s .sets) x h) in
       let that : other i ≡ place (getD (t .sets) y []) (distinct (t .sets)) =
       ap (λ (z : Set). place z (distinct (t .sets))) (place-here u (distinct (s .sets)) (id-below (s .sets) x h) ∙ e) in
-      ap (λ (z : ℕ). getD (mapOf axes a) z 0) (p .id-is x h)
+      ap (λ (z : ℕ). getD (after a .lent .map) z 0) (p .id-is x h)
       ∙ ap (λ (l : List ℕ). getD l i 0) (p .map-is)
-      ∙ word-same n other (packedOf 0 s) (packedOf 0 t) renamed (p .good) good-t (a .map) (b .map) i low (p .map-room) (q .map-room)
+      ∙ word-same n other (packedOf 0 s) (packedOf 0 t) renamed (p .good) good-t (a .lent .map) (b .lent .map) i low (p .map-room) (q .map-room)
       ∙ ap (λ (l : List ℕ). getD l (other i) 0) (sym (q .map-is))
-      ∙ ap (λ (z : ℕ). getD (mapOf axes b) z 0) (that ∙ sym (q .id-is y k))
+      ∙ ap (λ (z : ℕ). getD (after b .lent .map) z 0) (that ∙ sym (q .id-is y k))
 
-  both : SameBuild axes a b s t c d
-  both = record {
+  both : a .axes ≡ axes → b .axes ≡ axes → SameBuild a b s t c d
+  both f g = record {
     counts = reports;
-    store = stores;
-    store-is = p .store-is;
+    store = ap (λ (n : ℕ). storeFor n (coordsOf s) (packedOf 0 s)) f ∙ stores ∙ sym (ap (λ (n : ℕ). storeFor n (coordsOf t) (packedOf 0 t)) g);
+    store-is = p .store-is ∙ sym (ap (λ (n : ℕ). storeFor n (coordsOf s) (packedOf 0 s)) f);
     out = p .store-is ∙ stores ∙ sym (q .store-is);
     log = p .log-is ∙ ap words (renamed .log-is) ∙ sym (q .log-is);
     places = places-same;
@@ -90,8 +91,9 @@ regions-same s t e =
 -- THE THEOREM: "two accepted jobs over the same axis count, whose sets have the same contents as a collection (repeats ignored) and whose regions come into
 -- first use in the same order with equal coordinates, give the same store bytes, log and counts, and equal sets map to equal places", in mode 0,
 -- whatever is lent for either
-pub unordered : (axes : ℕ) (a b : Lending) (s t : Said) (c d : Report) → Bytes (a .job) → Bytes (b .job)
-    → saidBy axes a ≡ fine s → saidBy axes b ≡ fine t → SameSets s t → answerTo axes a ≡ Done c → answerTo axes b ≡ Done d
-    → SameBuild axes a b s t c d
-unordered axes a b s t c d bytes bytes′ e f same done done′ =
-    both axes a b s t c d same (is-done axes a s c bytes e done) (is-done axes b t d bytes′ f done′)
+pub unordered : (a b : Lending) (s t : Said) (c d : Report) → a .mode ≡ 0 → b .mode ≡ 0 → a .axes ≡ b .axes → Bytes (a .job) → Bytes (b .job)
+    → outcomeOf a ≡ fine s → outcomeOf b ≡ fine t → SameSets s t → answerOf a ≡ Done c → answerOf b ≡ Done d
+    → SameBuild a b s t c d
+unordered a b s t c d m m′ x bytes bytes′ e f same done done′ =
+    both (a .axes) a b s t c d same (is-done a s c m bytes e done)
+    (subst (λ (n : ℕ). IsDone n b t d) (sym x) (is-done b t d m′ bytes′ f done′)) refl (sym x)

@@ -8,7 +8,7 @@ use Prim.Native.Nat.{ℕ, zero, suc, _+_, _<_}
 use native.Mathlib.Decide.{decLt}
 use native.Mathlib.Omega.{arith}
 use lib.Dec.{ltb}
-use lib.ListN.{length, getD, replicate}
+use lib.ListN.{length, getD, replicate, length-replicate}
 use borrow.Author.Tests.{ltb-true}
 use Rattle.laws.specs.Bag.{weigh}
 use Rattle.laws.specs.Bounded.{allBelow, tabulate}
@@ -40,9 +40,13 @@ use Rattle.said.proofs.SoundLaws.{Bytes}
 use Rattle.encoder.specs.Packed as packed
 use Rattle.finishing.specs.declared.answers.Report.{Report}
 use Rattle.finishing.specs.declared.answers.Built.the-variants.{Done}
-use Rattle.finishing.specs.Late.{storeFor, regionsKept, lateNo, reportOf, lateAnswer, ifDone, outLeft, idsLeft, mapLeft, logLeft}
-use Rattle.build.specs.Build.{regionBytes, coordsOf, packedOf, answerFrom, answerOf, leftFrom, outAfter, idsAfter, mapAfter, logAfter}
-use Rattle.unordered.specs.Same.{SameSets, Lending, saidBy, answerTo, outOf, idsOf, mapOf, logOf, SameBuild}
+use Rattle.pairs.specs.declared.Pair.{Pair}
+use Rattle.pairs.specs.Queue.{none}
+use Rattle.finishing.specs.Buffers.{Buffers, buffers, lengths}
+use Rattle.finishing.specs.Late.{storeFor, regionsKept, lateNo, reportOf, lateAnswer, written, buffersLeft}
+use Rattle.build.specs.Lending.{Lending, lending}
+use Rattle.build.specs.Build.{regionBytes, coordsOf, packedOf, answerFrom, leftFrom, outcomeOf, answerOf}
+use Rattle.unordered.specs.Same.{SameSets, SameBuild}
 use Rattle.unordered.proofs.Unordered.{unordered}
 
 -- ---- jobs
@@ -74,11 +78,15 @@ job-b =
     ++ (valueRecord 0 0 1 ++ (valueRecord 1 0 1 ++ (endRecord
     ++ (valueRecord 0 1 44 ++ endRecord))))))))
 
-abbrev a : Lending
-a = record { job = job-a; work = 4096; pairs = pairRecords; out = replicate 64 0; ids = replicate 3 0; map = replicate 3 0; log = replicate 6 0 }
+abbrev lent-a : Buffers
+lent-a = buffers (replicate 64 0) (replicate 3 0) (replicate 3 0) (replicate 6 0)
 
-abbrev b : Lending
-b = record { job = job-b; work = 4096; pairs = pairRecords; out = replicate 60 9; ids = replicate 5 9; map = replicate 4 9; log = replicate 7 9 }
+abbrev lent-b : Buffers
+lent-b = buffers (replicate 60 9) (replicate 5 9) (replicate 4 9) (replicate 7 9)
+
+-- with work and pair records of these lengths, whatever they hold
+abbrev words-lent : ℕ
+words-lent = 4096
 
 -- ---- what they say
 
@@ -104,7 +112,13 @@ s = says (one ∷ wide ∷ [] ∷ []) 3
 abbrev t : job.Said
 t = says (wide ∷ [] ∷ one ∷ wide ∷ []) 4
 
-said-both : (saidBy 1 a ≡ job.fine s) × (saidBy 1 b ≡ job.fine t)
+abbrev outcome-a : job.Outcome
+outcome-a = job.outcome 1 0 job-a words-lent pairRecords
+
+abbrev outcome-b : job.Outcome
+outcome-b = job.outcome 1 0 job-b words-lent pairRecords
+
+said-both : (outcome-a ≡ job.fine s) × (outcome-b ≡ job.fine t)
 unfolding allBelow be signed word zeros axisZeros valueZeros endZeros valueWord firstFailed publishedWork earlyNo axisNo valueNo endNo said.coordinates said.regionList said.sameRegion said.like said.firstLike said.has said.withUse said.indexIn said.placed said.withValue job.unless job.afterValue job.afterEnd job.valueStep job.endStep job.setStep job.regionsOnly job.step job.endedSets job.ended job.follow job.walk job.outcomeFrom job.outcome
 said-both = (refl, refl)
 
@@ -148,16 +162,47 @@ bytes-of (x ∷ l) h (suc k) = bytes-of l (and-true (ltb x 256) (allLow l) h .1)
 abbrev c : Report
 c = record { bytes = 47; subtables = 1; regions = 2; ids = 3; groups = 3; merges = 2; weighed = 4; before = 40; after = 23; forecast = 47 }
 
+abbrev left-a : Buffers
+left-a = leftFrom 1 0 lent-a outcome-a
+
+abbrev left-b : Buffers
+left-b = leftFrom 1 0 lent-b outcome-b
+
 abbrev Answers : Type 0
 Answers =
-    (answerTo 1 a ≡ Done c) × (answerTo 1 b ≡ Done c)
-    × (idsOf 1 a ≡ 0 ∷ 1 ∷ 2 ∷ []) × (idsOf 1 b ≡ 0 ∷ 1 ∷ 2 ∷ 0 ∷ 9 ∷ [])
-    × (mapOf 1 a ≡ 1 ∷ 2 ∷ 0 ∷ []) × (mapOf 1 b ≡ 2 ∷ 0 ∷ 1 ∷ 9 ∷ [])
-    × (logOf 1 a ≡ 1 ∷ 2 ∷ 10 ∷ 0 ∷ 3 ∷ 7 ∷ []) × (logOf 1 b ≡ 1 ∷ 2 ∷ 10 ∷ 0 ∷ 3 ∷ 7 ∷ 9 ∷ [])
+    (answerFrom 1 0 (lengths lent-a) outcome-a ≡ Done c) × (answerFrom 1 0 (lengths lent-b) outcome-b ≡ Done c)
+    × (left-a .ids ≡ 0 ∷ 1 ∷ 2 ∷ []) × (left-b .ids ≡ 0 ∷ 1 ∷ 2 ∷ 0 ∷ 9 ∷ [])
+    × (left-a .map ≡ 1 ∷ 2 ∷ 0 ∷ []) × (left-b .map ≡ 2 ∷ 0 ∷ 1 ∷ 9 ∷ [])
+    × (left-a .log ≡ 1 ∷ 2 ∷ 10 ∷ 0 ∷ 3 ∷ 7 ∷ []) × (left-b .log ≡ 1 ∷ 2 ∷ 10 ∷ 0 ∷ 3 ∷ 7 ∷ 9 ∷ [])
 
 answers : Answers
-unfolding weigh allBelow tabulate be bytesOf compared thenBy isMost fits isZero signed twos word value insert sorted keep widthOf costOf rowCost columns overhead join shapes.widthsOrder shapes.order groupCost joined gain wordOf sameSet sets.byWords sets.orderNone sets.orderHead sets.order place withSet idsFrom distinctFrom groups.shapeOf groups.placed groups.withShape groups.groupsFrom groups.groupsOf rule.keepOut rule.outs rule.pairWith rule.keepPair rule.pairs rule.either rule.better rule.lead rule.best rule.worth rule.ifWorth rule.choice rule.entry rule.merge rule.follow rule.step rule.run rule.number rule.start rule.merged rule.total decLt words addIf ofWidth columnsOf wordCount bytesFor wordIn cellsOf rowOf rows.joinAll rows.runCount store.runsOf store.allRuns store.inRun store.idWords store.names rows.indexBytes rows.rowsOf rows.subtableOf store.offsetsOf store.listOf store.placed store.storeOf store.modelOf store.modelled store.forecastOf stored zeros axisZeros valueZeros endZeros valueWord firstFailed publishedWork earlyNo axisNo valueNo endNo said.coordinates said.regionList said.sameRegion said.like said.firstLike said.has said.withUse said.indexIn said.placed said.withValue job.unless job.afterValue job.afterEnd job.valueStep job.endStep job.setStep job.regionsOnly job.step job.endedSets job.ended job.follow job.walk job.outcomeFrom job.outcome packed.noLater packed.dense packed.sameShape packed.numberOf packed.isAmong packed.belongs packed.finalOf packed.isAhead packed.finalsOf packed.shared storeFor regionsKept lateNo reportOf lateAnswer ifDone outLeft idsLeft mapLeft logLeft regionBytes coordsOf packedOf answerFrom answerOf leftFrom outAfter idsAfter mapAfter logAfter
+unfolding weigh allBelow tabulate be bytesOf compared thenBy isMost fits isZero signed twos word value insert sorted keep widthOf costOf rowCost columns overhead join shapes.widthsOrder shapes.order groupCost joined gain wordOf sameSet sets.byWords sets.orderNone sets.orderHead sets.order place withSet idsFrom distinctFrom groups.shapeOf groups.placed groups.withShape groups.groupsFrom groups.groupsOf rule.keepOut rule.outs rule.pairWith rule.keepPair rule.pairs rule.either rule.better rule.lead rule.best rule.worth rule.ifWorth rule.choice rule.entry rule.merge rule.follow rule.step rule.run rule.number rule.start rule.merged rule.total decLt words addIf ofWidth columnsOf wordCount bytesFor wordIn cellsOf rowOf rows.joinAll rows.runCount store.runsOf store.allRuns store.inRun store.idWords store.names rows.indexBytes rows.rowsOf rows.subtableOf store.offsetsOf store.listOf store.placed store.storeOf store.modelOf store.modelled store.forecastOf stored zeros axisZeros valueZeros endZeros valueWord firstFailed publishedWork earlyNo axisNo valueNo endNo said.coordinates said.regionList said.sameRegion said.like said.firstLike said.has said.withUse said.indexIn said.placed said.withValue job.unless job.afterValue job.afterEnd job.valueStep job.endStep job.setStep job.regionsOnly job.step job.endedSets job.ended job.follow job.walk job.outcomeFrom job.outcome packed.noLater packed.dense packed.sameShape packed.numberOf packed.isAmong packed.belongs packed.finalOf packed.isAhead packed.finalsOf packed.shared storeFor regionsKept lateNo reportOf lateAnswer written buffersLeft regionBytes coordsOf packedOf answerFrom leftFrom
 answers = (refl, refl, refl, refl, refl, refl, refl, refl)
 
-pub worked : SameBuild 1 a b s t c c
-worked = unordered 1 a b s t c c (bytes-of job-a refl) (bytes-of job-b refl) (said-both .0) (said-both .1) same (answers .0) (answers .1)
+module _ (work : List ℕ) (pairs : List Pair) (w : length work ≡ words-lent) (p : length pairs ≡ pairRecords) where
+  abbrev a : Lending
+  a = lending 1 0 job-a work pairs lent-a
+
+  abbrev b : Lending
+  b = lending 1 0 job-b work pairs lent-b
+
+  said-a : outcomeOf a ≡ job.fine s
+  said-a = rw (w, p) (said-both .0)
+
+  said-b : outcomeOf b ≡ job.fine t
+  said-b = rw (w, p) (said-both .1)
+
+  done-a : answerOf a ≡ Done c
+  unfolding answerOf
+  done-a = rw (w, p) (answers .0)
+
+  done-b : answerOf b ≡ Done c
+  unfolding answerOf
+  done-b = rw (w, p) (answers .1)
+
+  pub worked : SameBuild a b s t c c
+  worked = unordered a b s t c c refl refl refl (bytes-of job-a refl) (bytes-of job-b refl) said-a said-b same done-a done-b
+
+-- such work and pair records are there
+pub worked-there : SameBuild (lending 1 0 job-a (replicate words-lent 0) (replicate pairRecords none) lent-a) (lending 1 0 job-b (replicate words-lent 0) (replicate pairRecords none) lent-b) s t c c
+worked-there = worked (replicate words-lent 0) (replicate pairRecords none) (length-replicate {A = ℕ} words-lent 0) (length-replicate pairRecords none)
