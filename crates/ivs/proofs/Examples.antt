@@ -38,10 +38,10 @@ use Rattle.finishing.specs.declared.answers.Report.{Report}
 use Rattle.finishing.specs.declared.answers.Built.{Built}
 use Rattle.finishing.specs.declared.answers.Built.the-variants.{Done}
 use Rattle.pairs.specs.declared.Pair.{Pair}
-use Rattle.pairs.specs.Queue.{none}
 use Rattle.finishing.specs.Buffers.{Buffers, buffers, lengths}
 use Rattle.finishing.specs.Late.{storeFor, regionsKept, lateNo, reportOf, lateAnswer, written, buffersLeft}
-use Rattle.build.specs.Build.{regionBytes, coordsOf, packedOf, answerFrom, leftFrom}
+use Rattle.build.specs.Lending.{Lending, lending}
+use Rattle.build.specs.Build.{regionBytes, coordsOf, packedOf, answerFrom, leftFrom, outcomeOf, answerOf, after}
 
 -- ---- jobs of one axis, with R0 and R1: in each set a region number and a value for each value record
 
@@ -130,6 +130,14 @@ builtWith mode bytes old work =
       log = new .log;
       work = workLeft 1 mode (length bytes) pairRecords work;
     }
+
+-- so a call with that many pair records answers and leaves
+pub built-as : (mode : ℕ) (bytes : List ℕ) (old : Buffers) (work : List ℕ) (pairs : List Pair) → length pairs ≡ pairRecords
+    → (answerOf (lending 1 mode bytes work pairs old) ≡ builtWith mode bytes old work .answer)
+    × (after (lending 1 mode bytes work pairs old) .lent ≡ leftFrom 1 mode old (job.outcome 1 mode bytes (length work) pairRecords))
+    × (after (lending 1 mode bytes work pairs old) .work ≡ builtWith mode bytes old work .work)
+unfolding answerOf
+built-as mode bytes old work pairs e = rw e (refl, refl, refl)
 
 -- with one word of work more than is published
 abbrev built : Ask → Left
