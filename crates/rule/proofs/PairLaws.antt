@@ -7,9 +7,14 @@ use Prim.Native.Nat.{ℕ, zero, suc, _+_, _<_}
 use lib.ListN.{length}
 use native.Mathlib.Omega.{arith}
 use Rattle.laws.specs.Bag.{weigh}
+use Rattle.laws.specs.Pick.{pick}
+use Rattle.laws.specs.Order.{compared, thenBy, isMost}
 use Rattle.laws.specs.Every.{All, EachTwo}
+use Rattle.laws.proofs.Cases.{Tri, tri}
+use Rattle.laws.proofs.Cases.Tri.{below, same, above}
+use Rattle.laws.proofs.OrderLaws.{compared-less, compared-more, compared-same}
 use Rattle.laws.proofs.EveryLaws.{all-imp, all-and, all-append, all-left, all-right, two-imp, all-map, all-unmap}
-use Rattle.rule.specs.Model.{Living, Pair, Ahead, gainOf, keepOut, outs, pairWith, keepPair, pairs, either, better, lead, best, worth, ifWorth, choice}
+use Rattle.rule.specs.Model.{Living, Pair, Ahead, gainOf, keepOut, outs, pairWith, keepPair, pairs, better, lead, best, worth, ifWorth, choice}
 
 -- ---- what is true of each pair of a list
 
@@ -59,22 +64,44 @@ ahead-trans : (c d e : Pair) → ahead c d → ahead d e → ahead c e
 ahead-trans c d e p q =
     (omega arith, λ u. let p1 = p .1 (omega arith) in let q1 = q .1 (omega arith) in (omega arith, λ v. let p2 = p1 .1 (omega arith) in let q2 = q1 .1 (omega arith) in omega arith))
 
+-- the better of two is one of them, and ahead of the other
+better-one : (c d : Pair) → (ahead c d × (better c d ≡ c)) ⊎ (ahead d c × (better c d ≡ d))
+unfolding better thenBy isMost
+better-one c d = byGain (tri (gainOf (d .first) (d .second)) (gainOf (c .first) (c .second)))
+  where
+    bySecond : gainOf (d .first) (d .second) ≡ gainOf (c .first) (c .second) → c .first .num ≡ d .first .num → Tri (c .second .num) (d .second .num)
+        → (ahead c d × (better c d ≡ c)) ⊎ (ahead d c × (better c d ≡ d))
+    bySecond e f (below h) = inl ((omega arith, λ u. (omega arith, λ v. omega arith)), rw (compared-same _ _ e, compared-same _ _ f, compared-less _ _ h))
+    bySecond e f (same h) = inl ((omega arith, λ u. (omega arith, λ v. omega arith)), rw (compared-same _ _ e, compared-same _ _ f, compared-same _ _ h))
+    bySecond e f (above h) = inr ((omega arith, λ u. (omega arith, λ v. omega arith)), rw (compared-same _ _ e, compared-same _ _ f, compared-more _ _ h))
+
+    byFirst : gainOf (d .first) (d .second) ≡ gainOf (c .first) (c .second) → Tri (c .first .num) (d .first .num)
+        → (ahead c d × (better c d ≡ c)) ⊎ (ahead d c × (better c d ≡ d))
+    byFirst e (below h) = inl ((omega arith, λ u. (omega arith, λ v. absurd (omega arith))), rw (compared-same _ _ e, compared-less _ _ h))
+    byFirst e (same h) = bySecond e h (tri (c .second .num) (d .second .num))
+    byFirst e (above h) = inr ((omega arith, λ u. (omega arith, λ v. absurd (omega arith))), rw (compared-same _ _ e, compared-more _ _ h))
+
+    byGain : Tri (gainOf (d .first) (d .second)) (gainOf (c .first) (c .second)) → (ahead c d × (better c d ≡ c)) ⊎ (ahead d c × (better c d ≡ d))
+    byGain (below h) = inl ((omega arith, λ e. absurd (omega arith)), rw (compared-less _ _ h))
+    byGain (same h) = byFirst h (tri (c .first .num) (d .first .num))
+    byGain (above h) = inr ((omega arith, λ e. absurd (omega arith)), rw (compared-more _ _ h))
+
 abbrev Leads : List Pair → Option Pair → Type 0
 Leads cs none = All (λ _. ⊥) cs
 Leads cs (some c) = All (ahead c) cs
 
 best-leads : (cs : List Pair) → Leads cs (best cs)
-unfolding best lead better
+unfolding best lead
 best-leads [] = tt
 best-leads (c ∷ cs) = go (best cs) (best-leads cs)
   where
-    by : (d : Pair) → All (ahead d) cs → (w : ahead c d ⊎ ahead d c) → All (ahead (⊎-elim (λ _. c) (λ _. d) w)) (c ∷ cs)
-    by d h (inl p) = (ahead-self c, all-imp (λ e q. ahead-trans c d e p q) cs h)
-    by d h (inr p) = (p, h)
+    by : (d : Pair) → All (ahead d) cs → (ahead c d × (better c d ≡ c)) ⊎ (ahead d c × (better c d ≡ d)) → All (ahead (better c d)) (c ∷ cs)
+    by d h (inl p) = rw (p .1) (ahead-self c, all-imp (λ e q. ahead-trans c d e (p .0) q) cs h)
+    by d h (inr p) = rw (p .1) (p .0, h)
 
     go : (o : Option Pair) → Leads cs o → Leads (c ∷ cs) (lead c o)
     go none h = (ahead-self c, all-imp (λ e x. absurd x) cs h)
-    go (some d) h = by d h (either (c .first) (c .second) (d .first) (d .second))
+    go (some d) h = by d h (better-one c d)
 
 -- what holds of each pair of a list holds of the best
 abbrev Of : (Pair → Type 0) → Option Pair → Type 0
@@ -82,17 +109,17 @@ Of P none = Unit {0}
 Of P (some c) = P c
 
 best-in : (P : Pair → Type 0) (cs : List Pair) → All P cs → Of P (best cs)
-unfolding best lead better
+unfolding best lead
 best-in P [] h = tt
 best-in P (c ∷ cs) h = go (best cs) (best-in P cs (h .1))
   where
-    by : (d : Pair) → P d → (w : ahead c d ⊎ ahead d c) → P (⊎-elim (λ _. c) (λ _. d) w)
-    by d k (inl p) = h .0
-    by d k (inr p) = k
+    by : (d : Pair) → P d → (ahead c d × (better c d ≡ c)) ⊎ (ahead d c × (better c d ≡ d)) → P (better c d)
+    by d k (inl p) = rw (p .1) (h .0)
+    by d k (inr p) = rw (p .1) k
 
     go : (o : Option Pair) → Of P o → Of P (lead c o)
     go none k = h .0
-    go (some d) k = by d k (either (c .first) (c .second) (d .first) (d .second))
+    go (some d) k = by d k (better-one c d)
 
 choice-in : (P : Pair → Type 0) (l : List Living) → All P (pairs l) → Of P (choice l)
 unfolding choice ifWorth worth

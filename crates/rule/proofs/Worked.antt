@@ -1,12 +1,13 @@
 -- P8, P9, P10 and P12 of document 01: what the rule merges there, computed. The one file of this crate that looks into `shapes`.
 use mathlib.Core.Path.{_≡_, refl}
 use mathlib.Core.List.{List, [], _∷_, map}
-use native.Mathlib.Decide.{decLt}
+use Rattle.laws.specs.Pick.{pick}
 use Prim.Native.Nat.{ℕ}
+use Rattle.laws.specs.Order.{compared, thenBy, isMost}
 use Rattle.laws.specs.Bag.{weigh}
 use Rattle.shapes.specs.Shape.{rowCost, columns, overhead, join}
 use Rattle.shapes.specs.Group.{Group, groupCost, joined, gain}
-use Rattle.rule.specs.Model.{Entry, keepOut, outs, pairWith, keepPair, pairs, either, better, lead, best, worth, ifWorth, choice, entry, merge, follow, step, run, number, start, merged, total}
+use Rattle.rule.specs.Model.{Entry, keepOut, outs, pairWith, keepPair, pairs, better, lead, best, worth, ifWorth, choice, entry, merge, follow, step, run, number, start, merged, total}
 
 -- the log, the pairs weighed, the size before and after
 pub record Told : Type 0 where
@@ -22,7 +23,7 @@ abbrev pub logged : ℕ → ℕ → ℕ → Entry
 logged a b g = record { first = a; second = b; gain = g }
 
 unfoldable pub told : List Group → Told
-unfolding merged run step follow choice best pairs outs lead better either worth ifWorth decLt gain joined groupCost overhead columns rowCost join start number merge entry keepOut keepPair pairWith total weigh
+unfolding merged run step follow choice best pairs outs lead better compared thenBy isMost worth ifWorth gain joined groupCost overhead columns rowCost join start number merge entry keepOut keepPair pairWith total weigh
 told xs = record { log = merged xs .log; weighed = merged xs .weighed; before = total (start xs .living); after = total (merged xs .living) }
 
 pub worked : map told (

@@ -1,13 +1,12 @@
 -- Merging, as document 01 says it, on lists: numbers, living groups, the best pair, the next unused number. It computes. What a group costs, what
 -- two gain and what they become is `shapes`' own; nothing here looks into it. Assumes nothing.
 use mathlib.Core.Path.{_≡_}
-use mathlib.Core.Logic.{_⊎_, inl, inr, ⊎-elim}
 use mathlib.Core.Option.{Option, none, some}
 use mathlib.Core.List.{List, [], _∷_, _++_, map}
 use Prim.Native.Nat.{ℕ, zero, suc, _+_, _≤_, _<_}
 use lib.ListN.{length}
-use native.Mathlib.Decide.{decLt}
-use native.Mathlib.Omega.{arith}
+use Rattle.laws.specs.Pick.{pick}
+use Rattle.laws.specs.Order.{compared, thenBy, isMost}
 use Rattle.laws.specs.Bag.{weigh}
 use Rattle.shapes.specs.Group.{Group, groupCost, gain, joined}
 
@@ -59,28 +58,13 @@ pairs (g ∷ l) = map (pairWith g) (outs l) ++ map (keepPair g) (pairs l)
 abbrev pub Ahead : Living → Living → Living → Living → Type 0
 Ahead a b g h = (gainOf g h ≤ gainOf a b) × (gainOf g h ≡ gainOf a b → (a .num ≤ g .num) × (a .num ≡ g .num → b .num ≤ h .num))
 
--- of two pairs one is ahead: three comparisons
-unfoldable pub either : (a b g h : Living) → Ahead a b g h ⊎ Ahead g h a b
-unfolding decLt
-either a b g h = byGain (decLt (gainOf a b) (gainOf g h)) (decLt (gainOf g h) (gainOf a b))
-  where
-    bySecond : gainOf a b ≡ gainOf g h → a .num ≡ g .num → Dec (h .num < b .num) → Ahead a b g h ⊎ Ahead g h a b
-    bySecond e e′ (yes p) = inr (omega arith, λ u. (omega arith, λ v. omega arith))
-    bySecond e e′ (no n) = inl (omega arith, λ u. (omega arith, λ v. omega arith))
-
-    byFirst : gainOf a b ≡ gainOf g h → Dec (a .num < g .num) → Dec (g .num < a .num) → Ahead a b g h ⊎ Ahead g h a b
-    byFirst e (yes p) d = inl (omega arith, λ u. (omega arith, λ v. omega arith))
-    byFirst e (no n) (yes q) = inr (omega arith, λ u. (omega arith, λ v. omega arith))
-    byFirst e (no n) (no m) = bySecond e (omega arith) (decLt (h .num) (b .num))
-
-    byGain : Dec (gainOf a b < gainOf g h) → Dec (gainOf g h < gainOf a b) → Ahead a b g h ⊎ Ahead g h a b
-    byGain (yes p) d = inr (omega arith, λ e. absurd (omega arith))
-    byGain (no n) (yes q) = inl (omega arith, λ e. absurd (omega arith))
-    byGain (no n) (no m) = byFirst (omega arith) (decLt (a .num) (g .num)) (decLt (g .num) (a .num))
-
+-- the one of two that is ahead: the greater gain, then the smaller first number, then the smaller second
 unfoldable pub better : Pair → Pair → Pair
-unfolding either
-better c d = ⊎-elim (λ _. c) (λ _. d) (either (c .first) (c .second) (d .first) (d .second))
+better c d =
+    pick (isMost
+    (thenBy (compared (gainOf (d .first) (d .second)) (gainOf (c .first) (c .second)))
+    (thenBy (compared (c .first .num) (d .first .num))
+    (compared (c .second .num) (d .second .num))))) c d
 
 unfoldable pub lead : Pair → Option Pair → Option Pair
 lead c none = some c
