@@ -7,3 +7,5 @@ pub mod Rooms
 pub mod Counts
 pub mod Rows
 pub mod GlyphWords
+pub mod SetsRead
+pub mod Sized
