@@ -1,12 +1,11 @@
--- Demand 2 from the job's bytes to the store's: "Read by the OpenType rules, each id's row gives back its adjustment for every region, and zero for
--- one it never named." Assumes nothing.
+-- Demand 2 from the job's bytes to the store's (specs/SetsRead.antt): what the job says (`told`) meets what is read back (Demand2). Assumes nothing.
 use mathlib.Core.Path.{_≡_, refl, sym, ap, _∙_}
 use mathlib.Core.List.{List, [], map}
-use mathlib.Core.Logic.{_⊎_, inl, inr, ⊎-elim}
+use mathlib.Core.Logic.{inl, inr, ⊎-elim}
 use Prim.Native.Nat.{ℕ, _+_, _*_, _%_, _^_, _≤_, _<_}
 use native.Mathlib.Omega.{arith}
 use lib.IntN.{ℤ, pos}
-use lib.ListN.{length, getD, take, drop, length-map}
+use lib.ListN.{length, getD, take, length-map}
 use lib.Seq.{getD-drop}
 use Rattle.laws.specs.Bytes.{be}
 use Rattle.laws.specs.Signed.{signed, word, value, zeroWord}
@@ -14,55 +13,20 @@ use Rattle.laws.proofs.ListLaws.{getD-map-in}
 use Rattle.laws.proofs.SignedLaws.{value-twos, word-value}
 use Rattle.sets.specs.Set.{wordOf}
 use Rattle.reader.specs.declared.reader.Reading.the-variants.{Written, NoColumn}
-use Rattle.reader.specs.Store.{readStore, valueOf, listAt, regionCount}
+use Rattle.reader.specs.Store.{readStore, valueOf, regionCount}
 use Rattle.said.specs.Records.{regionOf, valueWord}
 use Rattle.said.specs.Sets.{Region}
 use Rattle.said.specs.Job.{Said}
 use Rattle.said.proofs.RecordLaws.{be-two, be-four}
 use Rattle.said.proofs.SoundLaws.{Bytes}
-use Rattle.told.specs.Told.{recordAt, recordCount, endsBefore, ValueIn, coordinatesAt, indexOf, Told}
+use Rattle.told.specs.Told.{recordAt, ValueIn, coordinatesAt, indexOf, Told}
 use Rattle.told.proofs.Bytes.{told}
 use Rattle.finishing.specs.declared.answers.Report.{Report}
 use Rattle.finishing.specs.declared.answers.Built.the-variants.{Done}
 use Rattle.build.specs.Lending.{Lending}
 use Rattle.build.specs.Build.{regionBytes, coordsOf, answerOf, after}
+use Rattle.ivs.specs.SetsRead.{listed, namedBy, valueAt, InStore, SetRead, SetsRead}
 use Rattle.ivs.proofs.Demand2.{SetBack, RegionBack, InList, Demand2, demand2}
-
--- "start, peak, end per axis" of region q of a store's list
-abbrev pub listed : ℕ → List ℕ → ℕ → List ℕ
-listed axes store q = take (6 * axes) (drop (listAt store + 4 + 6 * axes * q) store)
-
--- and of the region that record i of a job names, from its axis records
-abbrev pub namedBy : ℕ → List ℕ → ℕ → List ℕ
-namedBy axes job i = regionBytes (coordinatesAt axes job (regionOf (recordAt job i)))
-
--- "signed 32-bit value": that of record i
-abbrev pub valueAt : List ℕ → ℕ → ℤ
-valueAt job i = signed 4 (be 4 (recordAt job i) 4)
-
-pub record InStore (axes : ℕ) (job store : List ℕ) (i : ℕ) : Type 0 where
-  pub index : ℕ
-  pub below : index < regionCount store
-  pub coordinates : listed axes store index ≡ namedBy axes job i
-
--- set n of a job, read from a store at a map word
-pub record SetRead (axes : ℕ) (job store : List ℕ) (n at : ℕ) : Type 0 where
-  -- "The id's map word is outer x 65,536 + inner."
-  pub outer : ℕ
-  pub inner : ℕ
-  pub inner-below : inner < 65536
-  pub word-is : at ≡ outer * 65536 + inner
-  -- "Written with the value; NoColumn ..": never a refusal
-  pub answers : (q : ℕ) → q < regionCount store
-      → (readStore store outer inner q ≡ Written (valueOf (readStore store outer inner q))) ⊎ (readStore store outer inner q ≡ NoColumn)
-  -- "gives back its adjustment for every region": that of each value record of the set, at the region of the same coordinates
-  pub given : (i : ℕ) → ValueIn job n i → (q : ℕ) → q < regionCount store → listed axes store q ≡ namedBy axes job i
-      → valueOf (readStore store outer inner q) ≡ valueAt job i
-  -- "A region not in the list counts as zero in every row": a region whose value is not zero is there
-  pub in-list : (i : ℕ) → ValueIn job n i → (valueAt job i ≡ pos 0 → ⊥) → InStore axes job store i
-  -- "and zero for one it never named"
-  pub unnamed : (q : ℕ) → q < regionCount store → ((i : ℕ) → ValueIn job n i → listed axes store q ≡ namedBy axes job i → ⊥)
-      → valueOf (readStore store outer inner q) ≡ pos 0
 
 -- ---- a record's value
 
@@ -141,11 +105,13 @@ module _ (axes : ℕ) (job : List ℕ) (s : Said) (bytes : Bytes job) (t : Told 
     }
 
 -- THE LAW: of every done build and every end record, by the job's bytes and the lent memory alone
-pub bytes-back : (c : Lending) (r : Report) → Bytes (c .job) → answerOf c ≡ Done r → (n : ℕ) → n < endsBefore (c .job) (recordCount (c .job))
-    → SetRead (c .axes) (c .job) (take (r .bytes) (after c .lent .out)) n (getD (after c .lent .map) (getD (after c .lent .ids) n 0) 0)
-bytes-back c r bytes e n h =
+pub bytes-back : (c : Lending) (r : Report) → Bytes (c .job) → answerOf c ≡ Done r → SetsRead c r
+bytes-back c r bytes e =
     let d = demand2 c r bytes e in
     let s = d .said in
     let t = told (c .axes) (c .mode) (c .job) (length (c .work)) (length (c .pairs)) s (d .said-is) in
-    let k : n < length (s .sets) = omega (arith, t .sets-are) in
-    set-read (c .axes) (c .job) s bytes t (take (r .bytes) (after c .lent .out)) n (getD (after c .lent .map) (getD (after c .lent .ids) n 0) 0) k (d .sets-back n k)
+    record {
+      sets-read = λ n h.
+          let k : n < length (s .sets) = omega (arith, t .sets-are) in
+          set-read (c .axes) (c .job) s bytes t (take (r .bytes) (after c .lent .out)) n (getD (after c .lent .map) (getD (after c .lent .ids) n 0) 0) k (d .sets-back n k);
+    }

@@ -7,3 +7,5 @@ pub mod Counts
 pub mod Rows
 pub mod GlyphWords
 pub mod Told
+pub mod SetsRead
+pub mod Sized

@@ -1,3 +1,4 @@
 pub mod Shares
 pub mod CountLaws
 pub mod Counted
+pub mod Worked

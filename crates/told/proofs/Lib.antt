@@ -1,3 +1,4 @@
 pub mod WordLaws
 pub mod TellLaws
 pub mod Bytes
+pub mod Worked
