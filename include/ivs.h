@@ -1,7 +1,8 @@
-/* Fenikezo: item variation stores. Link with libivs.a (`rt staticlib ivs`), which is for x86-64.
+/* Fenikezo: item variation stores. Link with libivs.a (`rt staticlib ivs`), which is for x86-64. docs/RULES.md has the
+ * rules, by labels (J1, R5), which are given below.
  *
- * A slice passes as a pointer and a length. A pointer must not be null, also where the length is 0, and must be aligned for its type;
- * nothing lent may overlap anything else that is lent. */
+ * A slice passes as a pointer and a length. A pointer must not be null, also where the length is 0, and must be aligned
+ * for its type; nothing lent may overlap anything else that is lent. */
 #ifndef IVS_H
 #define IVS_H
 
@@ -12,7 +13,8 @@
 extern "C" {
 #endif
 
-/* The 32-bit words of work that a job of r records needs, 16 r + min(r, 1,024)^2; 0 above the record limit (1,048,576). */
+/* The 32-bit words of work that a job of r records needs (J7), 16 r + min(r, 1,024)^2; 0 above the record limit
+ * (1,048,576). */
 size_t ivs_work_words(size_t records);
 
 /* A record for a pair of groups that waits to be merged: room that is lent, with nothing in it for who lends it. */
@@ -23,36 +25,41 @@ typedef struct {
 /* The pair records that a build needs, whatever its job is. */
 #define IVS_PAIRS 1048576
 
-/* One build: a job (records of 12 bytes) into a store. The mode is 0 deduplicating or 1 implicit indices. The answer is the refusal number,
- * 0 for done (1 BAD_AXES, 2 BAD_MODE, 3 BAD_JOB_LENGTH, 4 WORK_SHORT, 5 BAD_RECORD, 6 UNKNOWN_REGION, 7 REGION_TWICE, 8 UNFINISHED,
+/* One build: a job (records of 12 bytes, J1) into a store. The mode is 0 deduplicating or 1 implicit indices. The
+ * answer is the refusal number, 0 for done; R1 to R14 say when each is given, T1 to T5 which one (1 BAD_AXES,
+ * 2 BAD_MODE, 3 BAD_JOB_LENGTH, 4 WORK_SHORT, 5 BAD_RECORD, 6 UNKNOWN_REGION, 7 REGION_TWICE, 8 UNFINISHED,
  * 9 SETS_FULL, 10 SHAPES_FULL, 11 IDS_SHORT, 12 MAP_SHORT, 13 LOG_SHORT, 14 OUT_SHORT).
  *
- * Lent: work, as many words as ivs_work_words says; pairs, at least IVS_PAIRS records; out, for the store's bytes; ids, a word for each set,
- * its id; map, a word for each distinct id, outer x 65,536 + inner; log, 3 words for each shape but one, of which each merge fills 3: first
- * number, second number, gain. What they hold before does not matter. What is not written is left as it was, and a refusal writes nothing to
- * out, ids, map and log. Work and pairs are left as they were by 1 to 4, and all zeros, to the last word and record, after every other answer.
- * Too few words of work and too few pairs are both WORK_SHORT.
+ * Lent: work, as many words as ivs_work_words says; pairs, at least IVS_PAIRS records; out, for the store's bytes; ids,
+ * a word for each set, its id; map, a word for each distinct id, outer x 65,536 + inner; log, 3 words for each shape
+ * but one, of which each merge fills 3: first number, second number, gain. What they hold before does not matter. What
+ * is not written is left as it was, and a refusal writes nothing to out, ids, map and log. Refusals 1 to 4 leave work
+ * and pairs as they were; every other answer leaves zeros in all of them (L1 to L4). Too few words of work and too few
+ * pairs are both WORK_SHORT.
  *
- * The report has 16 words, and all are written: 0 the number, 1 the place (the record's index from 0 for 5, 6, 7 and 9, the record count for
- * 8, else 0), 2 store bytes, 3 subtables, 4 regions kept, 5 distinct ids, 6 N (shapes before merging), 7 merges, 8 pairs weighed, 9 modelled
- * size before merging, 10 after, 11 forecast, 12 to 15 zero. A refusal has zeros from 2 on. */
+ * The report has 16 words, and all are written (H2, A1): 0 the number, 1 the place (which record, from 0 on, for 5, 6,
+ * 7 and 9; how many records for 8; 0 for all others), 2 store bytes, 3 subtables, 4 regions kept, 5 distinct ids, 6 N
+ * (shapes before merging), 7 merges, 8 pairs weighed, 9 modelled size before merging, 10 after, 11 forecast, 12 to 15
+ * zero. A refusal has zeros from 2 on. */
 uint32_t ivs_build(uint32_t axes, uint32_t mode, const uint8_t *job, size_t job_len, uint32_t *work, size_t work_len, ivs_pair *pairs,
                    size_t pairs_len, uint8_t *out, size_t out_len, uint32_t *ids, size_t ids_len, uint32_t *map, size_t map_len,
                    uint32_t *log, size_t log_len, uint64_t *report);
 
-/* The value of a region of the store's list in row `inner` of subtable `outer`. High half: 0 written, 1 no column (which means zero), else
- * the refusal number (20 BAD_STORE, 21 NO_ROW, 22 NO_REGION); low half: the value's 32 bits, 0 unless written. Any bytes may be read. */
+/* The value of a region of the store's list in row `inner` of subtable `outer` (V1 to V8, H3). High half: 0 written, 1
+ * no column (which means zero), else the refusal number (20 BAD_STORE, 21 NO_ROW, 22 NO_REGION); low half: the value's
+ * 32 bits, 0 unless written. Any bytes may be read. */
 uint64_t ivs_read(const uint8_t *store, size_t store_len, uint32_t outer, uint32_t inner, uint32_t region);
 
-/* A glyph map (OpenType's DeltaSetIndexMap) of a word for each glyph, outer x 65,536 + inner, at most 1,048,576 of them, into out. The inner
- * bits and the bytes of an entry are the fewest that hold every word; trailing repeats are left out. High half: 0 written, else the refusal
- * number (40 TOO_MANY_GLYPHS, 41 GLYPH_MAP_SHORT); low half: the bytes written, 0 unless written. 6 + 4 x words_len bytes always do. What is
- * not written is left as it was, and a refusal writes nothing. No words: the empty map, 4 bytes of zero. */
+/* A glyph map (OpenType's DeltaSetIndexMap; G1 to G5, H4) of a word for each glyph, outer x 65,536 + inner, at most
+ * 1,048,576 of them, into out. The inner bits and the bytes of an entry are the fewest that hold every word; trailing
+ * repeats are left out. High half: 0 written, else the refusal number (40 TOO_MANY_GLYPHS, 41 GLYPH_MAP_SHORT); low
+ * half: the bytes written, 0 unless written. 6 + 4 x words_len bytes always do. What is not written is left as it was,
+ * and a refusal writes nothing. No words: the empty map, 4 bytes of zero. */
 uint64_t ivs_write_glyphs(const uint32_t *words, size_t words_len, uint8_t *out, size_t out_len);
 
-/* The word of a glyph; one past the end of the map has the last entry's. High half: 0 read, else the refusal number (42 BAD_GLYPH_MAP: a
- * format above 1, a reserved bit, a map that is empty or runs past the end, or an outer number above 65,535); low half: the word, 0 unless
- * read. Any bytes may be read. */
+/* The word of a glyph; one past the end of the map has the last entry's (G6, G7, H4). High half: 0 read, else the
+ * refusal number (42 BAD_GLYPH_MAP: a format above 1, a reserved bit, a map that is empty or runs past the end, or an
+ * outer number above 65,535); low half: the word, 0 unless read. Any bytes may be read. */
 uint64_t ivs_read_glyph(const uint8_t *map, size_t map_len, uint32_t glyph);
 
 #ifdef __cplusplus

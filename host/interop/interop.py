@@ -115,7 +115,7 @@ def stores(path):
 
 
 def made():
-    """Stores at a limit of document 01 and just past it, where no font at hand is."""
+    """Stores at a limit of docs/RULES.md and just past it, where no font at hand is."""
     tents = [((0, peak, peak),) for peak in range(1, 258)]
     for more in (0, 1):
         tent = [(axis - 32, 256 * axis, 16384 - axis) for axis in range(64 + more)]
@@ -132,7 +132,7 @@ def every_store(paths):
 
 
 def job(store):
-    """The job's bytes, by document 01's table of records."""
+    """The job's bytes, by the table of records in docs/RULES.md (J1)."""
     records = []
     for number, region in enumerate(store.regions):
         records += [pack(">BBBx3h2x", 1, number & 0xFF, axis, *tent) for axis, tent in enumerate(region)]
@@ -143,7 +143,7 @@ def job(store):
 
 
 def refusal(store, mode):
-    """The number and place that document 01 gives for a store past a limit, else (0, 0)."""
+    """The number and place that the rules give for a store past a limit, else (0, 0)."""
     at = store.axes * len(store.regions)
     if store.axes > 64:
         return 1, 0
@@ -236,7 +236,7 @@ def rows(folder, paths):
                 sizes.append(f"refused {built.answer[0]}")
                 refused += 1
         print(TABLE.format(store.name, len(store.regions), len(store.rows), *subtables, *sizes))
-    print(f"equal: {equal['font']} rows of fonts, {equal['made']} made; refused as document 01 says: {refused} builds")
+    print(f"equal: {equal['font']} rows of fonts, {equal['made']} made; refused by rule: {refused} builds")
 
 
 # Advances

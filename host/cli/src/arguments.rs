@@ -52,7 +52,7 @@ pub struct Build {
     pub json: bool,
 }
 
-/// Document 01's modes.
+/// The two modes (J2).
 #[derive(Clone, Copy, ValueEnum)]
 pub enum Mode {
     Dedup = 0,

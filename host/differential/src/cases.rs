@@ -27,7 +27,7 @@ fn both(axes: usize, job: &[u8], name: &dyn fmt::Display, visit: &mut dyn FnMut(
     }
 }
 
-/// Document 01's examples and other small jobs, each in its mode.
+/// The worked examples and other small jobs, each in its mode.
 pub fn examples(visit: &mut dyn FnMut(&Case<'_>)) {
     for example in examples::all() {
         visit(&Case {
@@ -126,7 +126,7 @@ pub fn damaged(seeds: std::ops::Range<u64>, visit: &mut dyn FnMut(&Case<'_>)) {
     }
 }
 
-/// The large jobs at document 01's limits, refused ones too, in both modes.
+/// The large jobs at the limits of the rules, refused ones too, in both modes.
 pub fn edges(visit: &mut dyn FnMut(&Case<'_>)) {
     let mut show = |name: &str, job: Job| both(job.axes, &job.to_bytes(), &name, visit);
     show("65,535 sets of one shape", edges::one_shape(65_535));

@@ -33,12 +33,12 @@ fn replayed(run: Result<Run, String>) -> Run {
     })
 }
 
-/// Document 01's examples.
+/// The worked examples.
 pub fn examples() -> Run {
     Run::over(ALL, cases::examples)
 }
 
-/// The edges of document 01.
+/// The edges.
 pub fn edges() -> Run {
     Run::over(Share { around: 0, ..ALL }, cases::edges)
 }

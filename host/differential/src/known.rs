@@ -17,7 +17,7 @@ pub struct Known {
 
 /// What the source answers.
 pub struct Source {
-    /// The store, its pieces placed as document 01 says.
+    /// The store, its pieces placed as B4 says.
     pub store: Vec<u8>,
     /// The id of each set.
     pub ids: Vec<u32>,

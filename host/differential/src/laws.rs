@@ -1,4 +1,4 @@
-//! What document 01 says of every done build, whoever did it.
+//! What the rules say of every done build, whoever did it.
 
 use crate::check::same;
 use jobs::{Job, Region};
@@ -125,7 +125,7 @@ pub fn rows_read_back(
     Ok(())
 }
 
-/// The regions of a store placed as document 01 says.
+/// The regions of a store placed as B4 says.
 fn region_list(store: &[u8], axes: usize) -> Vec<Region> {
     let at = u32::from_be_bytes([store[2], store[3], store[4], store[5]]) as usize;
     let count = u16::from_be_bytes([store[at + 2], store[at + 3]]) as usize;

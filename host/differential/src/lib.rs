@@ -1,5 +1,5 @@
-//! The plain reading of document 01 compared with the source, with recorded
-//! answers, and with what the document says of every answer; the proved build and
+//! The plain reading of docs/RULES.md compared with the source, with recorded
+//! answers, and with what the rules say of every answer; the proved build and
 //! reader compared with the plain reading, with the source and with recorded answers.
 //!
 //! * [`cases`]: the jobs to compare on, one after another: examples, all small

@@ -143,7 +143,7 @@ fn over(least: &Sizes) -> Sizes {
 }
 
 /// One call in lent memory of these sizes gives this answer, and leaves that memory as
-/// document 01 says.
+/// L1 to L3 say.
 fn compare(
     case: &Case<'_>,
     sizes: &Sizes,

@@ -17,7 +17,7 @@ pub fn least(job: &[u8], done: &Done) -> Sizes {
     }
 }
 
-/// "mode 0, N at least 1, fewer than 3 x (N-1) words"; N is 0 in mode 1.
+/// What R13 asks for; N is 0 in mode 1.
 fn log_words(counts: &Counts) -> usize {
     3 * (counts.shapes as usize).saturating_sub(1)
 }

@@ -29,12 +29,12 @@ fn built_cases() {
 }
 
 #[test]
-fn examples_of_the_document() {
+fn worked_examples() {
     held("examples", &kinds::examples());
 }
 
 #[test]
-fn edges_of_the_document() {
+fn edges() {
     held("edges", &kinds::edges());
 }
 

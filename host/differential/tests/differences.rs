@@ -1,5 +1,5 @@
-//! Where document 01 and the source part: one input for each, with both answers.
-//! docs/DIFFERENCES.md tells them in words. Document 01's answer is the plain reading's and
+//! Where the rules and the source part: one input for each, with both answers.
+//! docs/DIFFERENCES.md tells them in words. The rules' answer is the plain reading's and
 //! the proved build's; without the source only that is shown.
 
 use differential::proved::alike;
@@ -103,7 +103,7 @@ fn no_axes_and_many() {
 
 #[test]
 fn list_and_subtable_of_equal_bytes() {
-    // Document 01 places both ("No gaps or sharing"); the source's crate writes
+    // Both are placed (B4); the source's crate writes
     // tables of equal bytes once.
     let job = Job {
         axes: 1,

@@ -1,6 +1,5 @@
-//! Document 01's examples with the numbers that the document gives, and its edges
-//! that are not marked P, by the plain reading and by the proved build. What the document
-//! says stands in quotes.
+//! The worked examples of docs/RULES.md (P1 to P12) with the numbers given there, and the
+//! edges (E1 to E4), by the plain reading and by the proved build.
 
 use differential::proved;
 use jobs::{edges, examples, hex, Job};
@@ -35,8 +34,7 @@ fn one_subtable(done: &Done, columns: usize) -> (u16, Vec<u8>, Vec<u8>) {
     )
 }
 
-/// "P1 no sets: 12 bytes, no subtables. P2 the same in mode 1: 16 bytes, one null
-/// offset."
+/// No sets, in both modes.
 #[test]
 fn p1_and_p2() {
     let p1 = example("P1");
@@ -48,7 +46,7 @@ fn p1_and_p2() {
     assert_eq!(p2.counts.forecast, 16);
 }
 
-/// "P3 {R0:10}: 31 bytes: [..]; map word 0."
+/// {R0:10}, byte for byte.
 #[test]
 fn p3() {
     let p3 = example("P3");
@@ -57,7 +55,7 @@ fn p3() {
     assert_eq!((p3.counts.store_bytes, p3.map), (31, vec![0]));
 }
 
-/// "P4 {R0:0}: 22 bytes, one row of no bytes, no regions kept."
+/// {R0:0}: the row has no bytes.
 #[test]
 fn p4() {
     let p4 = example("P4");
@@ -65,14 +63,14 @@ fn p4() {
     assert_eq!(p4.store[16..], [0, 1, 0, 0, 0, 0]);
 }
 
-/// "P5 {R0:-128, R1:128}: columns R1, R0; word count 1; row `0080 80`."
+/// {R0:-128, R1:128}: the wider column is first.
 #[test]
 fn p5() {
     let subtable = one_subtable(&example("P5"), 2);
     assert_eq!(subtable, (1, vec![0, 1, 0, 0], vec![0x00, 0x80, 0x80]));
 }
 
-/// "P6 127 is One, -129 Two."
+/// 127 takes a byte and -129 two.
 #[test]
 fn p6() {
     let one = one_subtable(&example("P6, 127"), 1);
@@ -81,18 +79,17 @@ fn p6() {
     assert_eq!(two, (1, vec![0, 0], vec![0xFF, 0x7F]));
 }
 
-/// "P7 {R0:100, R1:70000}: word count 0x8001; row `00011170 0064`."
+/// {R0:100, R1:70000}: a One beside a Four takes two bytes.
 #[test]
 fn p7() {
     let p7 = example("P7");
     let row = vec![0x00, 0x01, 0x11, 0x70, 0x00, 0x64];
     assert_eq!(one_subtable(&p7, 2), (0x8001, vec![0, 1, 0, 0], row));
-    // Document 02, #102: the forecast "says 43 bytes and the store has 44".
+    // The forecast is a byte short there (A3).
     assert_eq!((p7.counts.forecast, p7.counts.store_bytes), (43, 44));
 }
 
-/// "P8 {R0:1}, {R1:1}: log (0, 1, 8), size 26 to 18, 42 bytes; id 0 at (0,1), id 1
-/// at (0,0)."
+/// {R0:1}, {R1:1}: one merge, and the rows in their order.
 #[test]
 fn p8() {
     let p8 = example("P8");
@@ -102,8 +99,7 @@ fn p8() {
     assert_eq!((p8.ids, p8.map), (vec![0, 1], vec![1, 0]));
 }
 
-/// "P9 five different sets on R0 and five on R1, all One: gain 0, two subtables.
-/// P10 five and four, likewise different: gain 1, one."
+/// Five sets on R0 and five on R1 gain nothing; five and four gain 1.
 #[test]
 fn p9_and_p10() {
     let p9 = example("P9").counts;
@@ -113,13 +109,13 @@ fn p9_and_p10() {
     assert_eq!(p10.log[2], 1);
 }
 
-/// "P11 {R0:1} and {R0:1, R1:0}: both id 0."
+/// {R0:1} and {R0:1, R1:0} are one set.
 #[test]
 fn p11() {
     assert_eq!(example("P11").ids, [0, 0]);
 }
 
-/// "P12 an empty set and {R0:10}: gain 9, one subtable, the zero row first."
+/// An empty set and {R0:10}: the row of zero is first.
 #[test]
 fn p12() {
     let p12 = example("P12");
@@ -128,7 +124,7 @@ fn p12() {
     assert_eq!(p12.store[p12.store.len() - 2..], [0, 10]);
 }
 
-/// "65,535 sets of one shape: one subtable; 65,536: a second with one row."
+/// A group of 65,535 sets, and of one more (E1).
 #[test]
 fn sets_of_one_shape() {
     let one = answer(&edges::one_shape(65_535), 0).expect("done");
@@ -144,8 +140,8 @@ fn sets_of_one_shape() {
     assert_eq!(two.counts.forecast + 12, two.counts.store_bytes);
 }
 
-/// "Mode 1 takes 65,535, refuses 65,536." At "the 65,536th end record", which
-/// stands after one axis record and 65,536 values and 65,535 ends.
+/// As many sets in mode 1, and one more (E2). The end record that is refused stands
+/// after one axis record and 65,536 values and 65,535 ends.
 #[test]
 fn sets_of_mode_1() {
     let done = answer(&edges::one_shape(65_535), 1).expect("done");
@@ -160,7 +156,7 @@ fn sets_of_mode_1() {
     );
 }
 
-/// "1,024 shapes taken, 1,025 refused."
+/// As many shapes as are taken, and one more (E3).
 #[test]
 fn shapes() {
     let done = answer(&edges::shapes(1_024), 0).expect("done");
@@ -170,7 +166,7 @@ fn shapes() {
     assert!(answer(&edges::shapes(1_025), 1).is_ok());
 }
 
-/// "At most 1,048,576 records".
+/// As many records as are taken, and one more (E4).
 #[test]
 fn records() {
     let mut job = edges::most_records();

@@ -1,4 +1,4 @@
-//! Glyph maps: the proved writer and reader beside the plain reading of document 02, and
+//! Glyph maps: the proved writer and reader beside the plain reading of the rules, and
 //! the writer beside the source's own, where the source is.
 
 use jobs::Rng;

@@ -54,7 +54,7 @@ impl Refused {
         }
     }
 
-    /// The refusal's name in document 01.
+    /// The refusal's name in docs/RULES.md.
     pub fn name(&self) -> &'static str {
         self.words().0
     }

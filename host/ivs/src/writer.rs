@@ -4,7 +4,7 @@ use crate::refusals::RECORD;
 use std::error::Error;
 use std::fmt;
 
-/// The most axes and the most records of a job (document 01).
+/// The most axes and the most records of a job (J3).
 const AXES: usize = 64;
 const RECORDS: usize = 1_048_576;
 

@@ -1,4 +1,4 @@
-//! The large jobs at the limits of document 01, all over one axis.
+//! The large jobs at the limits of the rules (E1 to E4), all over one axis.
 
 use crate::Job;
 

@@ -1,11 +1,11 @@
-//! Document 01's examples by name, and other small jobs that are easy to get
-//! wrong. "One axis; R0 is (0, 0x4000, 0x4000), R1 is another region."
+//! The worked examples of docs/RULES.md by name, and other small jobs that are easy to
+//! get wrong. All have one axis; region 0 is R0, (0, 0x4000, 0x4000), and region 1 is R1.
 
 use crate::Job;
 
 /// A named job with its mode.
 pub struct Example {
-    /// Document 01's name, or what the job is about.
+    /// P1 to P12, or what the job is about.
     pub name: &'static str,
     /// The mode.
     pub mode: u32,

@@ -19,7 +19,8 @@ pub struct Job {
 
 impl Job {
     /// A job without sets over one axis, with `regions` different regions: region
-    /// `r` is (0, 0x4000 - r, 0x4000). Region 0 is document 01's R0.
+    /// `r` is (0, 0x4000 - r, 0x4000). Region 0 is R0 of the
+    /// examples.
     pub fn one_axis(regions: usize) -> Job {
         let region = |r: usize| vec![[0, 0x4000 - r as i16, 0x4000]];
         Job {
@@ -59,7 +60,7 @@ impl Job {
     }
 
     /// The job of these bytes, if they are the bytes of a job whose sets name only
-    /// its regions and no coordinates twice. Another way to say document 01's
+    /// its regions and no coordinates twice. Another way to say
     /// refusals 5 to 8: read without looking at anything that need not be read,
     /// then write again and compare.
     pub fn parse(axes: usize, bytes: &[u8]) -> Option<Job> {

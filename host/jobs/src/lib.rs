@@ -1,10 +1,10 @@
 //! Jobs for tests.
 //!
 //! * [`Job`]: regions and sets, written as 12-byte records and read back.
-//! * [`examples`]: document 01's, by name.
+//! * [`examples`]: those of docs/RULES.md, by name.
 //! * [`random`]: the job of a seed.
 //! * [`small`]: all jobs of a small kind, one after another.
-//! * [`edges`]: the large jobs at the limits of document 01.
+//! * [`edges`]: the large jobs at the limits of the rules.
 //! * [`damage`]: bytes changed, records cut off, swapped, repeated.
 //! * [`Rng`]: the random numbers behind all of it; [`hex`]: bytes as text.
 

@@ -83,7 +83,7 @@ const RECIPES: [Recipe; 14] = [
     Recipe { name: "many axes", axes: (32, 64), regions: (1, 4), twins: 3, sets: (1, 10), patterns: 0, spread: 2, values: &[Tiny, Edge], again: 4 },
 ];
 
-/// Of hundreds of shapes, up to document 01's 1,024.
+/// Of hundreds of shapes, up to 1,024 (R10).
 #[rustfmt::skip]
 const LARGE: [Recipe; 4] = [
     Recipe { name: "large, half", axes: (1, 1), regions: (10, 24), twins: 0, sets: (200, 700), patterns: 0, spread: 2, values: &[One, Two, Four], again: 0 },
@@ -143,7 +143,7 @@ fn regions(rng: &mut Rng, recipe: &Recipe, axes: usize) -> Vec<Region> {
     regions
 }
 
-/// Often a real tent, sometimes anything: "Coordinates are taken as they are."
+/// Often a real tent, sometimes anything (J5).
 fn coordinates(rng: &mut Rng) -> [i16; 3] {
     match rng.below(4) {
         0 => [0, 0x4000, 0x4000],

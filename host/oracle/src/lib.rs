@@ -4,7 +4,7 @@
 //! unchanged from where they stand (`build.rs`), over stand-ins of the few types
 //! they lean on ([`tables`]), with the real `indexmap` and `log`. [`build`] hands
 //! regions and sets to the source's builder and gives back what it made;
-//! [`Store::bytes`] places that as document 01 says. [`vectors`] writes and reads
+//! [`Store::bytes`] places that as docs/RULES.md says (B4). [`vectors`] writes and reads
 //! recorded answers, for where the source is not.
 //!
 //! The source tells what it merges by `log::trace!`; [`build_traced`] listens, and

@@ -36,7 +36,7 @@ fn record(folder: &Path) -> Result<(), String> {
     write(
         folder,
         "examples.txt",
-        "Document 01's examples and other small jobs, written out.",
+        "The worked examples and other small jobs, written out.",
         examples::all()
             .iter()
             .map(|e| Case::record(e.name, Origin::Hex, &e.job, e.mode)),
@@ -111,7 +111,7 @@ fn header(about: &str) -> String {
         text += &format!("# {name}: {length} bytes, FNV-1a {digest:016x}\n");
     }
     text += "#\n\
-         # Store bytes are placed as document 01 says (the source gives pieces); map words\n\
+         # Store bytes are placed by rule B4 (the source gives pieces); map words\n\
          # are outer x 65,536 + inner; log and sizes are what the source told by\n\
          # log::trace!. The fields are explained in host/oracle/src/vectors.rs.\n";
     text

@@ -1,4 +1,4 @@
-//! The bytes of the source's pieces, placed as document 01's "Byte placing" says.
+//! The bytes of the source's pieces, placed as B1 to B5 say.
 
 use crate::tables::variations::{ItemVariationData, ItemVariationStore, VariationRegionList};
 

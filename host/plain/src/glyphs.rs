@@ -1,4 +1,4 @@
-//! A glyph map (OpenType's DeltaSetIndexMap), as document 02 says: written, and read one
+//! A glyph map (OpenType's DeltaSetIndexMap; G1 to G7): written, and read one
 //! glyph at a time. A word is outer x 65,536 + inner.
 
 /// Too many glyphs, the output short, no glyph map.

@@ -11,7 +11,7 @@ pub struct Group {
 }
 
 impl Group {
-    /// "A group costs overhead + row cost x sets."
+    /// What the group costs (W6).
     pub fn cost(&self) -> u64 {
         self.shape.overhead() + self.shape.row_cost() * self.sets.len() as u64
     }
@@ -25,8 +25,7 @@ impl Group {
     }
 }
 
-/// "group sets by shape; order groups by row cost, then by width compared from
-/// the last region down to the first; number them from 0."
+/// The starting groups in their order (M1).
 pub fn by_shape(sets: &[Set], regions: usize) -> Vec<Group> {
     let mut groups: Vec<Group> = Vec::new();
     for (id, set) in sets.iter().enumerate() {
@@ -48,7 +47,7 @@ pub fn by_shape(sets: &[Set], regions: usize) -> Vec<Group> {
     groups
 }
 
-/// The one group of all sets, "shape the join of all"; none without sets.
+/// The one group of all sets, their shapes joined (F5); none without sets.
 pub fn of_all(sets: &[Set], regions: usize) -> Option<Group> {
     let shapes = sets.iter().map(|set| Shape::of(&dense(set, regions)));
     shapes.reduce(|a, b| a.join(&b)).map(|shape| Group {
@@ -57,8 +56,7 @@ pub fn of_all(sets: &[Set], regions: usize) -> Option<Group> {
     })
 }
 
-/// "Then each group's sets are ordered by their dense signed values from region
-/// 0 up; groups by the order above."
+/// The rows of each group in their order (F1), and the groups in theirs (F2).
 pub fn final_order(mut groups: Vec<Group>, sets: &[Set], regions: usize) -> Vec<Group> {
     for group in &mut groups {
         group

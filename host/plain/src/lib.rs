@@ -1,9 +1,9 @@
-//! A plain reading of document 01, "From a job to an item variation store".
+//! A plain reading of the rules, docs/RULES.md.
 //!
-//! Written from the document alone, not from the source it ports and not from
-//! the proved library, so that it can judge both. It is slow where slow is
-//! simpler: the code is meant to be believed by reading it beside the document.
-//! The file of each part quotes the sentences it renders.
+//! Written from the rules alone, not from the source they are taken from and not
+//! from the proved library, so that it can judge both. It is slow where slow is
+//! simpler: the code is meant to be believed by reading it beside the rules. Each
+//! part names the rules that it renders by their labels.
 //!
 //! [`build`] says what one build call must answer and write; [`read`] says what
 //! reading one value must answer.
@@ -23,11 +23,10 @@ pub use refusals::{name, number, Refused};
 
 use groups::Group;
 
-/// "At most 1,048,576 records".
+/// The most records of a job (J3).
 pub const RECORD_LIMIT: usize = 1_048_576;
 
-/// "a lent slice of pair records (1,048,576 of them; fewer is WORK_SHORT, and the
-/// slice is left as work is)".
+/// The pair records that every job needs (J7).
 pub const PAIRS: usize = 1_048_576;
 
 /// How much memory the caller lends: words of work, pair records, bytes of output,
@@ -60,12 +59,12 @@ impl Sizes {
     };
 }
 
-/// The numbers that a done build gives, in document 01's order.
+/// The numbers that a done build gives (A1).
 #[derive(Clone, Copy, Debug, Default, PartialEq, Eq)]
 pub struct Counts {
     /// Bytes of the store.
     pub store_bytes: u64,
-    /// "the count in the store, a null one included".
+    /// Subtables, a null one too.
     pub subtables: u64,
     /// Regions kept.
     pub regions_kept: u64,
@@ -92,7 +91,7 @@ pub struct Done {
     pub counts: Counts,
     /// The store's bytes.
     pub store: Vec<u8>,
-    /// "The n-th word of ids is the n-th set's id."
+    /// The id of each set (S6).
     pub ids: Vec<u32>,
     /// For each id, outer x 65,536 + inner.
     pub map: Vec<u32>,
@@ -100,10 +99,8 @@ pub struct Done {
     pub log: Vec<u32>,
 }
 
-/// The published number of work words for a job of `records` records; 0 above
-/// the record limit.
-///
-/// "depends on the record count alone, at most 16 per record plus 4,194,304".
+/// The published number of work words for a job of `records` records (J7); 0 above
+/// the record limit (H1).
 pub fn work_words(records: usize) -> usize {
     if records > RECORD_LIMIT {
         return 0;
@@ -115,7 +112,7 @@ pub fn work_words(records: usize) -> usize {
 /// One build call: what it answers, and what it writes when it is done.
 pub fn build(axes: u32, mode: u32, job: &[u8], sizes: &Sizes) -> Result<Done, Refused> {
     let records = job.len() / records::RECORD;
-    // "1 to 4 are tested in that order."
+    // Before any record is looked at (T1).
     if axes == 0 || axes > 64 {
         return Err(Refused::at(number::BAD_AXES, 0));
     }
@@ -128,15 +125,15 @@ pub fn build(axes: u32, mode: u32, job: &[u8], sizes: &Sizes) -> Result<Done, Re
     if sizes.work < work_words(records) || sizes.pairs < PAIRS {
         return Err(Refused::at(number::WORK_SHORT, 0));
     }
-    // "Then records from the first on", "Then 8".
+    // The records, then the end of the job (T2, T3).
     let said = records::check(axes as usize, mode, job)?;
     let numbered = sets::number(mode, &said);
     let regions = numbered.regions.len();
 
-    // "Mode 0: group sets by shape"; "Mode 1: one group".
+    // The groups: M1 to M6, or F5.
     let plan = if mode == 0 {
         let start = groups::by_shape(&numbered.sets, regions);
-        // "then 10 to 14 in order", "else 0" for the place.
+        // T4; the place is 0 (T5).
         if start.len() > 1_024 {
             return Err(Refused::at(number::SHAPES_FULL, 0));
         }
@@ -175,8 +172,7 @@ pub fn build(axes: u32, mode: u32, job: &[u8], sizes: &Sizes) -> Result<Done, Re
     })
 }
 
-/// "The forecast is 12 + 6 x axes x regions kept + the model's cost of each
-/// final group written + 4 per null subtable."
+/// The forecast (A3).
 fn forecast(axes: u64, counts: &Counts, groups: &[Group], null_subtables: u64) -> u64 {
     let written: u64 = groups.iter().map(Group::cost).sum();
     12 + 6 * axes * counts.regions_kept + written + 4 * null_subtables
@@ -210,9 +206,7 @@ impl Plan {
         }
     }
 
-    /// "Mode 1: one group, shape the join of all, rows in order of adding". "In
-    /// mode 1 N, merges and pairs are 0 and both sizes are the one group's cost,
-    /// or 0 when there are no sets."
+    /// Mode 1: the one group (F5), and what is said of it (A2).
     fn one_group(sets: &[sets::Set], regions: usize) -> Plan {
         let groups: Vec<Group> = groups::of_all(sets, regions).into_iter().collect();
         let size = groups.iter().map(Group::cost).sum();

@@ -1,4 +1,4 @@
-//! `plain JOB AXES MODE`: what document 01 says of one job file, by the plain
+//! `plain JOB AXES MODE`: what the rules say of one job file, by the plain
 //! reading: the numbers of a done build with its store, or the refusal.
 
 use std::process::ExitCode;

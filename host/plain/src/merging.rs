@@ -6,9 +6,9 @@ use crate::groups::Group;
 pub struct Outcome {
     /// The living groups.
     pub groups: Vec<Group>,
-    /// "The log gets first number, second number, gain."
+    /// Three words a merge (M5).
     pub log: Vec<u32>,
-    /// "one is counted for each pair as the rule above weighs it".
+    /// How many pairs were weighed (M7).
     pub pairs: u64,
 }
 
@@ -19,7 +19,7 @@ struct Pair {
     gain: i64,
 }
 
-/// "Gain of a pair: sum of their costs less the cost of the joined group."
+/// What two groups gain (W8).
 fn gain(a: &Group, b: &Group) -> i64 {
     let sets = (a.sets.len() + b.sets.len()) as u64;
     let shape = a.shape.join(&b.shape);
@@ -27,8 +27,7 @@ fn gain(a: &Group, b: &Group) -> i64 {
     (a.cost() + b.cost()) as i64 - joined as i64
 }
 
-/// "While a living pair has gain above 0, join the one of greatest gain, ties to
-/// the smallest first number, then the smallest second".
+/// The pair that is joined next (M3).
 fn best(pairs: &[Pair]) -> Option<(usize, usize, i64)> {
     pairs
         .iter()
@@ -45,13 +44,12 @@ pub fn merge(start: Vec<Group>) -> Outcome {
     let mut weighed = 0;
     let mut log = Vec::new();
 
-    // "Weigh each pair."
+    // Each pair is weighed (M2).
     for second in 0..groups.len() {
         weighed += weigh(&groups, second, &mut pairs);
     }
     while let Some((first, second, gain)) = best(&pairs) {
-        // "Both die; the joined group takes the next unused number and is
-        // weighed with each living group."
+        // Both die, and what they become is weighed with the living (M4).
         let (Some(a), Some(b)) = (groups[first].take(), groups[second].take()) else {
             unreachable!("a waiting pair is of living groups");
         };
@@ -61,8 +59,7 @@ pub fn merge(start: Vec<Group>) -> Outcome {
                 .any(|n| *n == first || *n == second)
         });
         let joined = a.join(&b);
-        // "If a living group already has the joined shape, the source folds it
-        // in." It never comes to that; this says so if it does.
+        // M8: it never comes to the source's fold; this says so if it does.
         let fold = groups.iter().flatten().any(|g| g.shape == joined.shape);
         assert!(!fold, "a living group already has the joined shape");
         groups.push(Some(joined));

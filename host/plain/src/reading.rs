@@ -1,4 +1,4 @@
-//! Document 01, "Reading one value", by the fields of OpenType's chapter.
+//! Reading one value (V1 to V8), by the fields of OpenType's chapter.
 
 use crate::refusals::number;
 
@@ -7,15 +7,14 @@ use crate::refusals::number;
 pub enum Reading {
     /// The row has a column for the region, with this value.
     Written(i32),
-    /// "the subtable has no column for it (meaning zero)".
+    /// The subtable has no column for the region, which means zero.
     NoColumn,
 }
 
 /// Reads the value of a region (by its number in the store's list) in row
 /// `inner` of subtable `outer`, or gives the refusal number.
 ///
-/// "Header and list are tested first, then outer, the subtable, inner, the
-/// region."
+/// The tests are in the order V1 to V6.
 pub fn read(store: &[u8], outer: u32, inner: u32, region: u32) -> Result<Reading, u32> {
     let (regions, subtable_offsets) = header_and_list(store).ok_or(number::BAD_STORE)?;
     let offset = *subtable_offsets.get(outer as usize).ok_or(number::NO_ROW)?;
@@ -36,9 +35,7 @@ pub fn read(store: &[u8], outer: u32, inner: u32, region: u32) -> Result<Reading
     })
 }
 
-/// The list's region count and the subtable offsets; none where "header with its
-/// offsets, region list [..] runs past the end, format not 1, region list offset
-/// 0".
+/// The list's region count and the subtable offsets; none where V1 fails.
 fn header_and_list(store: &[u8]) -> Option<(usize, Vec<usize>)> {
     let format = u16_at(store, 0)?;
     let list = u32_at(store, 2)?;
@@ -68,8 +65,7 @@ struct Subtable {
 }
 
 impl Subtable {
-    /// None where it "runs past the end", "columns of full word width exceed the
-    /// region count, a region index not below the list's count or named twice".
+    /// None where V4 fails.
     fn parse(store: &[u8], at: usize, regions: usize) -> Option<Subtable> {
         let items = u16_at(store, at)?;
         let word_count = u16_at(store, at + 2)?;

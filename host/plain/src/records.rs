@@ -1,11 +1,11 @@
-//! Document 01, "The job: records of 12 bytes, no header", with refusals 5 to 9.
+//! The job (J1 to J6), with refusals 5 to 9.
 
 use crate::refusals::{number, Refused};
 
 /// Bytes of a record.
 pub const RECORD: usize = 12;
 
-/// A region: start, peak, end of each axis. "Coordinates are taken as they are."
+/// A region: start, peak, end of each axis, whatever they are (J5).
 pub type Region = Vec<[i16; 3]>;
 
 /// What a sound job says: its regions by number, and each set's values in the
@@ -29,8 +29,7 @@ struct Reader<'a> {
     job: &'a [u8],
 }
 
-/// "records from the first on: the earliest bad record answers, at one record 5
-/// before 6 before 7, and 5 before 9. Then 8".
+/// The records from the first on (T2), then the end of the job (T3).
 pub fn check(axes: usize, mode: u32, job: &[u8]) -> Result<Said, Refused> {
     let mut reader = Reader {
         axes,
@@ -46,7 +45,7 @@ pub fn check(axes: usize, mode: u32, job: &[u8]) -> Result<Said, Refused> {
             .record(place)
             .map_err(|number| Refused::at(number, place))?;
     }
-    // "the job ends inside a set or a region", at "the record count".
+    // R8, placed at the record count (T5).
     if !reader.open.is_empty() || reader.in_region() {
         return Err(Refused::at(number::UNFINISHED, job.len() / RECORD));
     }
@@ -98,7 +97,7 @@ impl Reader<'_> {
                 if !zero(&[1, 2, 3, 4, 5, 6, 7, 8, 9, 10, 11]) || self.in_region() {
                     return Err(number::BAD_RECORD);
                 }
-                // "mode 1, the 65,536th end record"
+                // The 65,536th (R9).
                 if self.mode == 1 && self.sets.len() == 65_535 {
                     return Err(number::SETS_FULL);
                 }
@@ -110,8 +109,8 @@ impl Reader<'_> {
         Ok(())
     }
 
-    /// "region 0 axis 0, up to its last axis, then region 1, and so on; so at
-    /// most 256 regions": the 257th region's number does not fit its byte.
+    /// The axis record has the numbers that are next (J4). The 257th region's number does
+    /// not fit its byte.
     fn in_turn(&self, record: &[u8]) -> bool {
         let next = self.axis_records.len();
         record[1] as usize == next / self.axes && record[2] as usize == next % self.axes

@@ -1,10 +1,10 @@
-//! Document 01, "Refusal numbers".
+//! Refusals by number, name and place.
 
 use std::fmt;
 
 /// The refusal numbers, by name.
 pub mod number {
-    #![allow(missing_docs)] // the names are document 01's
+    #![allow(missing_docs)] // the names are those of docs/RULES.md
     pub const BAD_AXES: u32 = 1;
     pub const BAD_MODE: u32 = 2;
     pub const BAD_JOB_LENGTH: u32 = 3;
@@ -24,7 +24,7 @@ pub mod number {
     pub const NO_REGION: u32 = 22;
 }
 
-/// Document 01's name of a refusal number.
+/// The name of a refusal number.
 pub fn name(refusal: u32) -> &'static str {
     match refusal {
         number::BAD_AXES => "BAD_AXES",
@@ -50,8 +50,7 @@ pub fn name(refusal: u32) -> &'static str {
 
 /// A refusal and its place.
 ///
-/// "The place is the record's index from 0 for 5, 6, 7 and 9, the record count
-/// for 8, else 0". All counts are 0 and nothing lent but work is touched.
+/// T5 says which place. All counts are 0 and nothing lent but work is touched (L1).
 #[derive(Clone, Copy, Debug, PartialEq, Eq)]
 pub struct Refused {
     /// The refusal number.

@@ -28,22 +28,20 @@ pub fn number(mode: u32, said: &Said) -> Numbered {
     for values in &said.sets {
         let mut set = Set::new();
         for &(region, value) in values {
-            // "A region gets the next index at its first use in a set, even by a
-            // value of 0. Regions are equal when all coordinates are equal."
+            // S1, S2: a value of 0 counts as a use.
             let coordinates = &said.regions[region];
             let index = *index_of.entry(coordinates).or_insert_with(|| {
                 numbered.regions.push(coordinates.clone());
                 numbered.regions.len() - 1
             });
-            // "A set drops its zeros"
+            // S3: zeros are left out,
             if value != 0 {
                 set.push((index, value));
             }
         }
-        // "and is kept sorted by region index."
+        // and the rest is in rising order of region index.
         set.sort();
-        // "Mode 0: an equal earlier set gives its id again, else the next id.
-        // Mode 1: always the next id."
+        // Ids (S4, S5).
         let next = numbered.sets.len() as u32;
         let id = match id_of.get(&set) {
             Some(&earlier) if mode == 0 => earlier,

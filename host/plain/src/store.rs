@@ -1,10 +1,10 @@
-//! Columns, rows, regions kept, and document 01's "Byte placing".
+//! Columns, rows, regions kept (C), and the bytes of a store (B).
 
 use crate::groups::Group;
 use crate::sets::{dense, Numbered};
 use crate::widths::{Shape, Width};
 
-/// "A group of more than 65,535 sets is then cut into runs of 65,535".
+/// The most sets of a run (F3).
 const RUN: usize = 65_535;
 
 /// The store and what came with it.
@@ -19,11 +19,11 @@ pub struct Laid {
 
 /// Lays out the final groups, whose sets are in row order. `implicit` is mode 1.
 pub fn lay(axes: usize, numbered: &Numbered, groups: &[Group], implicit: bool) -> Laid {
-    // "Regions no subtable names are dropped, the rest renumbered in order."
+    // Regions kept (C5).
     let named = |index: &usize| groups.iter().any(|g| g.shape.0[*index] != Width::None);
     let kept: Vec<usize> = (0..numbered.regions.len()).filter(named).collect();
 
-    // "Outer is the run's position, inner the row's."
+    // Runs, and the map's words (F3, F4).
     let mut map = vec![0; numbered.sets.len()];
     let mut subtables: Vec<Vec<u8>> = Vec::new();
     for group in groups {
@@ -34,7 +34,7 @@ pub fn lay(axes: usize, numbered: &Numbered, groups: &[Group], implicit: bool) -
             subtables.push(subtable(&group.shape, run, numbered, &kept));
         }
     }
-    // "No sets: one null subtable." of mode 1.
+    // F5: mode 1 without sets.
     let null_subtables = u64::from(implicit && subtables.is_empty());
 
     let list = region_list(axes, numbered, &kept);
@@ -47,8 +47,7 @@ pub fn lay(axes: usize, numbered: &Numbered, groups: &[Group], implicit: bool) -
     }
 }
 
-/// "Format 1 (u16), region list offset (u32), subtable count (u16), subtable
-/// offsets (u32 each, 0 for null); region list [..]; subtables in order".
+/// Header, region list, subtables (B1, B4, B5).
 fn place(list: &[u8], subtables: &[Vec<u8>], null_subtables: u64) -> Vec<u8> {
     let count = subtables.len() + null_subtables as usize;
     let header = 8 + 4 * count;
@@ -69,7 +68,7 @@ fn place(list: &[u8], subtables: &[Vec<u8>], null_subtables: u64) -> Vec<u8> {
     bytes
 }
 
-/// "region list: axis count, region count (u16), then start, peak, end per axis".
+/// The region list (B2).
 fn region_list(axes: usize, numbered: &Numbered, kept: &[usize]) -> Vec<u8> {
     let mut bytes = Vec::new();
     put_u16(&mut bytes, axes);
@@ -82,7 +81,7 @@ fn region_list(axes: usize, numbered: &Numbered, kept: &[usize]) -> Vec<u8> {
     bytes
 }
 
-/// "item count, word count, region count, region indexes (u16), rows".
+/// One subtable (B3), with its rows (C4).
 fn subtable(shape: &Shape, run: &[usize], numbered: &Numbered, kept: &[usize]) -> Vec<u8> {
     let columns = columns(shape);
     let (word_count, bytes_of) = row_format(shape);
@@ -104,7 +103,7 @@ fn subtable(shape: &Shape, run: &[usize], numbered: &Numbered, kept: &[usize]) -
     bytes
 }
 
-/// "Columns: wider first, then by region index; None has no column."
+/// The regions of the columns, in their order (C1).
 fn columns(shape: &Shape) -> Vec<usize> {
     let of = |width: Width| (0..shape.0.len()).filter(move |&i| shape.0[i] == width);
     of(Width::Four)
@@ -113,11 +112,7 @@ fn columns(shape: &Shape) -> Vec<usize> {
         .collect()
 }
 
-/// The word count, and the bytes that a column of each width takes in a row.
-///
-/// "With a Four column, Four is written in 4 bytes and One and Two in 2; word
-/// count is the Fours plus 0x8000. Else Two in 2, One in 1; word count is the
-/// Twos."
+/// The word count (C3), and the bytes that a column of each width takes in a row (C2).
 fn row_format(shape: &Shape) -> (usize, fn(Width) -> usize) {
     let count = |width: Width| shape.0.iter().filter(|&&w| w == width).count();
     if count(Width::Four) > 0 {

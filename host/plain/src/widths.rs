@@ -2,7 +2,7 @@
 
 use std::cmp::Ordering;
 
-/// "None < One < Two < Four".
+/// A width; the order of the cases is that of the widths (W2).
 #[derive(Clone, Copy, Debug, PartialEq, Eq, PartialOrd, Ord)]
 pub enum Width {
     None,
@@ -12,7 +12,7 @@ pub enum Width {
 }
 
 impl Width {
-    /// "Width of a value: 0 None; -128..127 One; -32768..32767 Two; else Four".
+    /// The width of a value (W1).
     pub fn of(value: i32) -> Width {
         match value {
             0 => Width::None,
@@ -22,7 +22,7 @@ impl Width {
         }
     }
 
-    /// "costs 0, 1, 2, 4".
+    /// What a width costs (W2).
     pub fn cost(self) -> u64 {
         match self {
             Width::None => 0,
@@ -33,7 +33,7 @@ impl Width {
     }
 }
 
-/// "A shape has one width for each region of all sets."
+/// A width for each region in use (W3).
 #[derive(Clone, Debug, PartialEq, Eq)]
 pub struct Shape(pub Vec<Width>);
 
@@ -43,17 +43,17 @@ impl Shape {
         Shape(values.iter().map(|&v| Width::of(v)).collect())
     }
 
-    /// "Row cost is the sum of costs."
+    /// Row cost (W4).
     pub fn row_cost(&self) -> u64 {
         self.0.iter().map(|w| w.cost()).sum()
     }
 
-    /// "Overhead is 10 + 2 x the columns not None."
+    /// Overhead (W5).
     pub fn overhead(&self) -> u64 {
         10 + 2 * self.0.iter().filter(|&&w| w != Width::None).count() as u64
     }
 
-    /// "Joining takes the wider width per region."
+    /// The wider width at each region (W7).
     pub fn join(&self, other: &Shape) -> Shape {
         Shape(
             self.0
@@ -64,8 +64,7 @@ impl Shape {
         )
     }
 
-    /// "order groups by row cost, then by width compared from the last region
-    /// down to the first".
+    /// The order of shapes (W9).
     pub fn order(&self, other: &Shape) -> Ordering {
         let by_width = || self.0.iter().rev().cmp(other.0.iter().rev());
         self.row_cost().cmp(&other.row_cost()).then_with(by_width)
