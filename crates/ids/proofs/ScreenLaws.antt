@@ -13,7 +13,7 @@ use borrow.Author.Count.{below-more}
 use Rattle.laws.specs.declared.Order.the-variants.{Equal}
 use Rattle.laws.specs.Every.{All}
 use Rattle.laws.specs.Bounded.{tabulate, upTo}
-use Rattle.laws.specs.Range.{Only, seg}
+use Rattle.laws.specs.Range.{Only, seg, Zeroed}
 use Rattle.laws.specs.Sorting.{keep}
 use Rattle.laws.proofs.Cases.{same-or-not, lt-or-ge}
 use Rattle.laws.proofs.EveryLaws.{all-imp}
@@ -26,31 +26,8 @@ use Rattle.sets.specs.Set.{Set}
 use Rattle.sets.specs.Order.{order}
 use Rattle.sets.specs.Lent.{setOf, Stored, Held, IdsFit}
 use Rattle.sets.proofs.HeldLaws.{Kept, kept-only, set-same, held-kept, held-stored}
-use Rattle.ids.specs.Screened.{NoneSeen, isKept, Screened}
+use Rattle.ids.specs.Screened.{isKept, Screened}
 use Rattle.ids.proofs.FirstLaws.{order-same}
-
--- ---- nothing seen
-
-pub record Clearing (seen n : ℕ) (old new : List ℕ) (i : ℕ) : Type 0 where
-  pub within : i ≤ n
-  pub only : Only ((seen, n) ∷ []) old new
-  pub none : (h : ℕ) → h < i → getD new (seen + h) 0 ≡ 0
-
-module _ (seen n : ℕ) (old : List ℕ) (room : seen + n ≤ length old) where
-  pub clear-start : Clearing seen n old old 0
-  clear-start = record { within = omega arith; only = only-refl ((seen, n) ∷ []) old; none = λ h l. absurd (omega arith) }
-
-  pub clear-more : (new : List ℕ) (i : ℕ) → Clearing seen n old new i → i < n → Clearing seen n old (set new (seen + i) 0) (i + 1)
-  clear-more new i c h = record {
-    within = omega arith;
-    only = only-trans (c .only) (only-set ((seen, n) ∷ []) new (seen + i) 0 (λ o. omega (arith, o .0 .apart (omega arith))));
-    none = below-more _ _
-        (λ k l. getD-set-other new (seen + i) (seen + k) 0 0 (omega arith) ∙ c .none k l)
-        (getD-set-same new (seen + i) 0 0 (omega (arith, c .only .long)));
-  }
-
-  pub clear-done : (new : List ℕ) (i : ℕ) → Clearing seen n old new i → n ≤ i → NoneSeen seen n old new
-  clear-done new i c h = record { only = c .only; none = λ k l. c .none k (omega arith) }
 
 -- ---- keeping what is marked, one more
 
@@ -224,7 +201,7 @@ module _ {old : List ℕ} {index n at first seen : ℕ} (r : IdsFit old index n 
 
 -- ---- with nothing seen before
 
-module _ {old mid : List ℕ} {index n at first seen : ℕ} (r : IdsFit old index n at first seen) (z : NoneSeen seen n old mid) where
+module _ {old mid : List ℕ} {index n at first seen : ℕ} (r : IdsFit old index n at first seen) (z : Zeroed seen n old mid) where
   unseen : Kept (r .end) old mid
   unseen = kept-only (z .only) (omega (arith, r .behind, r .at-to, r .first-to), tt)
 

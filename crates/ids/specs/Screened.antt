@@ -10,10 +10,6 @@ use Rattle.laws.specs.Bounded.{upTo}
 use Rattle.laws.specs.Sorting.{keep}
 use Rattle.sets.specs.Lent.{setOf}
 
-pub record NoneSeen (seen n : ℕ) (old new : List ℕ) : Type 0 where
-  pub only : Only ((seen, n) ∷ []) old new
-  pub none : (h : ℕ) → h < n → getD new (seen + h) 0 ≡ 0
-
 -- set k is to be sorted: no earlier one is known that equals it
 unfoldable pub isKept : ℕ → List ℕ → ℕ → Bool
 isKept first w k = eqb (getD w (first + k) 0) k

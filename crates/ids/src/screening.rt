@@ -3,6 +3,7 @@
 use comparing::compare;
 use laws::Order;
 use laws::wide;
+use laws::zero_part;
 ghost use mathlib.Core.Path.{_≡_};
 ghost use mathlib.Core.Bool.{true};
 ghost use Prim.Native.Nat.{ℕ, _+_, _-_, _≤_, _<_};
@@ -10,7 +11,7 @@ ghost use lib.ListN.{length, getD};
 ghost use Rattle.laws.specs.declared.Order.the-variants.{Equal};
 ghost use Rattle.sets.specs.Order.{order};
 ghost use Rattle.sets.specs.Lent.{setOf, Stored, IdsFit};
-ghost use Rattle.ids.specs.Screened.{NoneSeen, Screened};
+ghost use Rattle.ids.specs.Screened.{Screened};
 
 // A number below n which equal sets have in common.
 fn hash(work: &[u32], index: usize, x: usize, n: usize) -> usize
@@ -42,18 +43,6 @@ fn known(work: &[u32], index: usize, x: usize, y: usize) -> bool
         Order::Less => false,
         Order::Equal => true,
         Order::Greater => false,
-    }
-}
-
-// Nothing was seen yet.
-fn see_none(work: &mut [u32], seen: usize, n: usize)
-    requires { ⌜ seen + n ≤ length (now work) ⌝ }
-    ensures { λ _. ⌜ NoneSeen seen n (now (work .entry)) (now (work .exit)) ⌝ }
-{
-    let mut i = 0;
-    while i < n {
-        work[seen + i] = 0;
-        i += 1;
     }
 }
 
@@ -96,6 +85,6 @@ pub fn screen(
     requires { ⌜ IdsFit (now work) index n at first seen ⌝ }
     ensures { λ r. ⌜ Screened index n at first seen (now (work .entry)) (now (work .exit)) r ⌝ }
 {
-    see_none(work, seen, n);
+    zero_part(work, seen, n);
     sift(work, index, n, at, first, seen)
 }

@@ -6,7 +6,7 @@ use native.Mathlib.Nat.{mul-left-comm, mul-le-mul-left, div-mul-le-self, div-le-
 use native.Mathlib.Omega.{arith}
 use lib.ListN.{length, getD}
 use lib.Seq.{ext-getD}
-use Rattle.laws.specs.Range.{seg}
+use Rattle.laws.specs.Range.{seg, Zeroed}
 use Rattle.laws.proofs.EveryLaws.{all-getD}
 use Rattle.laws.proofs.RangeLaws.{only-refl, only-trans, only-weaken, length-seg, getD-seg}
 use Rattle.sets.specs.Set.{Ascending, Proper}
@@ -16,7 +16,7 @@ use Rattle.values.specs.declared.tables.Tables.{Tables}
 use Rattle.said.specs.Sets.{regionList, firstLike, has}
 use Rattle.said.specs.Job.{regionsOnly}
 use Rattle.walk.specs.Inner.{AxesRead}
-use Rattle.values.specs.Lent.{slotIn, Zeroed, Holds}
+use Rattle.values.specs.Lent.{slotIn, Holds}
 use Rattle.walk.specs.Lent.{FirstsOf, Room, SetsHeld, SetsRead}
 use Rattle.job.specs.Lent.{tablesAt, Prepared, JobHeld, JobRead}
 use Rattle.said.specs.Refusals.{publishedWork}

@@ -1,6 +1,6 @@
 // A job's records, whole: axis records, first regions, sets.
+use laws::zero_part;
 use values::Tables;
-use values::zero_part;
 use walk::axes_end;
 use walk::find_firsts;
 use walk::read_sets;

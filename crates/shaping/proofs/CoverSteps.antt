@@ -8,8 +8,9 @@ use lib.ListN.{length, getD, take, set, length-set, replicate, length-replicate,
 use lib.Seq.{ext-getD, take-suc, take-all, getD-set-same, getD-set-other}
 use borrow.Author.Count.{below-more}
 use Rattle.laws.specs.Every.{All}
-use Rattle.laws.specs.Range.{Apart, Outside, Only, seg}
+use Rattle.laws.specs.Range.{Apart, Outside, Only, Zeroed, seg}
 use Rattle.laws.proofs.RangeLaws.{only-refl, only-trans, only-set, only-weaken, only-seg, length-seg, getD-seg}
+use Rattle.laws.proofs.ZeroLaws.{zeroed-part}
 use Rattle.shapes.specs.Shape.{Shape, join}
 use Rattle.shapes.specs.Lent.{JoinedAt}
 use Rattle.shapes.proofs.ShapeLaws.{join-at, join-length}
@@ -18,38 +19,9 @@ use Rattle.sets.specs.Lent.{setOf, startOf, countOf, Stored, Held, setsIn}
 use Rattle.sets.proofs.HeldLaws.{Kept, kept-only, held-kept, held-stored, set-same, sets-length, sets-at, sets-same}
 use Rattle.groups.specs.Groups.{shapeOf}
 use Rattle.groups.specs.Cover.{coverFrom, coverOf}
-use Rattle.shaping.specs.Lent.{ShapedAt, ZeroedAt, CoverFit, CoveredAt, CoverAt}
+use Rattle.shaping.specs.Lent.{ShapedAt, CoverFit, CoveredAt, CoverAt}
 use Rattle.groups.proofs.GroupLaws.{shape-length}
 use Rattle.groups.proofs.CoverLaws.{cover-snoc, cover-length}
-
--- ---- zeros
-
-pub record Zeroing (at n : ℕ) (old new : List ℕ) (i : ℕ) : Type 0 where
-  pub within : i ≤ n
-  pub only : Only ((at, n) ∷ []) old new
-  pub done : (k : ℕ) → k < i → getD new (at + k) 0 ≡ 0
-
-module _ (at n : ℕ) (old : List ℕ) (room : at + n ≤ length old) where
-  pub zero-start : Zeroing at n old old 0
-  zero-start = record { within = omega arith; only = only-refl ((at, n) ∷ []) old; done = λ k h. absurd (omega arith) }
-
-  pub zero-more : (new : List ℕ) (i : ℕ) → Zeroing at n old new i → i < n → Zeroing at n old (set new (at + i) 0) (i + 1)
-  zero-more new i z h = record {
-    within = omega arith;
-    only = only-trans (z .only) (only-set ((at, n) ∷ []) new (at + i) 0 (λ o. omega (arith, o .0 .apart (omega arith))));
-    done = below-more _ _
-        (λ k l. getD-set-other new (at + i) (at + k) 0 0 (omega arith) ∙ z .done k l)
-        (getD-set-same new (at + i) 0 0 (omega (arith, z .only .long)));
-  }
-
-  pub zero-done : (new : List ℕ) (i : ℕ) → Zeroing at n old new i → n ≤ i → ZeroedAt at n old new
-  zero-done new i z h = record {
-    only = z .only;
-    is =
-        let l = length-seg at n new (omega (arith, z .only .long)) in
-        ext-getD 0 (seg at n new) (replicate n 0) (l ∙ sym (length-replicate n 0))
-        (λ k p. let b : k < n = omega arith in getD-seg at n new k b ∙ z .done k (omega arith) ∙ sym (getD-replicate n k 0 0 b));
-  }
 
 -- ---- joining each
 
@@ -101,7 +73,7 @@ module _ {index n at tmp regions : ℕ} {old : List ℕ} (f : CoverFit index n a
 
   -- ---- from zeros on
 
-  module _ {mid : List ℕ} (z : ZeroedAt at regions old mid) where
+  module _ {mid : List ℕ} (z : Zeroed at regions old mid) where
     zeroed : Kept (f .end) old mid
     zeroed = kept-only (z .only) (f .behind, tt)
 
@@ -111,5 +83,5 @@ module _ {index n at tmp regions : ℕ} {old : List ℕ} (f : CoverFit index n a
     pub covered : {new : List ℕ} → CoveredAt index n at tmp regions mid new → CoverAt index n at tmp regions old new
     covered c = record {
       only = only-trans (only-weaken (λ k o. (o .0, tt)) (z .only)) (c .only);
-      is = c .is ∙ ap₂ (coverFrom regions) (z .is) (sets-same (f .held) zeroed);
+      is = c .is ∙ ap₂ (coverFrom regions) (zeroed-part z (omega (arith, f .room, f .at-to))) (sets-same (f .held) zeroed);
     }

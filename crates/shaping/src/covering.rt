@@ -1,22 +1,11 @@
 // Mode 1 has one group: its shape is the join of the shapes of all sets.
 use crate::shaping::shape_of;
+use laws::zero_part;
 use shapes::RowShape;
 ghost use mathlib.Core.Path.{_≡_};
 ghost use Prim.Native.Nat.{_+_, _≤_};
 ghost use lib.ListN.{length};
-ghost use Rattle.shaping.specs.Lent.{ZeroedAt, CoverFit, CoveredAt, CoverAt};
-
-// n words of zero from `at` on: a shape with no column.
-fn zero_words(work: &mut [u32], at: usize, n: usize)
-    requires { ⌜ at + n ≤ length (now work) ⌝ }
-    ensures { λ _. ⌜ ZeroedAt at n (now (work .entry)) (now (work .exit)) ⌝ }
-{
-    let mut i = 0;
-    while i < n {
-        work[at + i] = 0;
-        i += 1;
-    }
-}
+ghost use Rattle.shaping.specs.Lent.{CoverFit, CoveredAt, CoverAt};
 
 // Joins the shapes of n sets to the one from `at` on; the words from `tmp` on are scratch for one shape.
 fn join_each(work: &mut [u32], index: usize, n: usize, at: usize, tmp: usize, regions: usize)
@@ -36,6 +25,6 @@ pub fn cover(work: &mut [u32], index: usize, n: usize, at: usize, tmp: usize, re
     requires { ⌜ CoverFit index n at tmp regions (now work) ⌝ }
     ensures { λ _. ⌜ CoverAt index n at tmp regions (now (work .entry)) (now (work .exit)) ⌝ }
 {
-    zero_words(work, at, regions);
+    zero_part(work, at, regions);
     join_each(work, index, n, at, tmp, regions);
 }

@@ -16,32 +16,9 @@ use Rattle.laws.proofs.RangeLaws.{only-refl, only-trans, only-set}
 use Rattle.sets.specs.Set.{Set, Ascending}
 use Rattle.sets.specs.Lent.{entries}
 use Rattle.said.specs.Sets.{has, indexIn, placed}
-use Rattle.values.specs.Lent.{Zeroed, slotIn, Uses, UsedNow, PutEntry}
+use Rattle.values.specs.Lent.{slotIn, Uses, UsedNow, PutEntry}
 use Rattle.values.proofs.EntryLaws.{entries-kept}
 use Rattle.said.proofs.IndexLaws.{has-snoc, index-below, index-snoc-old, index-snoc-new, with-known, with-new}
-
--- ---- zeros
-
-pub record Zeroing (at n : ℕ) (old new : List ℕ) (i : ℕ) : Type 0 where
-  pub within : i ≤ n
-  pub only : Only ((at, n) ∷ []) old new
-  pub done : (k : ℕ) → k < i → getD new (at + k) 0 ≡ 0
-
-module _ (at n : ℕ) (old : List ℕ) (room : at + n ≤ length old) where
-  pub zeroing-start : Zeroing at n old old 0
-  zeroing-start = record { within = omega arith; only = only-refl ((at, n) ∷ []) old; done = λ k h. absurd (omega arith) }
-
-  pub zeroing-more : (new : List ℕ) (i : ℕ) → Zeroing at n old new i → i < n → Zeroing at n old (set new (at + i) 0) (i + 1)
-  zeroing-more new i z h = record {
-    within = omega arith;
-    only = only-trans (z .only) (only-set ((at, n) ∷ []) new (at + i) 0 (λ o. omega (arith, o .0 .apart (omega arith))));
-    done = below-more _ _
-        (λ k l. getD-set-other new (at + i) (at + k) 0 0 (omega arith) ∙ z .done k l)
-        (getD-set-same new (at + i) 0 0 (omega (arith, z .only .long)));
-  }
-
-  pub zeroing-done : (new : List ℕ) (i : ℕ) → Zeroing at n old new i → n ≤ i → Zeroed at n old new
-  zeroing-done new i z h = record { only = z .only; is = λ k l. z .done k (omega arith) }
 
 -- ---- one more use
 

@@ -16,11 +16,6 @@ use Rattle.values.specs.declared.tables.Tables.{Tables}
 use Rattle.said.specs.Sets.{firstLike, has, withUse, indexIn, placed}
 use Rattle.said.specs.Good.{Good}
 
--- n words from `at` on are zero
-pub record Zeroed (at n : ℕ) (old new : List ℕ) : Type 0 where
-  pub only : Only ((at, n) ∷ []) old new
-  pub is : (k : ℕ) → k < n → getD new (at + k) 0 ≡ 0
-
 -- of the regions in use: at `slot` for each region its index and one, 0 where it is not in use; at `used` for each index its region
 unfoldable pub slotIn : ℕ → List ℕ → ℕ
 slotIn q l = pick (has q l) (suc (indexIn q l)) 0

@@ -3,6 +3,5 @@ mod tables;
 mod values;
 
 pub use tables::Tables;
-pub use tables::zero_part;
 pub use values::Took;
 pub use values::take_value;

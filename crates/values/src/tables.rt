@@ -6,7 +6,7 @@ ghost use Prim.Native.Nat.{ℕ, _+_, _*_, _<_, _≤_};
 ghost use lib.ListN.{length};
 ghost use Rattle.sets.specs.Set.{Ascending};
 ghost use Rattle.sets.specs.Lent.{entries};
-ghost use Rattle.values.specs.Lent.{Zeroed, Uses, UsedNow, UseKept, PutEntry};
+ghost use Rattle.values.specs.Lent.{Uses, UsedNow, UseKept, PutEntry};
 
 // Where the tables stand in work: rows and entries of the sets; regions in use by index; for each region its index and one, the last set
 // that named it, and the first region like it.
@@ -18,18 +18,6 @@ pub struct Tables {
     pub stamp: usize,
     pub first: usize,
     pub regions: usize,
-}
-
-// Makes n words from `at` on zero.
-pub fn zero_part(work: &mut [u32], at: usize, n: usize)
-    requires { ⌜ at + n ≤ length (now work) ⌝ }
-    ensures { λ _. ⌜ Zeroed at n (now (work .entry)) (now (work .exit)) ⌝ }
-{
-    let mut i = 0;
-    while i < n {
-        work[at + i] = 0;
-        i += 1;
-    }
 }
 
 // The index of region q, where `count` regions are in use: the next one at its first use.

@@ -8,7 +8,7 @@ use Rattle.job.proofs.whole.prepare.Tie as tie
 use Rattle.job.proofs.whole.prepare.Reads as reads
 use Rattle.job.proofs.whole.prepare.Lts as lts
 use Rattle.walk.proofs.find_firsts.Reads as find-firsts-reads
-use Rattle.values.proofs.zero_part.Reads as zero-part-reads
+use Rattle.laws.proofs.zero_part.Reads as zero-part-reads
 
 mul-find-firsts : tie.Need-mul-find-firsts
 mul-find-firsts c = search needs

@@ -1,12 +1,12 @@
 use Prim.Native.Nat.{_-_}
 use lib.ListN.{length}
-use Rattle.values.proofs.UseLaws.{Zeroing, zeroing-start, zeroing-more, zeroing-done}
+use Rattle.laws.proofs.ZeroLaws.{Zeroing, zeroing-start, zeroing-more, zeroing-done}
 use borrow.Author.Needs.{needs}
 use native.Mathlib.Omega.{arith}
-use Rattle.values.proofs.tables.zero_part.Statement.{statement}
-use Rattle.values.proofs.tables.zero_part.Tie as tie
-use Rattle.values.proofs.tables.zero_part.Reads as reads
-use Rattle.values.proofs.tables.zero_part.Lts as lts
+use Rattle.laws.proofs.zero_part.Statement.{statement}
+use Rattle.laws.proofs.zero_part.Tie as tie
+use Rattle.laws.proofs.zero_part.Reads as reads
+use Rattle.laws.proofs.zero_part.Lts as lts
 
 abbrev Inv-loop : tie.InvT-loop
 Inv-loop work₀ at n i₀ work i = Zeroing at n work₀ work i
