@@ -50,7 +50,13 @@ mod source {
         }
     }
 
-    include!(concat!(env!("OUT_DIR"), "/glyph_map.rs"));
+    /// The source's items, which are not ours to mend.
+    #[allow(warnings, clippy::all)]
+    mod items {
+        use super::{DeltaSetIndexMap, EntryFormat};
+
+        include!(concat!(env!("OUT_DIR"), "/glyph_map.rs"));
+    }
 
     pub fn map(words: &[u32]) -> Vec<u8> {
         words.iter().copied().collect::<DeltaSetIndexMap>().0
