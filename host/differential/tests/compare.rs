@@ -21,6 +21,14 @@ fn recorded_answers() {
 }
 
 #[test]
+fn recorded_maps() {
+    let run = kinds::recorded_maps();
+    held("recorded glyph maps", &run);
+    let few = "few recorded glyph maps";
+    assert!(run.proved.passed >= 260, "{few}: {}", run.proved.passed);
+}
+
+#[test]
 fn built_cases() {
     let run = kinds::built();
     held("built cases", &run);
