@@ -68,12 +68,7 @@ impl Origin {
         match self {
             Origin::Hex => None,
             Origin::Seed(seed) => Some(random::job(*seed)),
-            Origin::Edge(maker, count) => match maker.as_str() {
-                "one_shape" => Some(edges::one_shape(*count)),
-                "shapes" => Some(edges::shapes(*count)),
-                "most_records" => Some(edges::most_records()),
-                _ => None,
-            },
+            Origin::Edge(maker, count) => edges::made(maker, *count),
         }
     }
 }
