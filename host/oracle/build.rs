@@ -69,13 +69,14 @@ fn item<'a>(text: &'a str, first: &str) -> Option<&'a str> {
     Some(&text[from..from + length])
 }
 
-/// The lines that declare the module `name` at `path`.
+/// The lines that declare the module `name` at `path`. Its text is not ours to mend, so no
+/// lint is of it.
 fn declaration(name: &str, path: &Path) -> String {
     let path = path.canonicalize().unwrap_or_else(|_| path.to_path_buf());
     let upper = name.to_uppercase();
     format!(
         "/// The source's file of that name.\n\
-         #[allow(missing_docs, dead_code)]\n\
+         #[allow(warnings, clippy::all)]\n\
          #[path = {path:?}]\n\
          pub mod {name};\n\
          /// Its text, for its digest.\n\

@@ -1,5 +1,5 @@
 """The texts around a walk: imports, the opening with what is had and what is owed, and the theorem at the end."""
-import os, re
+import os, re, sys
 from walk import *
 
 IMPORTS = """mathlib.Core.Path: _≡_ refl sym _∙_ ap subst
@@ -315,8 +315,9 @@ unfolding code.routine tablesOf
         return f"-- `{f.mir()}` meets its contract: a walk of its MIR, written by tools/walks/{s.name}. Assumes nothing.\n" + uses(body, lines) + body
 
     def write(s, mir):
-        """Each walk, and then the calls that they cite."""
-        home = f"crates/{s.name}/proofs"
+        """Each walk, and then the calls that they cite: in the repository, or below the folder that the command names."""
+        home = f"{(sys.argv[1:] or ['.'])[0]}/crates/{s.name}/proofs"
+        os.makedirs(home, exist_ok=True)
         for f in s.fns.values():
             if f.walk:
                 at = f"{home}/{f.path.replace('.', '/')}"

@@ -1,5 +1,5 @@
-// The run: the best pair is taken, and joined where both of its groups live, until none waits. What decides is covered by the prover; `turn` and `run`
-// hold the pairs, and are walked (docs/PROVING.md).
+// The run: the best pair is taken, and joined where both of its groups live, until none waits. What decides is covered by the prover; `turn`,
+// `tidy` and `join_all` hold the pairs, and are walked (docs/PROVING.md).
 use crate::joining;
 use pairs::Pair;
 use pairs::take;

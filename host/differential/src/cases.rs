@@ -131,6 +131,12 @@ pub fn edges(visit: &mut dyn FnMut(&Case<'_>)) {
     let mut show = |name: &str, job: Job| both(job.axes, &job.to_bytes(), &name, visit);
     show("65,535 sets of one shape", edges::one_shape(65_535));
     show("65,536 sets of one shape", edges::one_shape(65_536));
+    show("131,070 sets of one shape", edges::one_shape(131_070));
+    show("131,071 sets of one shape", edges::one_shape(131_071));
+    show("65,535 sets that are merged", edges::merged(65_535));
+    show("65,536 sets that are merged", edges::merged(65_536));
+    show("40 sets behind 65,535", edges::behind(65_535));
+    show("40 sets behind 65,536", edges::behind(65_536));
     show("1,024 shapes", edges::shapes(1_024));
     show("1,025 shapes", edges::shapes(1_025));
     show("1,048,576 records", edges::most_records());

@@ -1,7 +1,7 @@
 //! The runs, one for each kind of jobs: the program and the tests make the same.
 
 use crate::run::{Run, Share};
-use crate::{built, cases, replay, sizes, stores, Case};
+use crate::{built, cases, maps, replay, sizes, stores, Case};
 use std::ops::Range;
 
 /// The seeds of a run: 20,000 random jobs, and as many damaged ones.
@@ -18,6 +18,11 @@ const NOISY: usize = 61;
 /// The source's recorded answers.
 pub fn recorded() -> Run {
     replayed(replay::all(&replay::folder()))
+}
+
+/// The source's recorded glyph maps.
+pub fn recorded_maps() -> Run {
+    replayed(maps::all(&replay::folder()))
 }
 
 /// The list of cases with all that a build answers and leaves.

@@ -9,8 +9,8 @@
 //! * [`laws`]: what must hold of an answer, whoever gave it.
 //! * [`proved`]: the proved build and reader, in lent memory that holds [`noise`];
 //!   [`pairs`]: the part of it that is large for every job.
-//! * [`replay`]: the recorded answers, without the source; [`built`]: a list of cases with
-//!   all that a build answers and leaves.
+//! * [`replay`]: the recorded answers, without the source; [`maps`]: the recorded glyph maps;
+//!   [`built`]: a list of cases with all that a build answers and leaves.
 //! * [`run`]: all of it over some jobs, counted; [`kinds`]: the runs that are made.
 //! * [`sizes`]: lent memory around each size that is asked for.
 //! * [`stores`]: the reader on damaged stores.
@@ -22,6 +22,7 @@ pub mod check;
 pub mod kinds;
 pub mod known;
 pub mod laws;
+pub mod maps;
 pub mod noise;
 pub mod pairs;
 pub mod proved;

@@ -34,8 +34,9 @@ fn main() -> ExitCode {
         "", "passed", "failed", "passed", "failed", "with source", "seconds"
     );
     let mut all = Tally::default();
-    let runs: [(&str, &dyn Fn() -> Run); 13] = [
+    let runs: [(&str, &dyn Fn() -> Run); 14] = [
         ("recorded answers", &kinds::recorded),
+        ("recorded glyph maps", &kinds::recorded_maps),
         ("built cases", &kinds::built),
         ("examples", &kinds::examples),
         ("edges", &kinds::edges),

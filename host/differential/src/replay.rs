@@ -3,7 +3,7 @@
 
 use crate::check::same;
 use crate::run::Run;
-use crate::{proved, Case};
+use crate::{maps, proved, Case};
 use oracle::vectors::{self, word_bytes, Bytes};
 use plain::{Done, Refused, Sizes};
 use std::fs;
@@ -14,14 +14,14 @@ pub fn folder() -> PathBuf {
     PathBuf::from(concat!(env!("CARGO_MANIFEST_DIR"), "/../../vectors"))
 }
 
-/// Replays every `.txt` of a folder, but for [`crate::built`]'s.
+/// Replays every `.txt` of a folder, but for [`crate::built`]'s and [`crate::maps`]'.
 pub fn all(folder: &Path) -> Result<Run, String> {
     let said = |e: std::io::Error| format!("{}: {e}", folder.display());
     let mut paths = Vec::new();
     for entry in fs::read_dir(folder).map_err(said)? {
         paths.push(entry.map_err(said)?.path());
     }
-    paths.retain(|path| path.extension().is_some_and(|e| e == "txt") && !of_built(path));
+    paths.retain(|path| path.extension().is_some_and(|e| e == "txt") && !of_others(path));
     paths.sort();
     let mut run = Run::default();
     for path in paths {
@@ -46,10 +46,10 @@ pub fn all(folder: &Path) -> Result<Run, String> {
     Ok(run)
 }
 
-/// A file of the list of cases, which has another form.
-fn of_built(path: &Path) -> bool {
+/// A file of the list of cases or of glyph maps, which have other forms.
+fn of_others(path: &Path) -> bool {
     let name = path.file_name().and_then(|name| name.to_str());
-    name.is_some_and(|name| name.starts_with("built-"))
+    name.is_some_and(|name| name.starts_with("built-") || name == maps::FILE)
 }
 
 /// The answer is the recorded one.

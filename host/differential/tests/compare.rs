@@ -17,7 +17,15 @@ fn recorded_answers() {
     let run = kinds::recorded();
     held("recorded answers", &run);
     let few = "few recorded answers";
-    assert!(run.proved.passed >= 250, "{few}: {}", run.proved.passed);
+    assert!(run.proved.passed >= 260, "{few}: {}", run.proved.passed);
+}
+
+#[test]
+fn recorded_maps() {
+    let run = kinds::recorded_maps();
+    held("recorded glyph maps", &run);
+    let few = "few recorded glyph maps";
+    assert!(run.proved.passed >= 260, "{few}: {}", run.proved.passed);
 }
 
 #[test]

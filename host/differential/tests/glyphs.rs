@@ -1,6 +1,7 @@
 //! Glyph maps: the proved writer and reader beside the plain reading of the rules, and
 //! the writer beside the source's own, where the source is.
 
+use jobs::glyphs::{level, rising, words, EDGES};
 use jobs::Rng;
 use plain::glyphs::{read, write, MOST};
 
@@ -36,18 +37,6 @@ fn some(rng: &mut Rng, n: usize, count: usize) -> Vec<usize> {
     let last = n.saturating_sub(3)..n;
     let others: Vec<usize> = (0..count.min(n)).map(|_| rng.below(n)).collect();
     last.chain(others).collect()
-}
-
-/// Words with so many outer and inner bits, some of them at the end alike.
-fn words(rng: &mut Rng, n: usize) -> Vec<u32> {
-    let (outer, inner) = (rng.between(0, 16), rng.between(0, 16));
-    let mut word = || (rng.below(1 << outer) << 16 | rng.below(1 << inner)) as u32;
-    let mut words: Vec<u32> = (0..n).map(|_| word()).collect();
-    let alike = if rng.one_in(2) { rng.below(n + 1) } else { 0 };
-    if let Some(&last) = words.last() {
-        words[n - alike..].fill(last);
-    }
-    words
 }
 
 /// Every glyph's word comes back, past the end the last one's.
@@ -108,16 +97,15 @@ fn damaged_maps() {
 #[test]
 fn maps_at_the_limits() {
     let rng = &mut Rng::new(16);
-    // Format 1 starts at 65,536 entries that are left, and the limit is of the glyphs given.
-    for n in [65_535, 65_536, 65_537, MOST - 1, MOST, MOST + 1] {
-        let mut words: Vec<u32> = (0..n as u32).collect();
+    // The limit is of the glyphs that are given, not of the entries that are left.
+    for n in EDGES.into_iter().chain([MOST + 1]) {
+        let words = rising(n);
         let map = compared(&words);
         assert_eq!(map.is_some(), n <= MOST);
         if let Some(map) = map {
             assert_eq!(map[0], u8::from(n > 65_535));
             comes_back(rng, &words, &map, if ivs::EMULATED { 3 } else { 100 });
         }
-        words[65_533..].fill(7);
-        assert!(compared(&words).map_or(true, |map| map[0] == 0));
+        assert!(compared(&level(n)).map_or(true, |map| map[0] == 0));
     }
 }

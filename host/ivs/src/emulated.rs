@@ -7,7 +7,7 @@
 
 use crate::{Lent, Pair};
 use std::io::{BufReader, BufWriter, Read, Write};
-use std::process::{ChildStdin, ChildStdout, Command, Stdio};
+use std::process::{Child, ChildStdin, ChildStdout, Command, Stdio};
 use std::sync::{Mutex, OnceLock};
 
 /// What is asked.
@@ -17,10 +17,12 @@ const READ: u64 = 2;
 const WRITE_GLYPHS: u64 = 3;
 const READ_GLYPH: u64 = 4;
 
-/// The program that answers. It leaves when its standard input ends.
+/// The program that answers. It leaves when its standard input ends, with this process, so
+/// nobody waits for it.
 struct Server {
     to: BufWriter<ChildStdin>,
     from: BufReader<ChildStdout>,
+    _child: Child,
 }
 
 pub fn work_words(records: usize) -> usize {
@@ -85,6 +87,7 @@ impl Server {
         Server {
             to: BufWriter::with_capacity(1 << 16, to),
             from: BufReader::with_capacity(1 << 16, from),
+            _child: child,
         }
     }
 

@@ -9,6 +9,41 @@ pub fn one_shape(count: usize) -> Job {
     job
 }
 
+/// `count` different sets of three shapes that are merged into one: {R0: 1,000}, {R0: 1} and
+/// {R0: -70,000 - n} for all others. The first two are the last rows.
+pub fn merged(count: usize) -> Job {
+    let mut job = Job::one_axis(1);
+    let others = (2..count).map(|n| -70_000 - n as i32);
+    job.sets = [1_000, 1]
+        .into_iter()
+        .chain(others)
+        .map(|value| vec![(0, value)])
+        .collect();
+    job
+}
+
+/// `count` sets {R0: 70,000 + n}, and 40 sets {R1: 70,000 + n}: two groups that are not
+/// merged, the 40 the later one.
+pub fn behind(count: usize) -> Job {
+    let mut job = Job::one_axis(2);
+    let sets =
+        |region: u8, count: usize| (0..count).map(move |n| vec![(region, 70_000 + n as i32)]);
+    job.sets = sets(0, count).chain(sets(1, 40)).collect();
+    job
+}
+
+/// The job of a maker of this file; none for another name.
+pub fn made(maker: &str, count: usize) -> Option<Job> {
+    match maker {
+        "one_shape" => Some(one_shape(count)),
+        "merged" => Some(merged(count)),
+        "behind" => Some(behind(count)),
+        "shapes" => Some(shapes(count)),
+        "most_records" => Some(most_records()),
+        _ => None,
+    }
+}
+
 /// `count` sets of as many different shapes, at most 4,096: the digits of the
 /// set's number in base 4 are the widths of six regions.
 pub fn shapes(count: usize) -> Job {

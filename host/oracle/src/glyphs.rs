@@ -17,6 +17,16 @@ fn ask(_: &[u32]) -> Option<Vec<u8>> {
     None
 }
 
+/// The length and digest of the items that are taken; none without the source.
+pub fn source_digest() -> Option<String> {
+    #[cfg(glyph_map)]
+    let text: Option<&[u8]> = Some(include_bytes!(concat!(env!("OUT_DIR"), "/glyph_map.rs")));
+    #[cfg(not(glyph_map))]
+    let text: Option<&[u8]> = None;
+    let name = "the two items of variations.rs that pack a map";
+    text.map(|text| crate::digest_line(name, text))
+}
+
 #[cfg(glyph_map)]
 mod source {
     /// The inner bits and the bytes of an entry, in a byte.
@@ -50,7 +60,13 @@ mod source {
         }
     }
 
-    include!(concat!(env!("OUT_DIR"), "/glyph_map.rs"));
+    /// The source's items, which are not ours to mend.
+    #[allow(warnings, clippy::all)]
+    mod items {
+        use super::{DeltaSetIndexMap, EntryFormat};
+
+        include!(concat!(env!("OUT_DIR"), "/glyph_map.rs"));
+    }
 
     pub fn map(words: &[u32]) -> Vec<u8> {
         words.iter().copied().collect::<DeltaSetIndexMap>().0

@@ -5,12 +5,15 @@
 //! they lean on ([`tables`]), with the real `indexmap` and `log`. [`build`] hands
 //! regions and sets to the source's builder and gives back what it made;
 //! [`Store::bytes`] places that as docs/RULES.md says (B4). [`vectors`] writes and reads
-//! recorded answers, for where the source is not.
+//! recorded answers, for where the source is not; [`glyphs`] and [`maps`] do the same for
+//! its glyph maps.
 //!
 //! The source tells what it merges by `log::trace!`; [`build_traced`] listens, and
 //! [`build_timed`] and [`build_whole`] take times.
 
+mod fields;
 pub mod glyphs;
+pub mod maps;
 mod placing;
 pub mod tables;
 mod trace;
@@ -168,8 +171,8 @@ fn ask(_: u16, _: u32, _: Vec<Given>, _: fn() -> Duration) -> Option<(Built, Spe
     None
 }
 
-/// The length and digest of each file of the source; empty without it.
-pub fn source_digests() -> Vec<(&'static str, usize, u64)> {
+/// The length and digest of each file of the source, a line each; none without it.
+pub fn source_digests() -> Vec<String> {
     #[cfg(source)]
     let files: [(&str, &[u8]); 2] = [
         ("ivs_builder.rs", tables::variations::IVS_BUILDER),
@@ -177,7 +180,12 @@ pub fn source_digests() -> Vec<(&'static str, usize, u64)> {
     ];
     #[cfg(not(source))]
     let files: [(&str, &[u8]); 0] = [];
-    let digest =
-        |(name, text): &(&'static str, &[u8])| (*name, text.len(), jobs::hex::digest(text));
+    let digest = |(name, text): &(&str, &[u8])| digest_line(name, text);
     files.iter().map(digest).collect()
+}
+
+/// The length and digest of a text of the source.
+pub(crate) fn digest_line(name: &str, text: &[u8]) -> String {
+    let digest = jobs::hex::digest(text);
+    format!("{name}: {} bytes, FNV-1a {digest:016x}", text.len())
 }

@@ -19,12 +19,12 @@
 //! what would stand there. `log` and `sizes` are what the source itself told of
 //! its merging.
 
+use crate::fields::Fields;
 use crate::{build_traced, Trace};
 use jobs::{edges, hex, random, Job};
 use std::fmt;
 
-/// Answers up to this many bytes are written out.
-const WRITTEN_OUT: usize = 1_500;
+pub use crate::fields::{word_bytes, Bytes};
 
 /// How a case names its job.
 #[derive(Clone, Debug, PartialEq, Eq)]
@@ -35,15 +35,6 @@ pub enum Origin {
     Seed(u64),
     /// A maker of [`edges`] and its count.
     Edge(String, usize),
-}
-
-/// Bytes, or how many and their digest.
-#[derive(Clone, Debug, PartialEq, Eq)]
-pub enum Bytes {
-    /// Written out.
-    All(Vec<u8>),
-    /// Their length and digest.
-    Digest(usize, u64),
 }
 
 /// One recorded answer.
@@ -71,62 +62,13 @@ pub struct Case {
     pub sizes: [u64; 3],
 }
 
-impl Bytes {
-    fn of(bytes: Vec<u8>) -> Bytes {
-        if bytes.len() <= WRITTEN_OUT {
-            Bytes::All(bytes)
-        } else {
-            Bytes::Digest(bytes.len(), hex::digest(&bytes))
-        }
-    }
-
-    /// These are the bytes that were recorded.
-    pub fn is(&self, bytes: &[u8]) -> bool {
-        match self {
-            Bytes::All(all) => all == bytes,
-            Bytes::Digest(length, digest) => {
-                *length == bytes.len() && *digest == hex::digest(bytes)
-            }
-        }
-    }
-
-    fn parse(text: &str) -> Option<Bytes> {
-        match text.split_once(" bytes, digest ") {
-            Some((length, digest)) => Some(Bytes::Digest(
-                length.parse().ok()?,
-                u64::from_str_radix(digest, 16).ok()?,
-            )),
-            None => hex::to_bytes(text).map(Bytes::All),
-        }
-    }
-}
-
-impl fmt::Display for Bytes {
-    fn fmt(&self, f: &mut fmt::Formatter<'_>) -> fmt::Result {
-        match self {
-            Bytes::All(bytes) => f.write_str(&hex::of(bytes)),
-            Bytes::Digest(length, digest) => write!(f, "{length} bytes, digest {digest:016x}"),
-        }
-    }
-}
-
-/// Words as bytes, big-endian.
-pub fn word_bytes(words: &[u32]) -> Vec<u8> {
-    words.iter().flat_map(|w| w.to_be_bytes()).collect()
-}
-
 impl Origin {
     /// The job of a seed or an edge.
     fn job(&self) -> Option<Job> {
         match self {
             Origin::Hex => None,
             Origin::Seed(seed) => Some(random::job(*seed)),
-            Origin::Edge(maker, count) => match maker.as_str() {
-                "one_shape" => Some(edges::one_shape(*count)),
-                "shapes" => Some(edges::shapes(*count)),
-                "most_records" => Some(edges::most_records()),
-                _ => None,
-            },
+            Origin::Edge(maker, count) => edges::made(maker, *count),
         }
     }
 }
@@ -179,27 +121,17 @@ impl fmt::Display for Case {
 
 /// The cases of a file, or what is wrong with it.
 pub fn parse(text: &str) -> Result<Vec<Case>, String> {
-    let mut lines = text
-        .lines()
-        .enumerate()
-        .map(|(n, line)| (n + 1, line.trim()))
-        .filter(|(_, line)| !line.is_empty() && !line.starts_with('#'));
+    let mut fields = Fields::new(text);
     let mut cases = Vec::new();
-    while let Some((number, line)) = lines.next() {
-        let name = line.strip_prefix("case ");
-        let mut field = |name: &str| -> Result<&str, String> {
-            let (n, line) = lines.next().ok_or("the file ends within a case")?;
-            let rest = line.strip_prefix(name).and_then(|l| l.strip_prefix(' '));
-            rest.ok_or_else(|| format!("line {n}: {name} is wanted here"))
-        };
-        let bad = |what: &str| format!("case at line {number}: bad {what}");
-        let name = name.ok_or_else(|| format!("line {number}: a case is wanted here"))?;
-        let (origin, job) = parse_job(field("job")?)?;
-        let axes = field("axes")?.parse().map_err(|_| bad("axes"))?;
-        let mode = field("mode")?.parse().map_err(|_| bad("mode"))?;
-        let mut bytes = |name: &str| Bytes::parse(field(name)?).ok_or_else(|| bad(name));
-        let (store, ids, map, log) = (bytes("store")?, bytes("ids")?, bytes("map")?, bytes("log")?);
-        let sizes: Option<Vec<u64>> = field("sizes")?.split(' ').map(|n| n.parse().ok()).collect();
+    while let Some(name) = fields.case()? {
+        let (origin, job) = parse_job(fields.field("job")?)?;
+        let axes = fields.field("axes")?.parse();
+        let axes = axes.map_err(|_| fields.bad("axes"))?;
+        let mode = fields.field("mode")?.parse();
+        let mode = mode.map_err(|_| fields.bad("mode"))?;
+        let [store, ids, map, log] = ["store", "ids", "map", "log"].map(|name| fields.bytes(name));
+        let sizes = fields.field("sizes")?.split(' ').map(|n| n.parse().ok());
+        let sizes: Option<Vec<u64>> = sizes.collect();
         let sizes = sizes.and_then(|s| s.try_into().ok());
         cases.push(Case {
             name: name.into(),
@@ -207,11 +139,11 @@ pub fn parse(text: &str) -> Result<Vec<Case>, String> {
             job,
             axes,
             mode,
-            store,
-            ids,
-            map,
-            log,
-            sizes: sizes.ok_or_else(|| bad("sizes"))?,
+            store: store?,
+            ids: ids?,
+            map: map?,
+            log: log?,
+            sizes: sizes.ok_or_else(|| fields.bad("sizes"))?,
         });
     }
     Ok(cases)
