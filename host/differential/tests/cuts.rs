@@ -1,5 +1,5 @@
 //! What the large jobs of jobs/src/edges.rs are that lie on both sides of a cut, by the plain
-//! reading; `edges_of_the_document` of compare.rs compares the proved build and the source
+//! reading; `edges` of compare.rs compares the proved build and the source
 //! on them.
 
 use jobs::{edges, Job};
