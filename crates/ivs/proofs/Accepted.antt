@@ -4,14 +4,12 @@ use mathlib.Core.Path.{_≡_, refl, sym, ap, ap₂, _∙_}
 use mathlib.Core.List.{List, [], _∷_}
 use Prim.Native.Nat.{ℕ, _+_, _-_, _*_, _/_, _≤_, _<_}
 use native.Mathlib.Omega.{arith}
-use lib.Dec.{eqb, leb}
+use lib.Dec.{leb}
 use lib.ListN.{length, getD, length-append, length-map}
-use borrow.Author.Tests.{eq-eqb, eqb-true, leb-true}
-use Rattle.laws.specs.Pick.{pick}
+use borrow.Author.Tests.{eq-eqb, leb-true}
 use Rattle.laws.specs.Every.{All}
 use Rattle.laws.specs.Bytes.{bytesOf, over}
-use Rattle.laws.proofs.Cases.{Which, which, Tri, tri}
-use Rattle.laws.proofs.Cases.Which.{holds, fails}
+use Rattle.laws.proofs.Cases.{Tri, tri}
 use Rattle.laws.proofs.Cases.Tri.{below, same, above}
 use Rattle.laws.proofs.EveryLaws.{all-imp, all-map, all-getD, two-getD}
 use Rattle.laws.proofs.ListLaws.{getD-map-in}
@@ -28,9 +26,9 @@ use Rattle.said.proofs.SaidLaws.{room-of}
 use Rattle.said.proofs.SoundLaws.{Bytes, Coordinates, WellSaid, well-said, first-passed, fine-walk}
 use Rattle.encoder.specs.Packed.{Packed}
 use Rattle.finishing.specs.declared.answers.Report.{Report}
-use Rattle.finishing.specs.declared.answers.Built.{Built}
-use Rattle.finishing.specs.declared.answers.Built.the-variants.{Refused, Done}
-use Rattle.finishing.specs.Late.{Lengths, storeFor, lateNo, reportOf, lateAnswer, ifDone, outLeft, idsLeft, mapLeft, logLeft}
+use Rattle.finishing.specs.declared.answers.Built.the-variants.{Done}
+use Rattle.finishing.specs.Late.{Lengths, storeFor, lateNo, reportOf, ifDone, outLeft, idsLeft, mapLeft, logLeft}
+use Rattle.finishing.proofs.DoneLaws.{late-done}
 use Rattle.build.specs.Build.{regionBytes, coordsOf, packedOf, answerFrom, answerOf, leftFrom, outAfter, idsAfter, mapAfter, logAfter}
 use Rattle.build.proofs.ReadBack.{Sized}
 
@@ -52,13 +50,14 @@ unfolding regionBytes bytesOf
 region-back [] h = refl
 region-back (x ∷ c) h = let l = h .0 in ap₂ _∷_ (omega arith) (region-back c (h .1))
 
+-- a region's coordinates for each region in use
+pub coords-long : (s : Said) → length (coordsOf s) ≡ length (s .used)
+unfolding coordsOf
+coords-long s = length-map (s .used) (λ (q : ℕ). regionBytes (getD (s .regions) q []))
+
 module _ (axes mode : ℕ) (job : List ℕ) (records : ℕ) (s : Said) (e : walk axes mode job job records 0 inAxes ≡ fine s) (some : 0 < axes) (bytes : Bytes job) where
   abbrev well : WellSaid axes job records s
   well = well-said axes mode job records s some bytes e
-
-  coords-long : length (coordsOf s) ≡ length (s .used)
-  unfolding coordsOf
-  coords-long = length-map (s .used) (λ (q : ℕ). regionBytes (getD (s .regions) q []))
 
   region-whole : (q : ℕ) → q < length (s .regions) → length (regionBytes (getD (s .regions) q [])) ≡ 6 * axes
   region-whole q h = omega (arith, region-long (getD (s .regions) q []), all-getD (Coordinates axes) (s .regions) q [] (well .coordinates-are) h .0)
@@ -75,18 +74,18 @@ module _ (axes mode : ℕ) (job : List ℕ) (records : ℕ) (s : Said) (e : walk
   coords-once x y h k f = go (tri x y)
     where
       use-low : (i : ℕ) → i < length (coordsOf s) → getD (s .used) i 0 < length (s .regions)
-      use-low i l = all-getD (λ q. q < length (s .regions)) (s .used) i 0 (well .counted .used-low) (omega (arith, coords-long))
+      use-low i l = all-getD (λ q. q < length (s .regions)) (s .used) i 0 (well .counted .used-low) (omega (arith, coords-long s))
 
       at : (i : ℕ) → i < length (coordsOf s) → backOf (getD (coordsOf s) i []) ≡ getD (s .regions) (getD (s .used) i 0) []
       at i l =
-          ap backOf (getD-map-in (λ (q : ℕ). regionBytes (getD (s .regions) q [])) (s .used) i 0 [] (omega (arith, coords-long)))
+          ap backOf (getD-map-in (λ (q : ℕ). regionBytes (getD (s .regions) q [])) (s .used) i 0 [] (omega (arith, coords-long s)))
           ∙ region-back (getD (s .regions) (getD (s .used) i 0) []) (all-getD (Coordinates axes) (s .regions) (getD (s .used) i 0) [] (well .coordinates-are) (use-low i l) .1)
 
       equal : getD (s .regions) (getD (s .used) x 0) [] ≡ getD (s .regions) (getD (s .used) y 0) []
       equal = sym (at x h) ∙ ap backOf f ∙ at y k
 
       differ : (i j : ℕ) → i < j → j < length (coordsOf s) → getD (s .regions) (getD (s .used) i 0) [] ≡ getD (s .regions) (getD (s .used) j 0) [] → ⊥
-      differ i j l m = two-getD (λ a b. getD (s .regions) a [] ≡ getD (s .regions) b [] → ⊥) (s .used) i j 0 (well .used-apart) l (omega (arith, coords-long))
+      differ i j l m = two-getD (λ a b. getD (s .regions) a [] ≡ getD (s .regions) b [] → ⊥) (s .used) i j 0 (well .used-apart) l (omega (arith, coords-long s))
 
       go : Tri x y → x ≡ y
       go (below l) = absurd (differ x y l k equal)
@@ -99,7 +98,7 @@ module _ (axes mode : ℕ) (job : List ℕ) (records : ℕ) (s : Said) (e : walk
       record {
         proper = well .good .sets-proper;
         words = well .words-low;
-        coords-are = coords-long;
+        coords-are = coords-long s;
         coords-whole = coords-whole;
         axes-few = a;
         regions-few = room .2;
@@ -147,22 +146,6 @@ pub record Accepted (axes mode : ℕ) (job : List ℕ) (work pairs : ℕ) (l : L
   pub none-late : lateNo axes (coordsOf said) (packedOf mode said) l ≡ 0
   pub room : Roomy axes (coordsOf said) (packedOf mode said) l
   pub report-is : r ≡ reportOf axes (coordsOf said) (packedOf mode said)
-
-abbrev reported : Report → Built → Report
-reported d (Refused n i) = d
-reported d (Done r) = r
-
-late-done : (axes : ℕ) (coords : List (List ℕ)) (k : Packed) (l : Lengths) (r : Report) → lateAnswer axes coords k l ≡ Done r
-    → (lateNo axes coords k l ≡ 0) × (r ≡ reportOf axes coords k)
-unfolding lateAnswer
-late-done axes coords k l r e = go (which (eqb (lateNo axes coords k l) 0)) e
-  where
-    go : Which (eqb (lateNo axes coords k l) 0) → pick (eqb (lateNo axes coords k l) 0) (Done (reportOf axes coords k)) (Refused (lateNo axes coords k l) 0) ≡ Done r
-        → (lateNo axes coords k l ≡ 0) × (r ≡ reportOf axes coords k)
-    go (holds h) f =
-        let g : Done (reportOf axes coords k) ≡ Done r = rw h at f in
-        (eqb-true (lateNo axes coords k l) 0 h, sym (ap (reported r) g))
-    go (fails h) f = let g = rw h at f in let z : _≡_ {A = ℕ} 0 1 = cc in absurd (omega arith)
 
 pub accepted : (axes mode : ℕ) (job : List ℕ) (work pairs : ℕ) (l : Lengths) (r : Report) → answerOf axes mode job work pairs l ≡ Done r → Accepted axes mode job work pairs l r
 unfolding answerOf answerFrom

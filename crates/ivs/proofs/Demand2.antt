@@ -6,14 +6,14 @@ use mathlib.Core.List.{List, []}
 use Prim.Native.Nat.{ℕ, _+_, _*_, _/_, _≤_, _<_}
 use native.Mathlib.Omega.{arith}
 use lib.Dec.{eqb}
-use lib.ListN.{length, getD, take, drop, List·getD-append}
-use lib.Seq.{take-at}
+use lib.ListN.{length, getD, take, drop}
 use Rattle.laws.specs.Pick.{pick}
 use Rattle.laws.specs.Bytes.{over}
 use Rattle.laws.specs.Signed.{value, zeroWord}
 use Rattle.laws.proofs.Cases.{Which, which}
 use Rattle.laws.proofs.Cases.Which.{holds, fails}
 use Rattle.laws.proofs.UpLaws.{up-long}
+use Rattle.laws.proofs.BytesLaws.{take-over, over-at}
 use Rattle.sets.specs.Set.{Set, wordOf}
 use Rattle.groups.specs.Groups.{groupsOf, maxShapes}
 use Rattle.reader.specs.declared.reader.Reading.the-variants.{Written, NoColumn}
@@ -169,12 +169,6 @@ module _ (mode : ℕ) (s : Said) where
 
 -- ---- the demand
 
-pub over-front : (old new : List ℕ) → take (length new) (over old 0 (length new) new) ≡ new
-over-front old new = take-at new (drop (0 + length new) old) (length new) refl
-
-over-at : (old new : List ℕ) (n : ℕ) → n < length new → getD (over old 0 (length new) new) n 0 ≡ getD new n 0
-over-at old new n h = List·getD-append new (drop (0 + length new) old) 0 n h
-
 pub record Demand2 (axes mode : ℕ) (job : List ℕ) (work pairs : ℕ) (l : Lengths) (r : Report) : Type 0 where
   -- what the job says: its regions in use and its sets ("An end record is one `add_deltas` call with the values of its set")
   pub said : Said
@@ -251,7 +245,7 @@ demand2 axes mode job work pairs l r bytes e =
     store-at out =
         ap (λ (n : ℕ). take n (outAfter axes mode job work pairs l out)) long
         ∙ ap (take (length (storeFor axes coords k))) (out-done axes mode job work pairs l s (a .said-is) (a .none-late) out)
-        ∙ over-front out (storeFor axes coords k)
+        ∙ take-over out (storeFor axes coords k) (length (storeFor axes coords k)) refl
 
     id-at : (ids : List ℕ) (n : ℕ) → n < length (s .sets) → getD (idsAfter axes mode job work pairs l ids) n 0 ≡ getD (k .ids) n 0
     id-at ids n h =

@@ -2,7 +2,7 @@
 -- field. And what mode 1 answers for them. Assumes nothing.
 use mathlib.Core.Path.{_≡_, refl, sym, ap, subst, _∙_}
 use mathlib.Core.Option.{some}
-use mathlib.Core.List.{List, [], _∷_, map}
+use mathlib.Core.List.{List, [], map}
 use Prim.Native.Nat.{ℕ, zero, suc, _+_, _-_, _*_, _/_, _≤_, _<_}
 use native.Mathlib.Omega.{arith}
 use lib.ListN.{length, getD, take}
@@ -10,6 +10,7 @@ use Rattle.laws.specs.Every.{All, EachTwo}
 use Rattle.laws.specs.Bytes.{over}
 use Rattle.laws.specs.Sorting.{sorted}
 use Rattle.laws.proofs.EveryLaws.{all-and}
+use Rattle.laws.proofs.BytesLaws.{take-over}
 use Rattle.shapes.specs.Shape.{join}
 use Rattle.shapes.specs.Group.{Group}
 use Rattle.sets.specs.Set.{Set}
@@ -19,7 +20,7 @@ use Rattle.groups.proofs.GroupLaws.{groups-unlike, groups-some, groups-long}
 use Rattle.rule.specs.Model.{Pair, Entry, gainOf, choice, run, start, merged, total}
 use Rattle.rule.specs.Told.{words}
 use Rattle.rule.proofs.Theorems as merging
-use Rattle.rule.proofs.Theorems.{Merges, saved, merged-merges, run-total, all-gains-zero, fewer, none-of-none, weighed-is, weighed-few}
+use Rattle.rule.proofs.Theorems.{Merges, saved, merged-merges, run-total, all-gains-zero, fewer, none-of-none, merged-few, merged-weighed, words-length}
 use Rattle.rule.proofs.Origins.{homes, one-home, Made, made}
 use Rattle.store.specs.Placing.{allRuns, storeOf}
 use Rattle.said.specs.Job.{Said, fine, outcome}
@@ -29,7 +30,6 @@ use Rattle.finishing.specs.declared.answers.Built.the-variants.{Done}
 use Rattle.finishing.specs.Late.{Lengths, storeFor, reportOf}
 use Rattle.build.specs.Build.{coordsOf, packedOf, answerOf, outAfter, logAfter}
 use Rattle.ivs.proofs.Accepted.{Accepted, accepted, out-done, log-done}
-use Rattle.ivs.proofs.Demand2.{over-front}
 use Rattle.ivs.proofs.JoinSteps.{Joins, joins}
 
 -- ---- the rule on a list of groups
@@ -61,15 +61,6 @@ pub record Ruled (xs : List Group) (n merges weighed before after : ℕ) : Type 
   pub one-group : (i : ℕ) → i < n → homes i (merged xs .living) ≡ 1
   pub made-of : All (Made xs) (merged xs .living)
 
-few : (xs : List Group) → merged xs .weighed ≤ (length xs - 1) * (length xs - 1)
-unfolding merged
-few xs = weighed-few (length xs) xs
-
-weighed-by : (xs : List Group) → merged xs .weighed
-    ≡ length xs * (length xs - 1) / 2 + length (merged xs .log) * (length xs - 1) - length (merged xs .log) * (length (merged xs .log) + 1) / 2
-unfolding merged
-weighed-by xs = weighed-is (length xs) xs
-
 ruled : (xs : List Group) → Ruled xs (length xs) (length (merged xs .log)) (merged xs .weighed) (total (start xs .living)) (total (merged xs .living))
 unfolding merged
 ruled xs = record {
@@ -84,8 +75,8 @@ ruled xs = record {
   gains-end = all-gains-zero xs;
   fewer-merges = fewer (length xs) xs;
   none-merged = λ z. none-of-none (length xs) xs z .0;
-  pairs-weighed = weighed-by xs;
-  pairs-most = few xs;
+  pairs-weighed = merged-weighed xs;
+  pairs-most = merged-few xs;
   one-group = one-home (length xs) xs;
   made-of = made (length xs) xs;
 }
@@ -96,11 +87,6 @@ groups-proper n all = record {
   full = all-and _ _ (groupsOf n all) (groups-some n all) (groups-long n all);
   distinct = groups-unlike n all;
 }
-
-words-length : (l : List Entry) → length (words l) ≡ 3 * length l
-unfolding words
-words-length [] = refl
-words-length (e ∷ l) = omega (arith, words-length l)
 
 -- ---- mode 0
 
@@ -129,7 +115,7 @@ pub record Demand3 (axes : ℕ) (job : List ℕ) (work pairs : ℕ) (l : Lengths
   pub subtables-are : r .subtables ≡ length (allRuns (packedOf 0 said .finals))
 
 -- what mode 0 makes of the sets
-shared-is : (s : Said) → packedOf 0 s ≡ shared (length (s .used)) (s .sets)
+pub shared-is : (s : Said) → packedOf 0 s ≡ shared (length (s .used)) (s .sets)
 unfolding packedOf
 shared-is s = refl
 
@@ -194,7 +180,7 @@ module _ (axes : ℕ) (job : List ℕ) (work pairs : ℕ) (l : Lengths) (r : Rep
 
   log-begins : (log : List ℕ) → take (3 * r .merges) (logAfter axes 0 job work pairs l log) ≡ words entries
   log-begins log =
-      ap (λ (m : ℕ). take m (logAfter axes 0 job work pairs l log)) (sym three) ∙ ap (take (length (words entries))) (log-words log) ∙ over-front log (words entries)
+      ap (λ (m : ℕ). take m (logAfter axes 0 job work pairs l log)) (sym three) ∙ ap (take (length (words entries))) (log-words log) ∙ take-over log (words entries) (length (words entries)) refl
 
   bytes-of : r .bytes ≡ length (storeFor axes (coordsOf (a .said)) (packedOf 0 (a .said)))
   bytes-of = unfold reportOf in ap (λ (t : Report). t .bytes) (a .report-is)
@@ -207,7 +193,7 @@ module _ (axes : ℕ) (job : List ℕ) (work pairs : ℕ) (l : Lengths) (r : Rep
   store-begins out =
       ap (λ (m : ℕ). take m (outAfter axes 0 job work pairs l out)) bytes-of
       ∙ ap (take (length (storeFor axes (coordsOf s) (packedOf 0 s)))) (out-done axes 0 job work pairs l s (a .said-is) (a .none-late) out)
-      ∙ over-front out (storeFor axes (coordsOf s) (packedOf 0 s))
+      ∙ take-over out (storeFor axes (coordsOf s) (packedOf 0 s)) (length (storeFor axes (coordsOf s) (packedOf 0 s))) refl
       ∙ store-of s axes
 
   demand : Demand3 axes job work pairs l r

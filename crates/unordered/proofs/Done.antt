@@ -3,24 +3,21 @@
 use mathlib.Core.Path.{_≡_, refl, sym, ap, subst, _∙_}
 use mathlib.Core.Bool.{true}
 use mathlib.Core.List.{List, [], _∷_}
-use Prim.Native.Nat.{ℕ, _+_, _-_, _*_, _/_, _≤_, _<_}
+use Prim.Native.Nat.{ℕ, _-_, _*_, _/_, _≤_, _<_}
 use native.Mathlib.Omega.{arith}
 use lib.Dec.{eqb, leb}
-use lib.ListN.{length, getD, take, drop, length-map, List·getD-append}
-use lib.Seq.{take-at}
-use borrow.Author.Tests.{eq-eqb, eqb-true, leb-true}
-use Rattle.laws.specs.Pick.{pick}
+use lib.ListN.{length, getD, take, length-map}
+use borrow.Author.Tests.{eq-eqb, leb-true}
 use Rattle.laws.specs.Every.{All}
 use Rattle.laws.specs.Bytes.{over}
-use Rattle.laws.proofs.Cases.{Which, which}
-use Rattle.laws.proofs.Cases.Which.{holds, fails}
 use Rattle.laws.proofs.EveryLaws.{all-and}
+use Rattle.laws.proofs.BytesLaws.{take-over, over-at}
 use Rattle.groups.specs.Groups.{maxShapes}
 use Rattle.sets.specs.Set.{Set, Ascending, Proper}
 use Rattle.sets.specs.Ids.{place, distinct, sharedIds}
 use Rattle.sets.proofs.IdLaws.{id-at}
-use Rattle.rule.specs.Model.{Entry}
 use Rattle.rule.specs.Told.{words}
+use Rattle.rule.proofs.Theorems.{words-length}
 use Rattle.store.specs.Placing.{allRuns, idWords}
 use Rattle.store.specs.Lent.{stored}
 use Rattle.said.specs.Records.{recordBytes}
@@ -29,44 +26,15 @@ use Rattle.said.proofs.SoundLaws.{Bytes, WellSaid, well-said, first-passed, fin
 use Rattle.encoder.specs.Packed.{Packed, shared}
 use Rattle.encoder.proofs.DenseIds.{ids-length}
 use Rattle.finishing.specs.declared.answers.Report.{Report}
-use Rattle.finishing.specs.declared.answers.Built.{Built}
-use Rattle.finishing.specs.declared.answers.Built.the-variants.{Refused, Done}
+use Rattle.finishing.specs.declared.answers.Built.the-variants.{Done}
 use Rattle.finishing.specs.Late.{Lengths, storeFor, lateNo, reportOf, lateAnswer, ifDone, outLeft, idsLeft, mapLeft, logLeft}
+use Rattle.finishing.proofs.DoneLaws.{late-done}
 use Rattle.build.specs.Build.{coordsOf, packedOf, answerFrom, answerOf, leftFrom, outAfter, idsAfter, mapAfter, logAfter}
 use Rattle.build.proofs.PackedLaws.{Good, shared-good}
 use Rattle.unordered.specs.Same.{Lending, saidBy, answerTo, outOf, idsOf, mapOf, logOf}
 use Rattle.unordered.proofs.Alike.{Fine}
 
--- ---- lists put over others
-
-over-front : (old new : List ℕ) (n : ℕ) → n ≡ length new → take n (over old 0 (length new) new) ≡ new
-over-front old new n e = take-at new (drop (0 + length new) old) n (sym e)
-
-over-at : (old new : List ℕ) (n : ℕ) → n < length new → getD (over old 0 (length new) new) n 0 ≡ getD new n 0
-over-at old new n h = List·getD-append new (drop (0 + length new) old) 0 n h
-
-words-long : (l : List Entry) → 3 * length l ≡ length (words l)
-unfolding words
-words-long [] = refl
-words-long (e ∷ l) = omega (arith, words-long l)
-
 -- ---- not refused
-
-reported : Report → Built → Report
-reported d (Refused n i) = d
-reported d (Done r) = r
-
-late-done : (axes : ℕ) (coords : List (List ℕ)) (k : Packed) (l : Lengths) (r : Report) → lateAnswer axes coords k l ≡ Done r
-    → (lateNo axes coords k l ≡ 0) × (r ≡ reportOf axes coords k)
-unfolding lateAnswer reported
-late-done axes coords k l r e = go (which (eqb (lateNo axes coords k l) 0)) e
-  where
-    go : Which (eqb (lateNo axes coords k l) 0) → pick (eqb (lateNo axes coords k l) 0) (Done (reportOf axes coords k)) (Refused (lateNo axes coords k l) 0) ≡ Done r
-        → (lateNo axes coords k l ≡ 0) × (r ≡ reportOf axes coords k)
-    go (holds h) f =
-        let g : Done (reportOf axes coords k) ≡ Done r = rw h at f in
-        (eqb-true (lateNo axes coords k l) 0 h, sym (ap (reported r) g))
-    go (fails h) f = let g = rw h at f in let z : _≡_ {A = ℕ} 0 1 = cc in absurd (omega arith)
 
 -- MAP_SHORT "fewer words than distinct ids" is not given
 map-fits : (axes : ℕ) (coords : List (List ℕ)) (k : Packed) (l : Lengths) → lateNo axes coords k l ≡ 0 → length (k .sets) ≤ l .map
@@ -179,8 +147,8 @@ module _ (axes : ℕ) (a : Lending) (s : Said) (c : Report) (bytes : Bytes (a .j
     good = subst (Good (length (s .used))) (sym (shared-of s)) (shared-good (length (s .used)) (s .sets) (well .good .sets-proper) (well .words-low));
     report-is = report;
     map-room = map-fits axes (coordsOf s) k room late-none;
-    store-is = ap (take (c .bytes)) out-done ∙ over-front (a .out) (storeFor axes (coordsOf s) k) (c .bytes) bytes-is;
-    log-is = ap (take (3 * c .merges)) log-done ∙ over-front (a .log) (words (k .log)) (3 * c .merges) (omega (arith, merges-is, words-long (k .log)));
+    store-is = ap (take (c .bytes)) out-done ∙ take-over (a .out) (storeFor axes (coordsOf s) k) (c .bytes) bytes-is;
+    log-is = ap (take (3 * c .merges)) log-done ∙ take-over (a .log) (words (k .log)) (3 * c .merges) (omega (arith, merges-is, words-length (k .log)));
     map-is = map-done;
     id-is = id-at-set;
   }
