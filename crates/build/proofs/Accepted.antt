@@ -4,22 +4,19 @@ use mathlib.Core.Path.{_≡_, refl, sym, ap, ap₂, _∙_}
 use mathlib.Core.List.{List, [], _∷_}
 use Prim.Native.Nat.{ℕ, _+_, _-_, _*_, _/_, _≤_, _<_}
 use native.Mathlib.Omega.{arith}
-use lib.Dec.{eqb, leb}
-use lib.ListN.{length, getD, take, drop, length-append, length-map, List·getD-append}
-use lib.Seq.{take-at}
-use borrow.Author.Tests.{eq-eqb, eqb-true, leb-true}
-use Rattle.laws.specs.Pick.{pick}
+use lib.Dec.{leb}
+use lib.ListN.{length, getD, take, length-append, length-map}
+use borrow.Author.Tests.{eq-eqb, leb-true}
 use Rattle.laws.specs.Every.{All}
 use Rattle.laws.specs.Bytes.{bytesOf, over}
-use Rattle.laws.proofs.Cases.{Which, which, Tri, tri}
-use Rattle.laws.proofs.Cases.Which.{holds, fails}
+use Rattle.laws.proofs.Cases.{Tri, tri}
 use Rattle.laws.proofs.Cases.Tri.{below, same, above}
 use Rattle.laws.proofs.EveryLaws.{all-imp, all-map, all-getD, two-getD}
 use Rattle.laws.proofs.ListLaws.{getD-map-in}
-use Rattle.laws.proofs.BytesLaws.{bytes-length}
+use Rattle.laws.proofs.BytesLaws.{bytes-length, take-over, over-at}
 use Rattle.groups.specs.Groups.{maxShapes}
-use Rattle.rule.specs.Model.{Entry}
 use Rattle.rule.specs.Told.{words}
+use Rattle.rule.proofs.Theorems.{words-length}
 use Rattle.store.specs.Placing.{allRuns, idWords}
 use Rattle.store.specs.Lent.{stored}
 use Rattle.said.specs.Records.{recordBytes}
@@ -30,10 +27,10 @@ use Rattle.said.proofs.SaidLaws.{room-of}
 use Rattle.said.proofs.SoundLaws.{Bytes, Coordinates, WellSaid, well-said, first-passed, fine-walk}
 use Rattle.encoder.specs.Packed.{Packed}
 use Rattle.finishing.specs.declared.answers.Report.{Report}
-use Rattle.finishing.specs.declared.answers.Built.{Built}
-use Rattle.finishing.specs.declared.answers.Built.the-variants.{Refused, Done}
+use Rattle.finishing.specs.declared.answers.Built.the-variants.{Done}
 use Rattle.finishing.specs.Buffers.{Buffers, Lengths, lengths}
-use Rattle.finishing.specs.Late.{storeFor, lateNo, reportOf, lateAnswer, written, buffersLeft}
+use Rattle.finishing.specs.Late.{storeFor, lateNo, reportOf, written, buffersLeft}
+use Rattle.finishing.proofs.DoneLaws.{late-done}
 use Rattle.build.specs.Lending.{Lending}
 use Rattle.build.specs.Build.{regionBytes, coordsOf, packedOf, answerFrom, leftFrom, outcomeOf, answerOf, after}
 use Rattle.build.proofs.ReadBack.{Sized}
@@ -56,13 +53,14 @@ unfolding regionBytes bytesOf
 region-back [] h = refl
 region-back (x ∷ c) h = let l = h .0 in ap₂ _∷_ (omega arith) (region-back c (h .1))
 
+-- a region's coordinates for each region in use
+pub coords-long : (s : Said) → length (coordsOf s) ≡ length (s .used)
+unfolding coordsOf
+coords-long s = length-map (s .used) (λ (q : ℕ). regionBytes (getD (s .regions) q []))
+
 module _ (axes mode : ℕ) (job : List ℕ) (records : ℕ) (s : Said) (e : walk axes mode job job records 0 inAxes ≡ fine s) (some : 0 < axes) (bytes : Bytes job) where
   abbrev well : WellSaid axes job records s
   well = well-said axes mode job records s some bytes e
-
-  coords-long : length (coordsOf s) ≡ length (s .used)
-  unfolding coordsOf
-  coords-long = length-map (s .used) (λ (q : ℕ). regionBytes (getD (s .regions) q []))
 
   region-whole : (q : ℕ) → q < length (s .regions) → length (regionBytes (getD (s .regions) q [])) ≡ 6 * axes
   region-whole q h = omega (arith, region-long (getD (s .regions) q []), all-getD (Coordinates axes) (s .regions) q [] (well .coordinates-are) h .0)
@@ -79,18 +77,18 @@ module _ (axes mode : ℕ) (job : List ℕ) (records : ℕ) (s : Said) (e : walk
   coords-once x y h k f = go (tri x y)
     where
       use-low : (i : ℕ) → i < length (coordsOf s) → getD (s .used) i 0 < length (s .regions)
-      use-low i l = all-getD (λ q. q < length (s .regions)) (s .used) i 0 (well .counted .used-low) (omega (arith, coords-long))
+      use-low i l = all-getD (λ q. q < length (s .regions)) (s .used) i 0 (well .counted .used-low) (omega (arith, coords-long s))
 
       at : (i : ℕ) → i < length (coordsOf s) → backOf (getD (coordsOf s) i []) ≡ getD (s .regions) (getD (s .used) i 0) []
       at i l =
-          ap backOf (getD-map-in (λ (q : ℕ). regionBytes (getD (s .regions) q [])) (s .used) i 0 [] (omega (arith, coords-long)))
+          ap backOf (getD-map-in (λ (q : ℕ). regionBytes (getD (s .regions) q [])) (s .used) i 0 [] (omega (arith, coords-long s)))
           ∙ region-back (getD (s .regions) (getD (s .used) i 0) []) (all-getD (Coordinates axes) (s .regions) (getD (s .used) i 0) [] (well .coordinates-are) (use-low i l) .1)
 
       equal : getD (s .regions) (getD (s .used) x 0) [] ≡ getD (s .regions) (getD (s .used) y 0) []
       equal = sym (at x h) ∙ ap backOf f ∙ at y k
 
       differ : (i j : ℕ) → i < j → j < length (coordsOf s) → getD (s .regions) (getD (s .used) i 0) [] ≡ getD (s .regions) (getD (s .used) j 0) [] → ⊥
-      differ i j l m = two-getD (λ a b. getD (s .regions) a [] ≡ getD (s .regions) b [] → ⊥) (s .used) i j 0 (well .used-apart) l (omega (arith, coords-long))
+      differ i j l m = two-getD (λ a b. getD (s .regions) a [] ≡ getD (s .regions) b [] → ⊥) (s .used) i j 0 (well .used-apart) l (omega (arith, coords-long s))
 
       go : Tri x y → x ≡ y
       go (below l) = absurd (differ x y l k equal)
@@ -103,18 +101,12 @@ module _ (axes mode : ℕ) (job : List ℕ) (records : ℕ) (s : Said) (e : walk
       record {
         proper = well .good .sets-proper;
         words = well .words-low;
-        coords-are = coords-long;
+        coords-are = coords-long s;
         coords-whole = coords-whole;
         axes-few = a;
         regions-few = room .2;
         sets-few = omega (arith, room .0);
       }
-
--- three words a merge
-pub words-length : (l : List Entry) → length (words l) ≡ 3 * length l
-unfolding words
-words-length [] = refl
-words-length (e ∷ l) = omega (arith, words-length l)
 
 -- ---- what is not refused late
 
@@ -167,22 +159,6 @@ pub record Accepted (c : Lending) (r : Report) : Type 0 where
   -- everything that is written
   pub lent-is : after c .lent ≡ written (c .axes) (coordsOf said) (packedIn c said) (c .lent)
 
-abbrev reported : Report → Built → Report
-reported d (Refused n i) = d
-reported d (Done r) = r
-
-late-done : (axes : ℕ) (coords : List (List ℕ)) (k : Packed) (l : Lengths) (r : Report) → lateAnswer axes coords k l ≡ Done r
-    → (lateNo axes coords k l ≡ 0) × (r ≡ reportOf axes coords k)
-unfolding lateAnswer
-late-done axes coords k l r e = go (which (eqb (lateNo axes coords k l) 0)) e
-  where
-    go : Which (eqb (lateNo axes coords k l) 0) → pick (eqb (lateNo axes coords k l) 0) (Done (reportOf axes coords k)) (Refused (lateNo axes coords k l) 0) ≡ Done r
-        → (lateNo axes coords k l ≡ 0) × (r ≡ reportOf axes coords k)
-    go (holds h) f =
-        let g : Done (reportOf axes coords k) ≡ Done r = rw h at f in
-        (eqb-true (lateNo axes coords k l) 0 h, sym (ap (reported r) g))
-    go (fails h) f = let g = rw h at f in let z : _≡_ {A = ℕ} 0 1 = cc in absurd (omega arith)
-
 lent-done : (c : Lending) (s : Said) → outcomeOf c ≡ fine s → lateNo (c .axes) (coordsOf s) (packedIn c s) (lengths (c .lent)) ≡ 0
     → after c .lent ≡ written (c .axes) (coordsOf s) (packedIn c s) (c .lent)
 unfolding leftFrom buffersLeft
@@ -215,12 +191,6 @@ accepted-sized c r a b =
 
 -- ---- and what is left in the buffers, one by one
 
-pub over-front : (old new : List ℕ) (n : ℕ) → n ≡ length new → take n (over old 0 (length new) new) ≡ new
-over-front old new n e = take-at new (drop (0 + length new) old) n (sym e)
-
-over-at : (old new : List ℕ) (n : ℕ) → n < length new → getD (over old 0 (length new) new) n 0 ≡ getD new n 0
-over-at old new n h = List·getD-append new (drop (0 + length new) old) 0 n h
-
 module _ (c : Lending) (r : Report) (a : Accepted c r) where
   pub bytes-are : r .bytes ≡ length (storeIn c (a .said))
   unfolding reportOf
@@ -248,12 +218,12 @@ module _ (c : Lending) (r : Report) (a : Accepted c r) where
 
   -- the output begins with the store, and the log with the merges
   pub store-front : take (r .bytes) (after c .lent .out) ≡ storeIn c (a .said)
-  store-front = ap (take (r .bytes)) out-is ∙ over-front (c .lent .out) (storeIn c (a .said)) (r .bytes) bytes-are
+  store-front = ap (take (r .bytes)) out-is ∙ take-over (c .lent .out) (storeIn c (a .said)) (r .bytes) bytes-are
 
   pub log-front : take (3 * r .merges) (after c .lent .log) ≡ words (packedIn c (a .said) .log)
   log-front =
       ap (take (3 * r .merges)) log-is
-      ∙ over-front (c .lent .log) (words (packedIn c (a .said) .log)) (3 * r .merges) (omega (arith, merges-are, words-length (packedIn c (a .said) .log)))
+      ∙ take-over (c .lent .log) (words (packedIn c (a .said) .log)) (3 * r .merges) (omega (arith, merges-are, words-length (packedIn c (a .said) .log)))
 
   pub id-at : (n : ℕ) → n < length (packedIn c (a .said) .ids) → getD (after c .lent .ids) n 0 ≡ getD (packedIn c (a .said) .ids) n 0
   id-at n h = ap (λ (l : List ℕ). getD l n 0) ids-is ∙ over-at (c .lent .ids) (packedIn c (a .said) .ids) n h

@@ -15,10 +15,9 @@ use Rattle.laws.specs.Sorting.{sorted, keep}
 use Rattle.laws.proofs.Cases.{same-or-not}
 use Rattle.laws.proofs.ListLaws.{map-append}
 use Rattle.laws.proofs.EveryLaws.{all-imp, all-map, all-getD}
-use Rattle.laws.proofs.BoundedLaws.{tabulate-snoc}
 use Rattle.laws.proofs.SortLaws.{sorted-all, keep-append, keep-yes, keep-not, keep-same}
 use Rattle.laws.proofs.SortMap.{sorted-map, sorted-same, keep-map, keep-keep, keep-all, keep-sorted}
-use Rattle.laws.proofs.UpLaws.{up-all}
+use Rattle.laws.proofs.UpLaws.{up-all, up-snoc}
 use Rattle.sets.specs.Set.{Set, Ascending}
 use Rattle.sets.specs.Order.{order}
 use Rattle.sets.specs.Ids.{place, distinctFrom, distinct, sharedIds}
@@ -39,9 +38,6 @@ ids-length all = ap length (ids-place [] all) ∙ length-map all (λ s. place s 
 
 pub ids-below : (all : List Set) → All (λ x. x < length (distinct all)) (sharedIds all)
 ids-below all = rw (ids-place [] all) (all-map (λ x. x < length (distinct all)) (λ s. place s (distinct all)) all (distinct-has [] all))
-
-up-snoc : (n : ℕ) → upTo (n + 1) ≡ upTo n ++ (n ∷ [])
-up-snoc n = let e : 0 + n ≡ n = omega arith in tabulate-snoc 0 n (λ i. i) ∙ ap (λ (k : ℕ). upTo n ++ (k ∷ [])) e
 
 module _ (all : List Set) where
   -- no earlier set equals the set of number x

@@ -1,6 +1,6 @@
 -- From packed sets in work to the answer of the definition: what writing asks for is there, what it leaves is what is to be left, and the tests of
 -- what is lent are the definition's. Assumes nothing.
-use mathlib.Core.Path.{_≡_, refl, sym, ap, ap₂, _∙_}
+use mathlib.Core.Path.{_≡_, sym, ap, ap₂, _∙_}
 use mathlib.Core.Bool.{true, false}
 use mathlib.Core.List.{List, [], _∷_, map}
 use Prim.Native.Nat.{ℕ, zero, suc, _+_, _-_, _*_, _≤_, _<_}
@@ -17,8 +17,8 @@ use Rattle.laws.proofs.BoundedLaws.{length-tabulate}
 use Rattle.laws.proofs.RangeLaws.{length-seg}
 use Rattle.laws.proofs.SortLaws.{keep-same}
 use Rattle.groups.specs.Groups.{maxShapes}
-use Rattle.rule.specs.Model.{Entry}
 use Rattle.rule.specs.Told.{words}
+use Rattle.rule.proofs.Theorems.{words-length}
 use Rattle.store.specs.Placing.{Final, allRuns, idWords, names, keptOf, storeOf, forecastOf}
 use Rattle.rows.specs.Lent.{setAt}
 use Rattle.store.specs.Lent.{Drafted, Planned, Ready, coordsAt, coordsOf, finalAt, finalsAt, markedIn, sizesAt, stored}
@@ -42,11 +42,6 @@ all-tabulate : {A : Type 0} (P : A → Type 0) (a n : ℕ) (f : ℕ → A) → (
 unfolding tabulate
 all-tabulate P a zero f h = tt
 all-tabulate P a (suc n) f h = (h a (omega arith) (omega arith), all-tabulate P (suc a) n f (λ k p q. h k (omega arith) (omega arith)))
-
-words-length : (l : List Entry) → length (words l) ≡ 3 * length l
-unfolding words
-words-length [] = refl
-words-length (e ∷ l) = omega (arith, words-length l)
 
 -- with so few groups, the first test of the definition holds
 late-same : (sets distinct groups bytes out ids map log : ℕ) → groups ≤ maxShapes

@@ -2,3 +2,4 @@ pub mod StoreLaws
 pub mod LoopLaws
 pub mod WordsLaws
 pub mod FinishLaws
+pub mod DoneLaws

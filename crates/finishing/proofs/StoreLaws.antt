@@ -17,7 +17,7 @@ use Rattle.laws.specs.Every.{All}
 use Rattle.laws.specs.Bytes.{bytesOf}
 use Rattle.laws.specs.Bounded.{tabulate, upTo}
 use Rattle.laws.specs.Range.{seg}
-use Rattle.laws.proofs.EveryLaws.{all, all-append}
+use Rattle.laws.proofs.EveryLaws.{all, all-append, all-take, all-drop}
 use Rattle.laws.proofs.ListLaws.{map-append, getD-map-in}
 use Rattle.laws.proofs.BoundedLaws.{tabulate-same, tabulate-snoc, length-tabulate}
 use Rattle.laws.proofs.BagLaws.{weigh-append}
@@ -117,16 +117,6 @@ forecast-relabel axes kept f gs = ap (λ (m : ℕ). 12 + 6 * axes * kept + m) (m
 -- ---- the store
 
 module _ (P : ℕ → Type 0) where
-  all-take : (n : ℕ) (l : List ℕ) → All P l → All P (take n l)
-  all-take zero l h = tt
-  all-take (suc n) [] h = tt
-  all-take (suc n) (x ∷ l) h = (h .0, all-take n l (h .1))
-
-  all-drop : (n : ℕ) (l : List ℕ) → All P l → All P (drop n l)
-  all-drop zero l h = h
-  all-drop (suc n) [] h = tt
-  all-drop (suc n) (x ∷ l) h = all-drop n l (h .1)
-
   -- what holds of the ids of groups holds of their runs'
   group-all : (g : Final) → All P (g .ids) → All (λ (r : Final). All P (r .ids)) (runsOf g)
   unfolding runsOf tabulate
@@ -134,7 +124,7 @@ module _ (P : ℕ → Type 0) where
     where
       go : (a n : ℕ) → All (λ (r : Final). All P (r .ids)) (tabulate a n (λ k. record { shape = g .shape; ids = take maxItems (drop (maxItems * k) (g .ids)) }))
       go a zero = tt
-      go a (suc n) = (all-take maxItems (drop (maxItems * a) (g .ids)) (all-drop (maxItems * a) (g .ids) h), go (suc a) n)
+      go a (suc n) = (all-take P maxItems (drop (maxItems * a) (g .ids)) (all-drop P (maxItems * a) (g .ids) h), go (suc a) n)
 
   runs-all : (gs : List Final) → All (λ (g : Final). All P (g .ids)) gs → All (λ (g : Final). All P (g .ids)) (allRuns gs)
   unfolding allRuns joinAll

@@ -1,7 +1,7 @@
 -- Laws of groups by shape: their order, distinct shapes, counts. Assumes nothing.
-use mathlib.Core.Path.{_≡_, refl, sym, ap, ap₂, _∙_}
+use mathlib.Core.Path.{_≡_, refl, sym, ap, _∙_}
 use mathlib.Core.List.{List, [], _∷_, _++_, map}
-use Prim.Native.Nat.{ℕ, zero, suc, _+_, _-_, _*_, _≤_, _<_}
+use Prim.Native.Nat.{ℕ, zero, suc, _+_, _-_, _≤_, _<_}
 use native.Mathlib.Omega.{arith}
 use lib.ListN.{length, getD, take, drop, set, length-map}
 use Rattle.laws.specs.declared.Order.{Order}
@@ -9,10 +9,8 @@ use Rattle.laws.specs.declared.Order.the-variants.{Less, Equal, Greater}
 use Rattle.laws.specs.Order.{flipped}
 use Rattle.laws.specs.Every.{All, EachTwo}
 use Rattle.laws.specs.Bag.{weigh}
-use Rattle.laws.specs.Bounded.{tabulate}
-use Rattle.laws.specs.Signed.{value, zeroWord}
-use Rattle.laws.proofs.EveryLaws.{all-imp, two-imp, all-getD}
-use Rattle.laws.proofs.OrderLaws.{Chain, flip-flip}
+use Rattle.laws.specs.Signed.{value}
+use Rattle.laws.proofs.EveryLaws.{two-imp, all-getD}
 use Rattle.laws.proofs.BoundedLaws.{length-tabulate}
 use Rattle.shapes.specs.Width.{widthOf, costOf}
 use Rattle.shapes.specs.Shape.{Shape}
@@ -20,7 +18,7 @@ use Rattle.shapes.specs.Order.{order}
 use Rattle.shapes.specs.Group.{Group}
 use Rattle.shapes.proofs.OrderLaws.{order-self, order-equal, order-flip, order-chain}
 use Rattle.sets.specs.Set.{Set, wordOf}
-use Rattle.sets.specs.Ids.{distinct, distinctFrom}
+use Rattle.sets.specs.Ids.{distinct}
 use Rattle.groups.specs.Groups.{shapeOf, Before, placed, withShape, groupsFrom, groupsOf}
 
 pub shape-length : (regions : ℕ) (s : Set) → length (shapeOf regions s) ≡ regions
@@ -34,15 +32,15 @@ one s = record { shape = s; sets = 1 }
 abbrev pub more : Group → Group
 more g = record { shape = g .shape; sets = g .sets + 1 }
 
-with-less : (g : Group) (gs : List Group) (s : Shape) → order s (g .shape) ≡ Less → withShape (g ∷ gs) s ≡ one s ∷ g ∷ gs
+pub with-less : (g : Group) (gs : List Group) (s : Shape) → order s (g .shape) ≡ Less → withShape (g ∷ gs) s ≡ one s ∷ g ∷ gs
 unfolding withShape placed
 with-less g gs s e = rw e
 
-with-equal : (g : Group) (gs : List Group) (s : Shape) → order s (g .shape) ≡ Equal → withShape (g ∷ gs) s ≡ more g ∷ gs
+pub with-equal : (g : Group) (gs : List Group) (s : Shape) → order s (g .shape) ≡ Equal → withShape (g ∷ gs) s ≡ more g ∷ gs
 unfolding withShape placed
 with-equal g gs s e = rw e
 
-with-more : (g : Group) (gs : List Group) (s : Shape) → order s (g .shape) ≡ Greater → withShape (g ∷ gs) s ≡ g ∷ withShape gs s
+pub with-more : (g : Group) (gs : List Group) (s : Shape) → order s (g .shape) ≡ Greater → withShape (g ∷ gs) s ≡ g ∷ withShape gs s
 unfolding withShape placed
 with-more g gs s e = rw e
 

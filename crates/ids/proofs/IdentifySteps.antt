@@ -1,26 +1,25 @@
 -- From n held sets to their ids, call by call. Assumes nothing.
 use mathlib.Core.Path.{_≡_, refl, sym, ap, subst, _∙_}
 use mathlib.Core.Bool.{Bool, true, false, _&&_}
-use mathlib.Core.List.{List, [], _∷_, _++_}
+use mathlib.Core.List.{List, [], _∷_, _++_, append-nil}
 use mathlib.Core.Logic.{⊎-elim}
 use Prim.Native.Nat.{ℕ, zero, suc, _+_, _-_, _≤_, _<_}
 use native.Mathlib.Omega.{arith}
-use lib.Dec.{eqb}
 use lib.ListN.{length, getD}
 use borrow.Author.Tests.{eq-eqb, ne-eqb, eqb-true}
 use Rattle.laws.specs.Every.{All, EachTwo}
 use Rattle.laws.specs.Bounded.{upTo}
-use Rattle.laws.specs.Range.{Apart, Outside, Only, seg}
+use Rattle.laws.specs.Range.{Apart, seg}
 use Rattle.laws.specs.Sorting.{sorted, keep}
 use Rattle.laws.proofs.Cases.{same-or-not, lt-or-ge, Which, which}
 use Rattle.laws.proofs.Cases.Which.{holds, fails}
 use Rattle.laws.proofs.EveryLaws.{all-imp, all-getD}
 use Rattle.laws.proofs.RangeLaws.{only-trans, only-weaken, only-seg, getD-seg, length-seg, seg-add, seg-all, all-seg}
 use Rattle.laws.proofs.SortLaws.{sorted-same, sorted-all, keep-append, keep-same}
-use Rattle.laws.proofs.SortMap.{keep-all, keep-two, keep-passes, keep-keep, keep-sorted, keep-in, keep-out}
+use Rattle.laws.proofs.SortMap.{keep-all, keep-two, keep-passes, keep-keep, keep-sorted, keep-out}
 use Rattle.laws.proofs.UpLaws.{up-long, up-at, up-all}
 use Rattle.sets.specs.Set.{Set}
-use Rattle.sets.specs.Ids.{place, distinct, sharedIds}
+use Rattle.sets.specs.Ids.{place}
 use Rattle.sets.specs.Lent.{setOf, Ready, SortedAt, Held, setsIn, isFirst, atMost, IdsFit, Identified}
 use Rattle.ids.specs.Inner.{FirstsFit, FirstsAt, Resolved, GivesIds}
 use Rattle.ids.specs.Screened.{isKept, Screened}
@@ -267,11 +266,7 @@ module _ {w₀ : List ℕ} {index n at first ids : ℕ} (r : IdsFit w₀ index n
           line₂ =
               ap (keep (isFirst index n w₀)) whole ∙ keep-append (isFirst index n w₀) (seg at m w₂) (seg (at + m) (n - m) w₂)
               ∙ ap (λ (l : List ℕ). keep (isFirst index n w₀) (seg at m w₂) ++ l) (keep-none (isFirst index n w₀) (seg (at + m) (n - m) w₂) behind-none)
-              ∙ no-more (keep (isFirst index n w₀) (seg at m w₂)) ∙ front
-            where
-              no-more : (l : List ℕ) → l ++ [] ≡ l
-              no-more [] = refl
-              no-more (z ∷ l) = ap (λ (t : List ℕ). z ∷ t) (no-more l)
+              ∙ append-nil (keep (isFirst index n w₀) (seg at m w₂)) ∙ front
 
           numbers₂ : All (λ x. x < n) (seg at n w₂)
           numbers₂ = all-seg (λ x. x < n) n at w₂ (omega (arith, r .at-to, r .first-to, r .room, c .only .long, s .only .long))

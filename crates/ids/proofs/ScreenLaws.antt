@@ -1,9 +1,9 @@
 -- Screening, set by set: what is to be sorted stands in front and in order, what is not has an earlier equal set. Assumes nothing.
-use mathlib.Core.Path.{_≡_, refl, sym, ap, subst, _∙_}
+use mathlib.Core.Path.{_≡_, refl, sym, ap, _∙_}
 use mathlib.Core.Bool.{Bool, true, false}
-use mathlib.Core.List.{List, [], _∷_, _++_}
+use mathlib.Core.List.{List, [], _∷_, _++_, append-nil}
 use mathlib.Core.Logic.{⊎-elim}
-use Prim.Native.Nat.{ℕ, _+_, _-_, _*_, _≤_, _<_}
+use Prim.Native.Nat.{ℕ, _+_, _-_, _≤_, _<_}
 use native.Mathlib.Omega.{arith}
 use lib.ListN.{length, getD, set, length-set}
 use lib.Seq.{getD-set-same, getD-set-other}
@@ -11,28 +11,22 @@ use lib.Dec.{eqb}
 use borrow.Author.Tests.{eq-eqb, ne-eqb}
 use borrow.Author.Count.{below-more}
 use Rattle.laws.specs.declared.Order.the-variants.{Equal}
-use Rattle.laws.specs.Every.{All}
 use Rattle.laws.specs.Bounded.{tabulate, upTo}
 use Rattle.laws.specs.Range.{Only, seg, Zeroed}
 use Rattle.laws.specs.Sorting.{keep}
 use Rattle.laws.proofs.Cases.{same-or-not, lt-or-ge}
 use Rattle.laws.proofs.EveryLaws.{all-imp}
-use Rattle.laws.proofs.BoundedLaws.{tabulate-snoc}
 use Rattle.laws.proofs.RangeLaws.{only-refl, only-trans, only-weaken, only-set, seg-ext, seg-snoc, seg-none}
 use Rattle.laws.proofs.SortLaws.{keep-append, keep-same}
 use Rattle.laws.proofs.SortMap.{keep-in, keep-out}
-use Rattle.laws.proofs.UpLaws.{up-all}
-use Rattle.sets.specs.Set.{Set}
+use Rattle.laws.proofs.UpLaws.{up-all, up-snoc}
 use Rattle.sets.specs.Order.{order}
-use Rattle.sets.specs.Lent.{setOf, Stored, Held, IdsFit}
+use Rattle.sets.specs.Lent.{setOf, Stored, IdsFit}
 use Rattle.sets.proofs.HeldLaws.{Kept, kept-only, set-same, held-kept, held-stored}
 use Rattle.ids.specs.Screened.{isKept, Screened}
 use Rattle.ids.proofs.FirstLaws.{order-same}
 
 -- ---- keeping what is marked, one more
-
-up-snoc : (n : ℕ) → upTo (n + 1) ≡ upTo n ++ (n ∷ [])
-up-snoc n = tabulate-snoc 0 n (λ k. k) ∙ ap (λ (k : ℕ). upTo n ++ (k ∷ [])) (omega arith)
 
 kept-same : (first : ℕ) (u w : List ℕ) (n : ℕ) → ((k : ℕ) → k < n → getD w (first + k) 0 ≡ getD u (first + k) 0) → keep (isKept first w) (upTo n) ≡ keep (isKept first u) (upTo n)
 unfolding isKept
@@ -167,7 +161,7 @@ module _ {old : List ℕ} {index n at first seen : ℕ} (r : IdsFit old index n 
                 (only-set ((at, n) ∷ (first, n) ∷ (seen, n) ∷ []) u p x (λ o. omega (arith, o .0 .apart (omega arith)))));
             line =
                 seg-ext at at m w new (omega arith) (omega arith) (λ q t. other (at + q) (omega arith) (omega arith)) ∙ s .line ∙ sym (kept-same first new w x firsts)
-                ∙ sym (keep-one first w x ∙ ap (λ (z : List ℕ). keep (isKept first w) (upTo x) ++ z) (keep-out (isKept first w) x [] (not-kept first w x (λ z. omega (arith, first-is))) ∙ (keep-nothing (isKept first w))) ∙ no-more (keep (isKept first w) (upTo x)));
+                ∙ sym (keep-one first w x ∙ ap (λ (z : List ℕ). keep (isKept first w) (upTo x) ++ z) (keep-out (isKept first w) x [] (not-kept first w x (λ z. omega (arith, first-is))) ∙ (keep-nothing (isKept first w))) ∙ append-nil (keep (isKept first w) (upTo x)));
             rest = λ q t e. ⊎-elim
                 (λ (z : q ≡ n - 1 - (x - m)).
                 let i : getD w (at + q) 0 ≡ x = ap (λ (o : ℕ). getD w (at + o) 0) z ∙ at-is in
@@ -183,10 +177,6 @@ module _ {old : List ℕ} {index n at first seen : ℕ} (r : IdsFit old index n 
                 (lt-or-ge j x);
             seen-few = λ j q. omega (arith, other (seen + j) (omega arith) (omega arith), s .seen-few j q);
           }
-        where
-          no-more : (l : List ℕ) → l ++ [] ≡ l
-          no-more [] = refl
-          no-more (z ∷ l) = ap (λ (t : List ℕ). z ∷ t) (no-more l)
 
     pub screen-done : n ≤ x → Screened index n at first seen old new m
     screen-done l =

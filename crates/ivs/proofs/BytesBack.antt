@@ -2,31 +2,31 @@
 use mathlib.Core.Path.{_≡_, refl, sym, ap, _∙_}
 use mathlib.Core.List.{List, [], map}
 use mathlib.Core.Logic.{inl, inr, ⊎-elim}
-use Prim.Native.Nat.{ℕ, _+_, _*_, _%_, _^_, _≤_, _<_}
+use Prim.Native.Nat.{ℕ, _+_, _*_, _%_, _^_, _<_}
 use native.Mathlib.Omega.{arith}
-use lib.IntN.{ℤ, pos}
-use lib.ListN.{length, getD, take, length-map}
+use lib.IntN.{pos}
+use lib.ListN.{length, getD, take}
 use lib.Seq.{getD-drop}
 use Rattle.laws.specs.Bytes.{be}
 use Rattle.laws.specs.Signed.{signed, word, value, zeroWord}
 use Rattle.laws.proofs.ListLaws.{getD-map-in}
 use Rattle.laws.proofs.SignedLaws.{value-twos, word-value}
 use Rattle.sets.specs.Set.{wordOf}
-use Rattle.reader.specs.declared.reader.Reading.the-variants.{Written, NoColumn}
+use Rattle.reader.specs.declared.reader.Reading.the-variants.{Written}
 use Rattle.reader.specs.Store.{readStore, valueOf, regionCount}
-use Rattle.said.specs.Records.{regionOf, valueWord}
-use Rattle.said.specs.Sets.{Region}
+use Rattle.said.specs.Records.{regionOf, valueWord, recordAt}
 use Rattle.said.specs.Job.{Said}
 use Rattle.said.proofs.RecordLaws.{be-two, be-four}
 use Rattle.said.proofs.SoundLaws.{Bytes}
-use Rattle.told.specs.Told.{recordAt, ValueIn, coordinatesAt, indexOf, Told}
+use Rattle.told.specs.Told.{ValueIn, coordinatesAt, indexOf, Told}
 use Rattle.told.proofs.Bytes.{told}
 use Rattle.finishing.specs.declared.answers.Report.{Report}
 use Rattle.finishing.specs.declared.answers.Built.the-variants.{Done}
 use Rattle.build.specs.Lending.{Lending}
 use Rattle.build.specs.Build.{regionBytes, coordsOf, answerOf, after}
 use Rattle.ivs.specs.SetsRead.{listed, namedBy, valueAt, InStore, SetRead, SetsRead}
-use Rattle.ivs.proofs.Demand2.{SetBack, RegionBack, InList, Demand2, demand2}
+use Rattle.ivs.proofs.Accepted.{coords-long}
+use Rattle.ivs.proofs.Demand2.{SetBack, demand2}
 
 -- ---- a record's value
 
@@ -49,10 +49,6 @@ value-at job i b = word-signed (be 4 (recordAt job i) 4) (four-low (recordAt job
 -- ---- one set
 
 module _ (axes : ℕ) (job : List ℕ) (s : Said) (bytes : Bytes job) (t : Told axes job s) where
-  coords-count : length (coordsOf s) ≡ length (s .used)
-  unfolding coordsOf
-  coords-count = length-map (s .used) (λ (q : ℕ). regionBytes (getD (s .regions) q []))
-
   coords-at : (r : ℕ) → r < length (s .used) → getD (coordsOf s) r [] ≡ regionBytes (coordinatesAt axes job (getD (s .used) r 0))
   unfolding coordsOf
   coords-at r h =
@@ -65,7 +61,7 @@ module _ (axes : ℕ) (job : List ℕ) (s : Said) (bytes : Bytes job) (t : Told 
       r = indexOf s (regionOf (recordAt job i))
 
       below : r < length (coordsOf s)
-      below = omega (arith, t .given n i v .index-below, coords-count)
+      below = omega (arith, t .given n i v .index-below, coords-long s)
 
       named-at : getD (coordsOf s) r [] ≡ namedBy axes job i
       named-at = coords-at r (t .given n i v .index-below) ∙ ap regionBytes (t .given n i v .coordinates-are)
@@ -87,7 +83,7 @@ module _ (axes : ℕ) (job : List ℕ) (s : Said) (bytes : Bytes job) (t : Told 
         → valueOf (readStore store (b .outer) (b .inner) q) ≡ pos 0
     silent q l d =
         let x = b .regions q l in
-        let k : x .region < length (s .used) = omega (arith, x .below, coords-count) in
+        let k : x .region < length (s .used) = omega (arith, x .below, coords-long s) in
         x .gives-back
         ∙ ap value (t .unnamed n (x .region) h k (λ i v c. d i v (x .coordinates ∙ coords-at (x .region) k ∙ ap regionBytes (sym c))))
         ∙ zero-is

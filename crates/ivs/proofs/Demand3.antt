@@ -2,7 +2,7 @@
 -- field. And what mode 1 answers for them. Assumes nothing.
 use mathlib.Core.Path.{_≡_, refl, sym, ap, subst, _∙_}
 use mathlib.Core.Option.{some}
-use mathlib.Core.List.{List, [], _∷_, map}
+use mathlib.Core.List.{List, [], map}
 use Prim.Native.Nat.{ℕ, zero, suc, _+_, _-_, _*_, _/_, _≤_, _<_}
 use native.Mathlib.Omega.{arith}
 use lib.ListN.{length, getD, take}
@@ -19,7 +19,7 @@ use Rattle.groups.proofs.GroupLaws.{groups-unlike, groups-some, groups-long}
 use Rattle.rule.specs.Model.{Pair, Entry, gainOf, choice, run, start, merged, total}
 use Rattle.rule.specs.Told.{words}
 use Rattle.rule.proofs.Theorems as merging
-use Rattle.rule.proofs.Theorems.{Merges, saved, merged-merges, run-total, all-gains-zero, fewer, none-of-none, weighed-is, weighed-few}
+use Rattle.rule.proofs.Theorems.{Merges, saved, merged-merges, run-total, all-gains-zero, fewer, none-of-none, merged-few, merged-weighed, words-length}
 use Rattle.rule.proofs.Origins.{homes, one-home, Made, made}
 use Rattle.store.specs.Placing.{allRuns, storeOf}
 use Rattle.said.specs.Job.{Said, fine}
@@ -29,7 +29,7 @@ use Rattle.finishing.specs.declared.answers.Built.the-variants.{Done}
 use Rattle.finishing.specs.Late.{storeFor, reportOf}
 use Rattle.build.specs.Lending.{Lending}
 use Rattle.build.specs.Build.{coordsOf, packedOf, outcomeOf, answerOf, after}
-use Rattle.build.proofs.Accepted.{Accepted, accepted, packedIn, words-length, log-is, store-front, log-front}
+use Rattle.build.proofs.Accepted.{Accepted, accepted, packedIn, log-is, store-front, log-front}
 use Rattle.ivs.proofs.JoinSteps.{Joins, joins}
 
 -- ---- the rule on a list of groups
@@ -61,15 +61,6 @@ pub record Ruled (xs : List Group) (n merges weighed before after : ℕ) : Type 
   pub one-group : (i : ℕ) → i < n → homes i (merged xs .living) ≡ 1
   pub made-of : All (Made xs) (merged xs .living)
 
-few : (xs : List Group) → merged xs .weighed ≤ (length xs - 1) * (length xs - 1)
-unfolding merged
-few xs = weighed-few (length xs) xs
-
-weighed-by : (xs : List Group) → merged xs .weighed
-    ≡ length xs * (length xs - 1) / 2 + length (merged xs .log) * (length xs - 1) - length (merged xs .log) * (length (merged xs .log) + 1) / 2
-unfolding merged
-weighed-by xs = weighed-is (length xs) xs
-
 ruled : (xs : List Group) → Ruled xs (length xs) (length (merged xs .log)) (merged xs .weighed) (total (start xs .living)) (total (merged xs .living))
 unfolding merged
 ruled xs = record {
@@ -84,8 +75,8 @@ ruled xs = record {
   gains-end = all-gains-zero xs;
   fewer-merges = fewer (length xs) xs;
   none-merged = λ z. none-of-none (length xs) xs z .0;
-  pairs-weighed = weighed-by xs;
-  pairs-most = few xs;
+  pairs-weighed = merged-weighed xs;
+  pairs-most = merged-few xs;
   one-group = one-home (length xs) xs;
   made-of = made (length xs) xs;
 }
@@ -124,7 +115,7 @@ pub record Demand3 (c : Lending) (r : Report) : Type 0 where
   pub subtables-are : r .subtables ≡ length (allRuns (packedOf 0 said .finals))
 
 -- what mode 0 makes of the sets
-shared-is : (s : Said) → packedOf 0 s ≡ shared (length (s .used)) (s .sets)
+pub shared-is : (s : Said) → packedOf 0 s ≡ shared (length (s .used)) (s .sets)
 unfolding packedOf
 shared-is s = refl
 

@@ -23,7 +23,7 @@ use Rattle.ivs.specs.Rows.{AllPass}
 use Rattle.ivs.proofs.WalkRows.{ends-given}
 use Rattle.ivs.proofs.OutcomeRows.{ended-no, ends-only, outcome-walked, walked-only, answer-refused, job-only}
 use Rattle.ivs.proofs.EarlyRows.{early-none}
-use Rattle.ivs.proofs.StateLaws.{Means, means}
+use Rattle.ivs.proofs.StateLaws.{Means, means, not-axes}
 
 -- ---- the end of a job
 
@@ -46,9 +46,6 @@ module _ (axes : ℕ) (job : List ℕ) (k : ℕ) where
           let f = rw (eq-eqb (k % axes) 0 h) at e in
           let z : _≡_ {A = ℕ} 0 1 = cc in
           omega arith)
-
-  not-axes : (s : Said) → inSets s ≡ inAxes → ⊥
-  not-axes s e = let z : _≡_ {A = ℕ} 0 1 = cc in omega arith
 
   sets-some : (s : Said) (l : List ℕ) → 0 < length l → endedSets k s l ≡ refused 8 k
   unfolding endedSets

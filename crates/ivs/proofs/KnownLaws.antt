@@ -1,22 +1,24 @@
 -- A region that a value has named before has its axis records; named before means the same coordinates. Assumes nothing.
-use mathlib.Core.Path.{_≡_, refl, sym, ap, subst, _∙_}
-use mathlib.Core.Bool.{Bool, true, false}
-use mathlib.Core.List.{List, [], _∷_}
-use mathlib.Core.Logic.{_⊎_, inl, inr, ⊎-elim}
-use Prim.Native.Nat.{ℕ, zero, suc, _+_, _*_, _/_, _%_, _≤_, _<_}
+use mathlib.Core.Path.{_≡_, sym, subst, _∙_}
+use mathlib.Core.List.{List}
+use mathlib.Core.Logic.{_⊎_, ⊎-elim}
+use Prim.Native.Nat.{ℕ, zero, suc, _/_, _≤_, _<_}
 use native.Mathlib.Omega.{arith}
-use lib.ListN.{length, getD}
+use lib.ListN.{length}
 use Rattle.laws.proofs.Cases.{lt-or-ge, same-or-not}
-use Rattle.said.specs.Records.{kind, regionOf}
+use Rattle.said.specs.Records.{kind, regionOf, recordAt}
 use Rattle.said.specs.Sets.{Region, regionList, firstLike, has}
-use Rattle.said.specs.Job.{Said, State, inAxes, inSets, stop, on, step}
+use Rattle.said.specs.Job.{State, stop, step}
 use Rattle.said.proofs.MeaningLaws.{first-equal, equal-first}
+use Rattle.said.proofs.SaidLaws.{value-known}
+use Rattle.told.specs.Told.{countKind}
+use Rattle.told.proofs.WordLaws.{count-here, count-past, count-most}
 use Rattle.ivs.specs.Exactly.{Exactly}
-use Rattle.ivs.specs.Passing.{recordAt, Passed, saidAt}
-use Rattle.ivs.specs.Counts.{countKind, axisRecords, knownRegions, NamedBefore}
+use Rattle.ivs.specs.Passing.{Passed, saidAt}
+use Rattle.ivs.specs.Counts.{knownRegions, NamedBefore}
 use Rattle.ivs.proofs.StepLaws.{Looks, looks}
 use Rattle.ivs.proofs.StepLaws.Looks.{axis, late, cut, value, set-end, unknown}
-use Rattle.ivs.proofs.StateLaws.{count-here, count-past, count-most, value-on, value-known, NamedAt, Means, means}
+use Rattle.ivs.proofs.StateLaws.{value-on, NamedAt, Means, means}
 
 -- one record of another kind
 count-less : (k : ℕ) (job : List ℕ) (i p : ℕ) → p < i → (kind (recordAt job p) ≡ k → ⊥) → countKind k job i < i

@@ -1,28 +1,25 @@
 -- Which part of a build answers: the tests before the records, a record, the end of the job, or the tests after it. Assumes nothing.
 use mathlib.Core.Path.{_≡_, refl, sym, ap, _∙_}
-use mathlib.Core.Bool.{Bool, true, false}
 use mathlib.Core.List.{List, [], _∷_}
 use mathlib.Core.Logic.{_⊎_, inl, inr, ⊎-elim}
-use Prim.Native.Nat.{ℕ, zero, suc, _+_, _-_, _*_, _/_, _%_, _≤_, _<_}
+use Prim.Native.Nat.{ℕ, zero, suc, _-_, _/_, _%_, _≤_, _<_}
 use native.Mathlib.Omega.{arith}
 use lib.ListN.{length}
-use lib.Dec.{eqb}
 use borrow.Author.Tests.{eq-eqb, ne-eqb}
-use Rattle.laws.specs.Pick.{pick}
 use Rattle.laws.proofs.Cases.{same-or-not}
-use Rattle.said.specs.Refusals.{firstFailed, earlyNo}
-use Rattle.said.specs.Job.{Said, State, inAxes, inSets, step, Outcome, refused, fine, ended, endedSets, walk, outcome, outcomeFrom}
-use Rattle.finishing.specs.declared.answers.Built.{Built}
+use Rattle.said.specs.Records.{recordAt}
+use Rattle.said.specs.Refusals.{earlyNo}
+use Rattle.said.specs.Job.{Said, State, inAxes, inSets, Outcome, refused, fine, ended, endedSets, walk, outcome, outcomeFrom}
 use Rattle.finishing.specs.declared.answers.Built.the-variants.{Refused, Done}
 use Rattle.finishing.specs.Buffers.{Lengths, lengths}
 use Rattle.finishing.specs.Late.{lateNo, lateAnswer, reportOf}
 use Rattle.build.specs.Lending.{Lending}
 use Rattle.build.specs.Build.{coordsOf, packedOf, answerFrom, outcomeOf, answerOf}
 use Rattle.ivs.specs.Exactly.{Exactly}
-use Rattle.ivs.specs.Passing.{recordAt, StopsAt, EndsAs}
+use Rattle.ivs.specs.Passing.{StopsAt, EndsAs}
 use Rattle.ivs.proofs.FailedLaws.{among}
-use Rattle.ivs.proofs.StepLaws.{RecordNo, stop-no}
-use Rattle.ivs.proofs.WalkRows.{Way, way, stops-given, ends-given}
+use Rattle.ivs.proofs.StepLaws.{stop-no}
+use Rattle.ivs.proofs.WalkRows.{Way, way, stops-given}
 use Rattle.ivs.proofs.WalkRows.Way.{stopped, came}
 
 -- ---- the numbers of each part

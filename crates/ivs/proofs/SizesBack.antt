@@ -16,11 +16,7 @@ use Rattle.finishing.specs.declared.answers.Built.the-variants.{Done}
 use Rattle.build.specs.Lending.{Lending}
 use Rattle.build.specs.Build.{packedOf, answerOf}
 use Rattle.ivs.specs.Sized.{Sized}
-use Rattle.ivs.proofs.Demand3.{Demand3, demand3}
-
-shared-is : (s : Said) → packedOf 0 s ≡ shared (length (s .used)) (s .sets)
-unfolding packedOf
-shared-is s = refl
+use Rattle.ivs.proofs.Demand3.{demand3, shared-is}
 
 shared-after : (s : Said) → shared (length (s .used)) (s .sets) .after ≡ total (merged (groupsOf (length (s .used)) (s .sets)) .living)
 unfolding shared

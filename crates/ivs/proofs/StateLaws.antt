@@ -1,43 +1,26 @@
 -- What the state before a record means, in document 01's words: by counts of the records before it. Assumes nothing.
 use mathlib.Core.Path.{_≡_, refl, sym, ap, subst, _∙_}
-use mathlib.Core.Bool.{Bool, true, false, not, _||_}
-use mathlib.Core.List.{List, [], _∷_, _++_}
+use mathlib.Core.Bool.{true, _||_}
+use mathlib.Core.List.{List, [], _∷_}
 use mathlib.Core.Logic.{_⊎_, inl, inr, ⊎-elim}
-use Prim.Native.Nat.{ℕ, zero, suc, _+_, _-_, _*_, _/_, _%_, _≤_, _<_}
+use Prim.Native.Nat.{ℕ, zero, suc, _-_, _/_, _%_, _≤_, _<_}
 use native.Mathlib.Omega.{arith}
-use lib.ListN.{length, getD, length-append}
-use lib.Dec.{eqb, ltb}
-use borrow.Author.Tests.{eq-eqb, ne-eqb, eqb-true, eqb-false, ltb-true}
-use Rattle.laws.proofs.Cases.{Which, which, lt-or-ge, same-or-not}
-use Rattle.laws.proofs.Cases.Which.{holds, fails}
-use Rattle.said.specs.Records.{kind, regionOf, valueZeros, valueWord}
-use Rattle.said.specs.Refusals.{firstFailed, axisNo, valueNo, endNo}
+use lib.ListN.{length, length-append}
+use lib.Dec.{eqb}
+use borrow.Author.Tests.{eq-eqb, eqb-true}
+use Rattle.laws.proofs.Cases.{lt-or-ge, or-left, or-right, or-cases}
+use Rattle.said.specs.Records.{kind, regionOf, valueWord, recordAt}
+use Rattle.said.specs.Refusals.{axisNo}
 use Rattle.said.specs.Sets.{Region, regionList, firstLike, has}
-use Rattle.said.specs.Job.{Said, State, inAxes, inSets, Step, stop, on, unless, afterValue, afterEnd, valueStep, endStep, regionsOnly, step}
+use Rattle.said.specs.Job.{Said, State, inAxes, inSets, stop, on, unless, afterValue, afterEnd, valueStep, endStep, regionsOnly, step}
+use Rattle.said.proofs.SaidLaws.{value-known}
+use Rattle.told.proofs.WordLaws.{count-here, count-past, count-most}
+use Rattle.told.specs.Told.{countKind, endsBefore}
 use Rattle.ivs.specs.Exactly.{Exactly}
-use Rattle.ivs.specs.Passing.{recordAt, Passed, saidAt, Whole}
-use Rattle.ivs.specs.Counts.{countKind, axisRecords, endsBefore, knownRegions}
-use Rattle.ivs.proofs.FailedLaws.{other, later}
+use Rattle.ivs.specs.Passing.{Passed, saidAt, Whole}
+use Rattle.ivs.specs.Counts.{axisRecords, knownRegions}
 use Rattle.ivs.proofs.StepLaws.{Looks, looks, valueTold, endTold}
 use Rattle.ivs.proofs.StepLaws.Looks.{axis, late, cut, value, set-end, unknown}
-
--- ---- counts
-
-module _ (k : ℕ) (job : List ℕ) (i : ℕ) where
-  pub count-here : kind (recordAt job i) ≡ k → countKind k job (suc i) ≡ suc (countKind k job i)
-  unfolding countKind
-  count-here e = rw (eq-eqb (kind (recordAt job i)) k e)
-
-  pub count-past : (kind (recordAt job i) ≡ k → ⊥) → countKind k job (suc i) ≡ countKind k job i
-  unfolding countKind
-  count-past d = rw (ne-eqb (kind (recordAt job i)) k d)
-
-pub count-most : (k : ℕ) (job : List ℕ) (i : ℕ) → countKind k job i ≤ i
-unfolding countKind
-count-most k job zero = omega arith
-count-most k job (suc i) =
-    let h = count-most k job i in
-    ⊎-elim (λ (e : kind (recordAt job i) ≡ k). omega (arith, count-here k job i e)) (λ d. omega (arith, count-past k job i d)) (same-or-not (kind (recordAt job i)) k)
 
 -- ---- steps that go on
 
@@ -54,13 +37,6 @@ value-on r s t e = unless-on-only (valueTold r s) _ t e
 pub end-on : (mode : ℕ) (r : List ℕ) (s : Said) (t : State) → endStep mode r s ≡ on t → (endTold mode r s ≡ 0) × (inSets (afterEnd s) ≡ t)
 unfolding endStep
 end-on mode r s t e = unless-on-only (endTold mode r s) _ t e
-
--- the region of a value that passes is known
-pub value-known : (r : List ℕ) (regions : ℕ) (named : Bool) → valueNo r regions named ≡ 0 → regionOf r < regions
-unfolding valueNo
-value-known r regions named e =
-    ltb-true (regionOf r) regions (other 6 ((not named, 7) ∷ []) 0 (ltb (regionOf r) regions) (λ z. omega arith)
-    (later 5 ((ltb (regionOf r) regions, 6) ∷ (not named, 7) ∷ []) 0 (valueZeros r) (λ z. omega arith) e))
 
 -- ---- the regions that a set has named
 
@@ -146,22 +122,14 @@ axes-mean axes job i a z last = record {
 
 -- ---- one record more
 
-or-first : (a b : Bool) → a ≡ true → a || b ≡ true
-or-first a b e = rw e
-
-or-second : (a b : Bool) → b ≡ true → a || b ≡ true
-or-second true b e = refl
-or-second false b e = e
-
-or-true : (a b : Bool) → a || b ≡ true → (a ≡ true) ⊎ (b ≡ true)
-or-true true b e = inl refl
-or-true false b e = inr e
+pub not-axes : (s : Said) → inSets s ≡ inAxes → ⊥
+not-axes s e = let z : _≡_ {A = ℕ} 0 1 = cc in omega arith
 
 module _ (axes : ℕ) (job : List ℕ) (i : ℕ) where
   -- "inside an unfinished region", by the count of axis records
   pub whole-count : (t : State) → Means axes job i t → Whole axes i t → axisRecords job i % axes ≡ 0
   whole-count inAxes m w = ap (λ (n : ℕ). n % axes) (m .in-axes refl) ∙ w refl
-  whole-count (inSets s) m w = m .in-sets (λ e. let z : _≡_ {A = ℕ} 0 1 = cc in omega arith) .1
+  whole-count (inSets s) m w = m .in-sets (not-axes s) .1
 
   pub count-whole : (t : State) → Means axes job i t → axisRecords job i % axes ≡ 0 → Whole axes i t
   count-whole t m c e = ap (λ (n : ℕ). n % axes) (sym (m .in-axes e)) ∙ c
@@ -169,9 +137,6 @@ module _ (axes : ℕ) (job : List ℕ) (i : ℕ) where
   none-ended : (t : State) → t ≡ inAxes → length (saidAt axes job i t .sets) ≡ 0
   unfolding saidAt regionsOnly
   none-ended t e = rw e
-
-  not-axes : (s : Said) → inSets s ≡ inAxes → ⊥
-  not-axes s e = let z : _≡_ {A = ℕ} 0 1 = cc in omega arith
 
   module _ (t : State) (m : Means axes job i t) where
     abbrev r : List ℕ
@@ -218,15 +183,15 @@ module _ (axes : ℕ) (job : List ℕ) (i : ℕ) where
 
         named-given : (q : ℕ) → NamedAt (knownRegions axes job i) job (suc i) q → eqb q q′ || has q (old .named) ≡ true
         named-given q n =
-            ⊎-elim (λ (e : firstLike (knownRegions axes job i) (regionOf r) ≡ q). or-first (eqb q q′) (has q (old .named)) (eq-eqb q q′ (sym (like-is ∙ e))))
-            (λ (x : NamedAt (knownRegions axes job i) job i q). or-second (eqb q q′) (has q (old .named)) (m .named-is q .given x))
+            ⊎-elim (λ (e : firstLike (knownRegions axes job i) (regionOf r) ≡ q). or-left (eqb q q′) (has q (old .named)) (eq-eqb q q′ (sym (like-is ∙ e))))
+            (λ (x : NamedAt (knownRegions axes job i) job i q). or-right (eqb q q′) (has q (old .named)) (m .named-is q .given x))
             (named-by (knownRegions axes job i) job i q n)
 
         named-only : (q : ℕ) → eqb q q′ || has q (old .named) ≡ true → NamedAt (knownRegions axes job i) job (suc i) q
         named-only q h =
             ⊎-elim (λ (e : eqb q q′ ≡ true). named-here (knownRegions axes job i) job i q v known (sym like-is ∙ sym (eqb-true q q′ e)))
             (λ (e : has q (old .named) ≡ true). named-on (knownRegions axes job i) job i q v (m .named-is q .only e))
-            (or-true (eqb q q′) (has q (old .named)) h)
+            (or-cases (eqb q q′) (has q (old .named)) h)
 
     end-mean : kind r ≡ 3 → Whole axes i t → Means axes job (suc i) (inSets (afterEnd old))
     unfolding saidAt afterEnd has

@@ -1,15 +1,15 @@
 -- "Then records from the first on: the earliest bad record answers". A walk along a job's records is refused at record i exactly when those before
 -- it pass and it does not; else its end answers. Assumes nothing.
 use mathlib.Core.Path.{_≡_, refl, sym, ap, subst, _∙_}
-use mathlib.Core.List.{List, [], _∷_}
-use Prim.Native.Nat.{ℕ, zero, suc, _+_, _-_, _*_, _/_, _%_, _≤_, _<_}
+use mathlib.Core.List.{List}
+use Prim.Native.Nat.{ℕ, zero, suc, _+_, _-_, _*_, _≤_}
 use native.Mathlib.Nat.{sub-zero}
 use native.Mathlib.Numerals.{add-one}
 use native.Mathlib.Omega.{arith}
-use lib.ListN.{length, drop}
 use lib.Seq.{drop-drop}
-use Rattle.said.specs.Job.{Said, State, inAxes, inSets, Step, stop, on, step, Outcome, refused, fine, ended, endedSets, follow, walk}
-use Rattle.ivs.specs.Passing.{recordAt, Passed, StopsAt, EndsAs}
+use Rattle.said.specs.Records.{recordAt}
+use Rattle.said.specs.Job.{State, inAxes, Step, stop, on, step, Outcome, refused, ended, follow, walk}
+use Rattle.ivs.specs.Passing.{Passed, StopsAt, EndsAs}
 
 module _ (axes mode : ℕ) (job : List ℕ) where
   -- one turn

@@ -2,24 +2,15 @@
 use mathlib.Core.Path.{_≡_}
 use mathlib.Core.Logic.{_⊎_}
 use mathlib.Core.List.{List, []}
-use Prim.Native.Nat.{ℕ, zero, suc, _+_, _/_, _%_, _≤_, _<_}
+use Prim.Native.Nat.{ℕ, suc, _+_, _/_, _%_, _≤_, _<_}
 use lib.ListN.{length, getD}
-use lib.Dec.{eqb}
-use Rattle.laws.specs.Pick.{pick}
-use Rattle.said.specs.Records.{kind, regionOf, axisOf}
+use Rattle.said.specs.Records.{kind, regionOf, axisOf, recordAt}
 use Rattle.said.specs.Sets.{Region, regionList}
-use Rattle.ivs.specs.Passing.{recordAt}
+use Rattle.told.specs.Told.{countKind, endsBefore}
 
--- how many of the first i records are of this kind
-unfoldable pub countKind : ℕ → List ℕ → ℕ → ℕ
-countKind k job zero = 0
-countKind k job (suc i) = pick (eqb (kind (recordAt job i)) k) (suc (countKind k job i)) (countKind k job i)
-
+-- how many of the first i records are axis records
 abbrev pub axisRecords : List ℕ → ℕ → ℕ
 axisRecords job i = countKind 1 job i
-
-abbrev pub endsBefore : List ℕ → ℕ → ℕ
-endsBefore job i = countKind 3 job i
 
 -- the regions that have all their axis records before record i
 abbrev pub knownRegions : ℕ → List ℕ → ℕ → List Region

@@ -8,7 +8,7 @@ use lib.ListN.{length}
 use Rattle.laws.specs.Every.{All, EachTwo}
 use Rattle.shapes.specs.Group.{Group}
 use Rattle.rule.specs.Model.{gainOf, start, merged}
-use Rattle.rule.proofs.Theorems.{Merges, saved, merged-merges, run-total, all-gains-zero, fewer, none-of-none, weighed-is, weighed-few}
+use Rattle.rule.proofs.Theorems.{Merges, saved, merged-merges, run-total, all-gains-zero, fewer, none-of-none, merged-few, merged-weighed}
 use Rattle.rule.proofs.Origins.{homes, one-home, Made, made}
 use Rattle.slots.specs.declared.tables.Tables.{Tables}
 use Rattle.slots.specs.Lent.{starting}
@@ -32,16 +32,8 @@ pub record Demand (t : Tables) (merges weighed before after : ℕ) (w : List ℕ
   pub one-group : (i : ℕ) → i < t .groups → homes i (merged (starting t w) .living) ≡ 1
   pub made-of : All (Made (starting t w)) (merged (starting t w) .living)
 
-merged-few : (xs : List Group) → merged xs .weighed ≤ (length xs - 1) * (length xs - 1)
-unfolding merged
-merged-few xs = weighed-few (length xs) xs
-
 few : (t : Tables) (w : List ℕ) (m : ℕ) → m ≡ merged (starting t w) .weighed → m ≤ (t .groups - 1) * (t .groups - 1)
 few t w m e = let f = rw (starting-length t w) at (merged-few (starting t w)) in omega arith
-
-merged-weighed : (xs : List Group) → let n = length xs in let j = length (merged xs .log) in merged xs .weighed ≡ n * (n - 1) / 2 + j * (n - 1) - j * (j + 1) / 2
-unfolding merged
-merged-weighed xs = weighed-is (length xs) xs
 
 weighed-by : (n j m : ℕ) (xs : List Group) → length xs ≡ n → j ≡ length (merged xs .log) → m ≡ merged xs .weighed → m ≡ n * (n - 1) / 2 + j * (n - 1) - j * (j + 1) / 2
 weighed-by n j m xs e f g = rw (← e, f) (g ∙ merged-weighed xs)

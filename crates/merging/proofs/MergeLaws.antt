@@ -11,7 +11,7 @@ use Rattle.laws.specs.Every.{All}
 use Rattle.laws.specs.Range.{seg}
 use Rattle.laws.proofs.Cases.{same-or-not, Tri, tri}
 use Rattle.laws.proofs.Cases.Tri.{below, same, above}
-use Rattle.laws.proofs.BagLaws.{sum-two}
+use Rattle.laws.proofs.BagLaws.{sum-next, sum-two}
 use Rattle.laws.proofs.EveryLaws.{all-imp, all-and, all-append}
 use Rattle.laws.proofs.RangeLaws.{seg-add}
 use Rattle.shapes.specs.Group.{Group, gain, joined}
@@ -27,7 +27,7 @@ use Rattle.slots.specs.Lent.{groupIn}
 use Rattle.waits.specs.Waits.{room, placeOf, groupOf, alive, pairOf, Placed, Reached, Waits, Asked, OfferedAll}
 use Rattle.merging.specs.Held.{Lives, Reaches, Held, Standing, Chosen, Joinable, PairJoined}
 use Rattle.merging.specs.Held.Reaches.{here, onto}
-use Rattle.waits.proofs.WaitLaws.{room-is, alive-none, alive-one, alive-same, sum-next, waits-next}
+use Rattle.waits.proofs.WaitLaws.{room-is, alive-none, alive-one, alive-same, waits-next}
 use Rattle.merging.proofs.HeldLaws.{merges-few}
 
 module _ (t : Tables) (xs : List Group) (n m j z : ℕ) (p : Waiting) (w : List ℕ) (ps : List Waiting) (c : Chosen t xs n m j z p w ps)

@@ -16,6 +16,7 @@ use Rattle.shapes.specs.Shape.{join}
 use Rattle.shapes.proofs.ShapeLaws.{join-length}
 use Rattle.shapes.proofs.GroupLaws.{joined-shape, joined-sets, gain-comm, gain-falls, clash}
 use Rattle.rule.specs.Model.{Living, Pair, Entry, State, Ahead, gainOf, joinedAs, keepOut, outs, pairs, ifWorth, best, choice, entry, merge, follow, step, run, number, start, merged, total}
+use Rattle.rule.specs.Told.{words}
 use Rattle.rule.proofs.PairLaws.{pairs-sum, sum-end, pairs-length, pairs-all, pairs-two, chosen, not-chosen, chosen-has}
 
 -- ---- the run
@@ -366,3 +367,18 @@ weighed-few k xs = ⊎-elim
     (λ (e : length xs ≡ 0). let z = none-of-none k xs e .1 in omega arith)
     (λ d. weighed-most k xs (length xs - 1) (omega arith))
     (same-or-not (length xs) 0)
+
+-- the same of the whole run, and its log as words
+pub merged-few : (xs : List Group) → merged xs .weighed ≤ (length xs - 1) * (length xs - 1)
+unfolding merged
+merged-few xs = weighed-few (length xs) xs
+
+pub merged-weighed : (xs : List Group) → merged xs .weighed
+    ≡ length xs * (length xs - 1) / 2 + length (merged xs .log) * (length xs - 1) - length (merged xs .log) * (length (merged xs .log) + 1) / 2
+unfolding merged
+merged-weighed xs = weighed-is (length xs) xs
+
+pub words-length : (l : List Entry) → length (words l) ≡ 3 * length l
+unfolding words
+words-length [] = refl
+words-length (e ∷ l) = omega (arith, words-length l)

@@ -1,27 +1,24 @@
 -- What a walk keeps true of the sets: sorted, no zeros, regions in use. Assumes nothing.
 use mathlib.Core.Path.{_≡_, refl, sym, ap, _∙_}
 use mathlib.Core.Bool.{Bool, true, false, _||_}
-use mathlib.Core.List.{List, [], _∷_, _++_}
-use Prim.Native.Nat.{ℕ, zero, suc, _+_, _≤_, _<_}
+use mathlib.Core.List.{List, [], _∷_}
+use Prim.Native.Nat.{ℕ, suc, _≤_, _<_}
 use native.Mathlib.Omega.{arith}
 use lib.ListN.{length, getD}
 use lib.Dec.{eqb, ltb}
-use borrow.Author.Tests.{eq-eqb, ne-eqb, ltb-true, ltb-false}
+use borrow.Author.Tests.{eq-eqb, ltb-true, ltb-false}
 use Rattle.laws.specs.Pick.{pick}
 use Rattle.laws.specs.Every.{All}
 use Rattle.laws.specs.Signed.{zeroWord}
 use Rattle.laws.proofs.Cases.{Which, which, true-false}
 use Rattle.laws.proofs.Cases.Which.{holds, fails}
-use Rattle.laws.proofs.EveryLaws.{all-append, all-imp}
+use Rattle.laws.proofs.EveryLaws.{all-append}
 use Rattle.sets.specs.Set.{Set, Ascending, Proper}
+use Rattle.sets.proofs.SetLaws.{proper-more}
 use Rattle.said.specs.Sets.{Region, has, withUse, indexIn, placed, withValue}
 use Rattle.said.specs.Job.{Said, afterValue, afterEnd, regionsOnly}
 use Rattle.said.specs.Good.{Good}
 use Rattle.said.proofs.IndexLaws.{with-has, with-old, with-long, index-at, index-below}
-
-proper-more : (m n : ℕ) (b : Set) → m ≤ n → Proper m b → Proper n b
-proper-more m n [] h p = tt
-proper-more m n (e ∷ b) h p = ((p .0 .0, omega (arith, p .0 .1)), proper-more m n b h (p .1))
 
 sets-more : (m n : ℕ) (l : List Set) → m ≤ n → All (Proper m) l → All (Proper n) l
 sets-more m n [] h p = tt
@@ -57,7 +54,7 @@ placed-proper n k v (e ∷ b) z h p = go (placed-proper n k v b z h (p .1)) (whi
     go rec (holds l) = rw l ((z, h), p)
     go rec (fails l) = rw l (p .0, rec)
 
-has-more : (p q : ℕ) (l : List ℕ) → has p l ≡ true → has p (q ∷ l) ≡ true
+pub has-more : (p q : ℕ) (l : List ℕ) → has p l ≡ true → has p (q ∷ l) ≡ true
 unfolding has
 has-more p q l h = go (eqb p q) h
   where
@@ -65,7 +62,7 @@ has-more p q l h = go (eqb p q) h
     go true h = refl
     go false h = h
 
-has-first : (q : ℕ) (l : List ℕ) → has q (q ∷ l) ≡ true
+pub has-first : (q : ℕ) (l : List ℕ) → has q (q ∷ l) ≡ true
 unfolding has
 has-first q l = rw (eq-eqb q q refl)
 
@@ -76,7 +73,7 @@ fresh-more used named q [] p f = tt
 fresh-more used named q (e ∷ b) p f =
     (rw (with-old used q (e .0) (p .0 .1)) (has-more (getD used (e .0) 0) q named (f .0)), fresh-more used named q b (p .1) (f .1))
 
-fresh-differs : (used named : List ℕ) (q : ℕ) (b : Set) → has q named ≡ false → Proper (length used) b → All (λ e. has (getD used (e .0) 0) named ≡ true) b
+pub fresh-differs : (used named : List ℕ) (q : ℕ) (b : Set) → has q named ≡ false → Proper (length used) b → All (λ e. has (getD used (e .0) 0) named ≡ true) b
     → All (λ e. e .0 ≡ indexIn q (withUse used q) → ⊥) b
 fresh-differs used named q [] n p f = tt
 fresh-differs used named q (e ∷ b) n p f = (

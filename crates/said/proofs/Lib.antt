@@ -3,5 +3,7 @@ pub mod RegionLaws
 pub mod IndexLaws
 pub mod GoodLaws
 pub mod MeaningLaws
+pub mod WalkLaws
 pub mod SaidLaws
 pub mod SoundLaws
+pub mod PlacedLaws

@@ -1,16 +1,14 @@
 -- Numbers of a record, and its tests one by one. Assumes nothing.
-use mathlib.Core.Path.{_≡_, refl, sym, ap, _∙_}
-use mathlib.Core.Bool.{Bool, true, false, not, _&&_}
-use mathlib.Core.List.{List, [], _∷_}
-use Prim.Native.Nat.{ℕ, zero, suc, _+_, _-_, _*_, _/_, _%_, _^_, _≤_, _<_}
+use mathlib.Core.Path.{_≡_, sym, ap, _∙_}
+use mathlib.Core.Bool.{Bool, true, false}
+use mathlib.Core.List.{List}
+use Prim.Native.Nat.{ℕ, _+_, _-_, _*_, _/_, _%_, _^_, _≤_, _<_}
 use native.Mathlib.Nat.{add-zero}
 use native.Mathlib.Omega.{arith}
-use lib.ListN.{length, getD, take, drop, length-drop}
-use lib.Seq.{take-all}
-use lib.Dec.{eqb, ltb}
+use lib.ListN.{getD}
 use borrow.Author.Tests.{eq-eqb, ne-eqb, lt-ltb, le-ltb}
 use Rattle.laws.specs.Bytes.{be}
-use Rattle.laws.specs.Signed.{word, signed, value, zeroWord}
+use Rattle.laws.specs.Signed.{word, signed, zeroWord}
 use Rattle.laws.proofs.SignedLaws.{value-twos, word-value}
 use Rattle.said.specs.Records.{zeros, regionOf, axisOf, axisZeros, valueZeros, endZeros, valueWord}
 use Rattle.said.specs.Refusals.{firstFailed, axisNo, valueNo, endNo}
@@ -92,8 +90,3 @@ module _ (r : List ℕ) (regions : ℕ) (named : Bool) where
   pub value-passed : valueZeros r ≡ true → regionOf r < regions → named ≡ false → 0 ≡ valueNo r regions named
   unfolding valueNo firstFailed
   value-passed z h n = rw (z, lt-ltb (regionOf r) regions h, n)
-
--- ---- the rest of a job from a byte on, as a part of a slice
-
-pub tail-is : (s : List ℕ) (a : ℕ) → take (length s - a) (drop a s) ≡ drop a s
-tail-is s a = take-all (length s - a) (drop a s) (omega (arith, length-drop a s))

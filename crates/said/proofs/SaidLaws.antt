@@ -1,30 +1,30 @@
 -- What the counts of a sound job are bounded by: its regions, the regions in use, its sets and its values, by its records. Assumes nothing.
-use mathlib.Core.Path.{_≡_, refl, sym, ap, _∙_, subst}
-use mathlib.Core.Bool.{Bool, true, false, _||_}
+use mathlib.Core.Path.{_≡_, refl, sym, ap}
+use mathlib.Core.Bool.{Bool, false, _||_}
 use mathlib.Core.List.{List, [], _∷_}
 use mathlib.Core.Logic.{⊎-elim, _≢_}
-use Prim.Native.Nat.{ℕ, zero, suc, _+_, _*_, _/_, _%_, _≤_, _<_}
-use native.Mathlib.Nat.{le-refl, add-zero, mod-eq-sub-div-mul, div-mul-le-self, lt-div-mul-add, le-of-mul-le-mul-right}
+use Prim.Native.Nat.{ℕ, suc, _+_, _*_, _/_, _%_, _≤_, _<_}
+use native.Mathlib.Nat.{le-refl, mod-eq-sub-div-mul, div-mul-le-self, lt-div-mul-add, le-of-mul-le-mul-right}
 use native.Mathlib.Omega.{arith}
-use lib.ListN.{length, getD, drop, length-append}
+use lib.ListN.{length, getD, length-append}
 use lib.Seq.{getD-drop}
 use lib.Dec.{eqb}
-use borrow.Author.Tests.{eq-eqb, eqb-true}
-use Rattle.laws.specs.Pick.{pick}
+use borrow.Author.Tests.{eq-eqb}
 use Rattle.laws.specs.Every.{All, EachTwo}
 use Rattle.laws.proofs.Cases.{Which, which, lt-or-ge, same-or-not, true-false}
 use Rattle.laws.proofs.Cases.Which.{holds, fails}
 use Rattle.laws.proofs.EveryLaws.{all-append, two-end}
 use Rattle.laws.proofs.Products.{product, row-fits}
 use Rattle.laws.proofs.Pigeon.{few-below}
-use Rattle.said.specs.Records.{kind, axisKind, valueKind, endKind, regionOf, valueZeros, valueWord}
-use Rattle.said.specs.Refusals.{axisNo, valueNo, endNo}
+use Rattle.said.specs.Records.{regionOf, valueZeros, valueWord, recordAt}
+use Rattle.said.specs.Refusals.{axisNo, valueNo}
 use Rattle.said.specs.Sets.{regionList, firstLike, has, withUse}
-use Rattle.said.specs.Job.{Said, State, inAxes, inSets, Step, stop, on, unless, afterValue, afterEnd, valueStep, endStep, setStep, regionsOnly, step, Outcome, refused, fine, ended, endedSets, follow, walk}
+use Rattle.said.specs.Job.{Said, inAxes, afterValue, afterEnd, regionsOnly, fine, walk}
 use Rattle.said.proofs.RecordLaws.{axis-region, value-bad, value-unknown}
 use Rattle.said.proofs.RegionLaws.{regions-length}
 use Rattle.said.proofs.IndexLaws.{with-known, with-new}
 use Rattle.said.proofs.RegionLaws.{like-below}
+use Rattle.said.proofs.WalkLaws.{walk-keeps}
 
 -- after so many records, in the sets
 pub record Counts (axes : ℕ) (job : List ℕ) (records : ℕ) (s : Said) : Type 0 where
@@ -57,7 +57,7 @@ module _ (l : List ℕ) (q : ℕ) where
       go (holds e) = rw (with-known l q e) (omega arith)
       go (fails e) = rw (with-new l q e, length-append l (q ∷ [])) (omega arith)
 
-  use-low : (n : ℕ) → q < n → All (λ x. x < n) l → All (λ x. x < n) (withUse l q)
+  pub use-low : (n : ℕ) → q < n → All (λ x. x < n) l → All (λ x. x < n) (withUse l q)
   use-low n b h = go (which (has q l))
     where
       go : Which (has q l) → All (λ x. x < n) (withUse l q)
@@ -90,19 +90,6 @@ value-known r regions named z = go (which (valueZeros r))
         (lt-or-ge (regionOf r) regions)
 
 module _ (axes : ℕ) (some : 0 < axes) (job : List ℕ) where
-  -- what is kept true before record i
-  abbrev Kept : ℕ → State → Type 0
-  Kept i inAxes = i ≤ 256 * axes
-  Kept i (inSets s) = Counts axes job i s
-
-  abbrev After : ℕ → Step → Type 0
-  After i (stop n) = Unit {0}
-  After i (on s) = Kept i s
-
-  abbrev Ends : ℕ → Outcome → Type 0
-  Ends i (refused n at) = Unit {0}
-  Ends i (fine s) = Counts axes job i s × (s .named ≡ [])
-
   -- no set yet
   module _ (i : ℕ) (h : i ≤ 256 * axes) (z : i % axes ≡ 0) where
     whole : i / axes * axes ≡ i
@@ -128,7 +115,7 @@ module _ (axes : ℕ) (some : 0 < axes) (job : List ℕ) where
 
   -- one more value, one more set
   module _ (i : ℕ) (s : Said) (c : Counts axes job i s) where
-    value-more : (q w : ℕ) → q < length (s .regions) → Counts axes job (i + 1) (afterValue s q w)
+    value-more : (q w : ℕ) → q < length (s .regions) → Counts axes job (suc i) (afterValue s q w)
     unfolding afterValue
     value-more q w b =
         let low = use-low (s .used) q (length (s .regions)) b (c .used-low) in
@@ -144,7 +131,7 @@ module _ (axes : ℕ) (some : 0 < axes) (job : List ℕ) where
           quiet = λ _ e. absurd (let l = ap length e in omega arith);
         }
 
-    end-more : Counts axes job (i + 1) (afterEnd s)
+    end-more : Counts axes job (suc i) (afterEnd s)
     unfolding afterEnd
     end-more = record {
       records-are = omega (arith, c .records-are, length-append (s .sets) (s .begun ∷ []));
@@ -157,82 +144,24 @@ module _ (axes : ℕ) (some : 0 < axes) (job : List ℕ) where
       quiet = λ e _. absurd (omega (arith, length-append (s .sets) (s .begun ∷ [])));
     }
 
-  -- ---- one step
-
-  unless-after : (i n : ℕ) (s : State) → (n ≡ 0 → Kept i s) → After i (unless n s)
-  unfolding unless
-  unless-after i zero s h = h refl
-  unless-after i (suc n) s h = tt
-
-  pick-after : (i : ℕ) (b : Bool) (x y : Step) → (b ≡ true → After i x) → (b ≡ false → After i y) → After i (pick b x y)
-  pick-after i true x y h k = h refl
-  pick-after i false x y h k = k refl
-
-  set-after : (mode : ℕ) (r : List ℕ) (i : ℕ) (s : Said) → Counts axes job i s → After (i + 1) (setStep mode r s)
-  unfolding setStep valueStep endStep firstLike
-  set-after mode r i s c =
-      pick-after (i + 1) (eqb (kind r) valueKind) (valueStep r s) (pick (eqb (kind r) endKind) (endStep mode r s) (stop 5))
-      (λ _. unless-after (i + 1) (valueNo r (length (s .regions)) (has (firstLike (s .regions) (regionOf r)) (s .named)))
-      (inSets (afterValue s (firstLike (s .regions) (regionOf r)) (valueWord r)))
-      (λ z. value-more i s c (firstLike (s .regions) (regionOf r)) (valueWord r)
-      (like-below (s .regions) (regionOf r)
-      (value-known r (length (s .regions)) (has (firstLike (s .regions) (regionOf r)) (s .named)) z))))
-      (λ _. pick-after (i + 1) (eqb (kind r) endKind) (endStep mode r s) (stop 5)
-      (λ _. unless-after (i + 1) (endNo mode r (length (s .sets))) (inSets (afterEnd s)) (λ z. end-more i s c))
-      (λ _. tt))
-
-  axis-more : (r : List ℕ) (i : ℕ) → getD r 1 0 < 256 → axisNo axes r i ≡ 0 → i + 1 ≤ 256 * axes
+  axis-more : (r : List ℕ) (i : ℕ) → getD r 1 0 < 256 → axisNo axes r i ≡ 0 → suc i ≤ 256 * axes
   axis-more r i b z =
       let e = axis-is axes r i z in
       let l = lt-div-mul-add {a = i} {b = axes} some in
       let f = row-fits axes 256 (i / axes) (omega arith) in
       omega arith
 
-  step-after : (mode : ℕ) (r : List ℕ) (i : ℕ) (s : State) → getD r 1 0 < 256 → Kept i s → After (i + 1) (step axes mode job r i s)
-  unfolding step
-  step-after mode r i inAxes b k =
-      pick-after (i + 1) (eqb (kind r) axisKind) (unless (axisNo axes r i) inAxes)
-      (pick (eqb (i % axes) 0) (setStep mode r (regionsOnly (regionList axes (i / axes) job))) (stop 5))
-      (λ _. unless-after (i + 1) (axisNo axes r i) inAxes (axis-more r i b))
-      (λ _. pick-after (i + 1) (eqb (i % axes) 0) (setStep mode r (regionsOnly (regionList axes (i / axes) job))) (stop 5)
-      (λ z. set-after mode r i (regionsOnly (regionList axes (i / axes) job)) (begin i k (eqb-true (i % axes) 0 z)))
-      (λ _. tt))
-  step-after mode r i (inSets s) b k = set-after mode r i s k
-
-  -- ---- the walk
-
-  sets-end : (i : ℕ) (s : Said) (named : List ℕ) → s .named ≡ named → Counts axes job i s → Ends i (endedSets i s named)
-  unfolding endedSets
-  sets-end i s [] e c = (c, e)
-  sets-end i s (q ∷ named) e c = tt
-
-  ended-ends : (i : ℕ) (s : State) → Kept i s → Ends i (ended axes job i s)
-  unfolding ended regionsOnly
-  ended-ends i inAxes k = go (which (eqb (i % axes) 0))
-    where
-      go : Which (eqb (i % axes) 0) → Ends i (pick (eqb (i % axes) 0) (fine (regionsOnly (regionList axes (i / axes) job))) (refused 8 i))
-      go (holds e) = rw e (begin i k (eqb-true (i % axes) 0 e), refl)
-      go (fails e) = rw e tt
-  ended-ends i (inSets s) k = sets-end i s (s .named) refl k
-
-  follow-ends : (i n : ℕ) (t : Step) (go : State → Outcome) → ((s : State) → After (i + 1) (on s) → Ends n (go s)) → After (i + 1) t → Ends n (follow i t go)
-  unfolding follow
-  follow-ends i n (stop m) go h a = tt
-  follow-ends i n (on s) go h a = h s a
-
-  walk-ends : (mode left i n : ℕ) (rest : List ℕ) (s : State) → i + left ≡ n → ((k : ℕ) → getD rest k 0 < 256) → Kept i s
-      → Ends n (walk axes mode job rest left i s)
-  unfolding walk
-  walk-ends mode zero i n rest s e b k = subst (λ (m : ℕ). Ends m (ended axes job i s)) (sym (add-zero i) ∙ e) (ended-ends i s k)
-  walk-ends mode (suc left) i n rest s e b k =
-      follow-ends i n (step axes mode job rest i s) (λ s′. walk axes mode job (drop 12 rest) left (i + 1) s′)
-      (λ s′ a. walk-ends mode left (i + 1) n (drop 12 rest) s′ (omega arith) (λ j. rw (getD-drop 12 rest j 0) (b (12 + j))) a)
-      (step-after mode rest i s (b 1) k)
-
 ends : (axes mode : ℕ) (job : List ℕ) (records : ℕ) (s : Said) → 0 < axes → ((k : ℕ) → getD job k 0 < 256)
     → walk axes mode job job records 0 inAxes ≡ fine s → Counts axes job records s × (s .named ≡ [])
+unfolding firstLike
 ends axes mode job records s some bytes e =
-    subst (Ends axes some job records) e (walk-ends axes some job mode records 0 records job inAxes (omega arith) bytes (omega arith))
+    walk-keeps axes mode job (λ i. i ≤ 256 * axes) (Counts axes job)
+    (λ i _ z h. axis-more axes some job (recordAt job i) i (rw (getD-drop (12 * i) job 1 0) (bytes (12 * i + 1))) z)
+    (λ i z h. begin axes some job i h z)
+    (λ i s _ z c. value-more axes some job i s c (firstLike (s .regions) (regionOf (recordAt job i))) (valueWord (recordAt job i))
+    (like-below (s .regions) (regionOf (recordAt job i)) (value-known (recordAt job i) (length (s .regions)) (has (firstLike (s .regions) (regionOf (recordAt job i))) (s .named)) z)))
+    (λ i s _ c. end-more axes some job i s c)
+    records s (omega arith) e
 
 pub counts : (axes mode : ℕ) (job : List ℕ) (records : ℕ) (s : Said) → 0 < axes → ((k : ℕ) → getD job k 0 < 256)
     → walk axes mode job job records 0 inAxes ≡ fine s → Counts axes job records s

@@ -18,10 +18,10 @@ use Rattle.laws.proofs.Cases.{Which, which, lt-or-ge, and-true}
 use Rattle.laws.proofs.Cases.Which.{holds, fails}
 use Rattle.laws.proofs.EveryLaws.{all-append, all-imp, all-and}
 use Rattle.sets.specs.Set.{Set}
-use Rattle.said.specs.Records.{recordBytes, mostRecords, mostAxes, kind, axisKind, valueKind, endKind, regionOf, valueZeros, valueWord}
-use Rattle.said.specs.Refusals.{firstFailed, publishedWork, pairRecords, earlyNo, axisNo, valueNo, endNo}
+use Rattle.said.specs.Records.{recordBytes, mostRecords, mostAxes, regionOf, valueZeros, valueWord, recordAt}
+use Rattle.said.specs.Refusals.{firstFailed, publishedWork, pairRecords, earlyNo, valueNo}
 use Rattle.said.specs.Sets.{Region, coordinates, regionList, firstLike, has, withUse, indexIn, placed, withValue}
-use Rattle.said.specs.Job.{Said, State, inAxes, inSets, Step, stop, on, unless, afterValue, afterEnd, valueStep, endStep, setStep, regionsOnly, step, Outcome, refused, fine, ended, endedSets, follow, walk, outcomeFrom, outcome}
+use Rattle.said.specs.Job.{Said, inAxes, afterValue, afterEnd, regionsOnly, Outcome, fine, walk, outcomeFrom, outcome}
 use Rattle.said.specs.Good.{Good}
 use Rattle.said.specs.Open.{Open}
 use Rattle.said.proofs.RecordLaws.{be-two, be-four, word-low, word-high, value-bad, value-twice}
@@ -30,6 +30,7 @@ use Rattle.said.proofs.GoodLaws.{placed-all, good-start, good-value, go
 use Rattle.said.proofs.IndexLaws.{with-known, with-new}
 use Rattle.said.proofs.RegionLaws.{like-below}
 use Rattle.said.proofs.MeaningLaws.{like-here, equal-first}
+use Rattle.said.proofs.WalkLaws.{walk-keeps}
 use Rattle.said.proofs.SaidLaws.{Counts, counts, value-known}
 
 -- each is a byte
@@ -39,85 +40,20 @@ Bytes job = (k : ℕ) → getD job k 0 < 256
 bytes-drop : (n : ℕ) (l : List ℕ) → Bytes l → Bytes (drop n l)
 bytes-drop n l b k = rw (getD-drop n l k 0) (b (n + k))
 
--- ---- what each record keeps, a walk keeps
+-- ---- what each record keeps of the sets said, a walk keeps
 
 module _ (P : Said → Type 0)
     (begins : (l : List Region) → P (regionsOnly l))
     (more : (r : List ℕ) (s : Said) → Bytes r → valueNo r (length (s .regions)) (has (firstLike (s .regions) (regionOf r)) (s .named)) ≡ 0
     → P s → P (afterValue s (firstLike (s .regions) (regionOf r)) (valueWord r)))
     (ends : (s : Said) → P s → P (afterEnd s)) where
-  abbrev Kept : State → Type 0
-  Kept inAxes = Unit {0}
-  Kept (inSets s) = P s
-
-  abbrev After : Step → Type 0
-  After (stop n) = Unit {0}
-  After (on s) = Kept s
-
-  abbrev Left : Outcome → Type 0
-  Left (refused n at) = Unit {0}
-  Left (fine s) = P s
-
-  unless-after : (n : ℕ) (s : State) → (n ≡ 0 → Kept s) → After (unless n s)
-  unfolding unless
-  unless-after zero s h = h refl
-  unless-after (suc n) s h = tt
-
-  pick-after : (b : Bool) (x y : Step) → (b ≡ true → After x) → (b ≡ false → After y) → After (pick b x y)
-  pick-after true x y h k = h refl
-  pick-after false x y h k = k refl
-
-  set-after : (mode : ℕ) (r : List ℕ) (s : Said) → Bytes r → P s → After (setStep mode r s)
-  unfolding setStep valueStep endStep
-  set-after mode r s b p =
-      pick-after (eqb (kind r) valueKind) (valueStep r s) (pick (eqb (kind r) endKind) (endStep mode r s) (stop 5))
-      (λ _. unless-after (valueNo r (length (s .regions)) (has (firstLike (s .regions) (regionOf r)) (s .named)))
-      (inSets (afterValue s (firstLike (s .regions) (regionOf r)) (valueWord r)))
-      (λ z. more r s b z p))
-      (λ _. pick-after (eqb (kind r) endKind) (endStep mode r s) (stop 5)
-      (λ _. unless-after (endNo mode r (length (s .sets))) (inSets (afterEnd s)) (λ z. ends s p))
-      (λ _. tt))
-
-  step-after : (axes mode : ℕ) (job r : List ℕ) (i : ℕ) (s : State) → Bytes r → Kept s → After (step axes mode job r i s)
-  unfolding step
-  step-after axes mode job r i inAxes b k =
-      pick-after (eqb (kind r) axisKind) (unless (axisNo axes r i) inAxes)
-      (pick (eqb (i % axes) 0) (setStep mode r (regionsOnly (regionList axes (i / axes) job))) (stop 5))
-      (λ _. unless-after (axisNo axes r i) inAxes (λ _. tt))
-      (λ _. pick-after (eqb (i % axes) 0) (setStep mode r (regionsOnly (regionList axes (i / axes) job))) (stop 5)
-      (λ z. set-after mode r (regionsOnly (regionList axes (i / axes) job)) b (begins (regionList axes (i / axes) job)))
-      (λ _. tt))
-  step-after axes mode job r i (inSets s) b k = set-after mode r s b k
-
-  sets-left : (i : ℕ) (s : Said) (named : List ℕ) → P s → Left (endedSets i s named)
-  unfolding endedSets
-  sets-left i s [] p = p
-  sets-left i s (q ∷ named) p = tt
-
-  ended-left : (axes : ℕ) (job : List ℕ) (i : ℕ) (s : State) → Kept s → Left (ended axes job i s)
-  unfolding ended
-  ended-left axes job i inAxes k = go (which (eqb (i % axes) 0))
-    where
-      go : Which (eqb (i % axes) 0) → Left (pick (eqb (i % axes) 0) (fine (regionsOnly (regionList axes (i / axes) job))) (refused 8 i))
-      go (holds e) = rw e (begins (regionList axes (i / axes) job))
-      go (fails e) = rw e tt
-  ended-left axes job i (inSets s) k = sets-left i s (s .named) k
-
-  follow-left : (i : ℕ) (t : Step) (go : State → Outcome) → ((s : State) → After (on s) → Left (go s)) → After t → Left (follow i t go)
-  unfolding follow
-  follow-left i (stop m) go h a = tt
-  follow-left i (on s) go h a = h s a
-
-  walk-left : (axes mode : ℕ) (job rest : List ℕ) (left i : ℕ) (s : State) → Bytes rest → Kept s → Left (walk axes mode job rest left i s)
-  unfolding walk
-  walk-left axes mode job rest zero i s b k = ended-left axes job i s k
-  walk-left axes mode job rest (suc left) i s b k =
-      follow-left i (step axes mode job rest i s) (λ s′. walk axes mode job (drop 12 rest) left (i + 1) s′)
-      (λ s′ a. walk-left axes mode job (drop 12 rest) left (i + 1) s′ (bytes-drop 12 rest b) a)
-      (step-after axes mode job rest i s b k)
-
-  pub walk-keeps : (axes mode : ℕ) (job : List ℕ) (records : ℕ) (s : Said) → Bytes job → walk axes mode job job records 0 inAxes ≡ fine s → P s
-  walk-keeps axes mode job records s b e = subst Left e (walk-left axes mode job job records 0 inAxes b tt)
+  said-keeps : (axes mode : ℕ) (job : List ℕ) (records : ℕ) (s : Said) → Bytes job → walk axes mode job job records 0 inAxes ≡ fine s → P s
+  said-keeps axes mode job records s b e =
+      walk-keeps axes mode job (λ i. Unit {0}) (λ i t. P t) (λ i _ _ _. tt)
+      (λ i _ _. begins (regionList axes (i / axes) job))
+      (λ i t _ z p. more (recordAt job i) t (bytes-drop (12 * i) job b) z p)
+      (λ i t _ p. ends t p)
+      records s tt e .0
 
 -- ---- values
 
@@ -250,13 +186,13 @@ pub record WellSaid (axes : ℕ) (job : List ℕ) (records : ℕ) (s : Said) : T
 pub well-said : (axes mode : ℕ) (job : List ℕ) (records : ℕ) (s : Said) → 0 < axes → Bytes job → walk axes mode job job records 0 inAxes ≡ fine s
     → WellSaid axes job records s
 well-said axes mode job records s some b e =
-    let w = walk-keeps Well well-start well-value well-end axes mode job records s b e in
+    let w = said-keeps Well well-start well-value well-end axes mode job records s b e in
     let c = counts axes mode job records s some b e in
     record {
       good = w .good;
       words-low = w .low;
       coordinates-are = subst (All (Coordinates axes)) (sym (c .regions-are)) (regions-well axes (length (s .regions)) job b);
-      used-apart = apart (s .regions) (s .used) (walk-keeps Firsts firsts-start firsts-value firsts-end axes mode job records s b e) (c .used-differ);
+      used-apart = apart (s .regions) (s .used) (said-keeps Firsts firsts-start firsts-value firsts-end axes mode job records s b e) (c .used-differ);
       counted = c;
     }
 

@@ -1,9 +1,9 @@
 -- A record of a job. Document 01: "records of 12 bytes, no header. Numbers are big-endian. Byte 0 is the kind." This file alone knows
 -- where in a record things stand, and how many of them there may be. Below, `r` are the bytes from a record's first one on.
 use mathlib.Core.Bool.{Bool, _&&_}
-use mathlib.Core.List.{List, [], _∷_}
-use Prim.Native.Nat.{ℕ, _+_}
-use lib.ListN.{getD}
+use mathlib.Core.List.{List}
+use Prim.Native.Nat.{ℕ, _+_, _*_}
+use lib.ListN.{getD, drop}
 use lib.Dec.{eqb}
 use Rattle.laws.specs.Bounded.{allBelow}
 use Rattle.laws.specs.Bytes.{be}
@@ -18,6 +18,10 @@ mostRecords = 1048576
 
 abbrev pub mostAxes : ℕ
 mostAxes = 64
+
+-- the bytes of a job from record i on
+abbrev pub recordAt : List ℕ → ℕ → List ℕ
+recordAt job i = drop (recordBytes * i) job
 
 -- the kinds: 1 axis, 2 value, 3 end of set
 abbrev pub kind : List ℕ → ℕ

@@ -1,21 +1,18 @@
 -- The walk along two ascending sets compares them densely; and that order is total and transitive. Assumes nothing.
-use mathlib.Core.Path.{_≡_, refl, sym, ap, ap₂, _∙_, subst}
-use mathlib.Core.Bool.{Bool, true, false}
+use mathlib.Core.Path.{_≡_, refl, sym, ap, ap₂, _∙_}
+use mathlib.Core.Bool.{true, false}
 use mathlib.Core.List.{List, [], _∷_}
-use mathlib.Core.Logic.{_⊎_, inl, inr, ⊎-elim}
-use Prim.Native.Nat.{ℕ, zero, suc, _+_, _-_, _*_, _≤_, _<_}
+use Prim.Native.Nat.{ℕ, zero, suc, _+_, _-_, _≤_, _<_}
 use native.Mathlib.Numerals.{sub-one}
 use native.Mathlib.Omega.{arith}
 use lib.ListN.{getD}
-use lib.Dec.{eqb, ltb}
 use borrow.Author.Tests.{lt-ltb, le-ltb, eq-eqb, ne-eqb}
 use Rattle.laws.specs.declared.Order.{Order}
 use Rattle.laws.specs.declared.Order.the-variants.{Less, Equal, Greater}
 use Rattle.laws.specs.Order.{thenBy, flipped, isMost}
 use Rattle.laws.proofs.OrderLaws.{compared-less, compared-more, compared-same}
-use Rattle.laws.proofs.Cases.{lt-or-ge, Tri, tri}
+use Rattle.laws.proofs.Cases.{Tri, tri}
 use Rattle.laws.proofs.Cases.Tri.{below, same, above}
-use Rattle.laws.specs.Pick.{pick}
 use Rattle.laws.specs.Signed.{zeroWord}
 use Rattle.sets.specs.Set.{Set, wordOf, Ascending, Proper}
 use Rattle.sets.specs.Order.{Compared, byWords, orderNone, orderHead, order}
@@ -72,6 +69,16 @@ pub word-below : (l : Set) (t k : ℕ) → Ascending t l → k < t → wordOf l 
 unfolding wordOf
 word-below [] t k a h = refl
 word-below (e ∷ l) t k a h = word-tail e l k (omega arith) ∙ word-below l (suc (e .0)) k (a .1) (omega arith)
+
+-- a region past those that a set may name has the word of zero
+pub word-past : (n k : ℕ) (l : Set) → Proper n l → n ≤ k → wordOf l k ≡ zeroWord
+unfolding wordOf
+word-past n k [] p h = refl
+word-past n k (e ∷ l) p h = word-tail e l k (let b = p .0 .1 in λ q. omega arith) ∙ word-past n k l (p .1) h
+
+pub proper-more : (m n : ℕ) (l : Set) → m ≤ n → Proper m l → Proper n l
+proper-more m n [] h p = tt
+proper-more m n (e ∷ l) h p = ((p .0 .0, omega (arith, p .0 .1)), proper-more m n l h (p .1))
 
 none-right : (b : Set) (t : ℕ) → Ascending t b → Compared t (wordOf []) (wordOf b) (orderNone b)
 unfolding orderNone wordOf

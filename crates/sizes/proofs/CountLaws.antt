@@ -1,21 +1,20 @@
--- Counting: what is kept of a list, the numbers of a list, the sets of a group. Assumes nothing.
-use mathlib.Core.Path.{_≡_, refl, sym, ap, ap₂, _∙_}
-use mathlib.Core.Bool.{Bool, true, false, _||_}
+-- Counting: how often a number stands among the origins, the sets of a group. Assumes nothing.
+use mathlib.Core.Path.{_≡_, refl, sym, ap, _∙_}
+use mathlib.Core.Bool.{_||_}
 use mathlib.Core.List.{List, [], _∷_}
 use mathlib.Core.Logic.{⊎-elim}
 use Prim.Native.Nat.{ℕ, zero, suc, _+_, _≤_, _<_}
 use native.Mathlib.Omega.{arith}
-use lib.ListN.{length, getD}
+use lib.ListN.{length}
 use lib.Dec.{eqb}
-use borrow.Author.Tests.{eq-eqb, ne-eqb, eqb-true}
-use Rattle.laws.specs.Pick.{pick}
+use borrow.Author.Tests.{eq-eqb}
+use Rattle.laws.specs.Pick.{oneIf}
 use Rattle.laws.specs.Every.{All, EachTwo}
 use Rattle.laws.specs.Bag.{weigh}
-use Rattle.laws.specs.Bounded.{tabulate, upTo}
-use Rattle.laws.specs.Sorting.{insert, sorted, keep}
 use Rattle.laws.proofs.Cases.{Which, which, lt-or-ge}
 use Rattle.laws.proofs.Cases.Which.{holds, fails}
 use Rattle.laws.proofs.EveryLaws.{all-imp, all-getD}
+use Rattle.laws.proofs.BagLaws.{weigh-none, weigh-both}
 use Rattle.shapes.specs.Shape.{Shape}
 use Rattle.shapes.specs.Order.{order}
 use Rattle.shapes.specs.Group.{Group}
@@ -28,65 +27,11 @@ use Rattle.encoder.specs.Packed.{isAmong}
 use Rattle.sizes.specs.Sizes.{groupAt}
 use Rattle.sizes.proofs.Shares.{share, isShape, share-self}
 
--- 1 where a test holds
-abbrev pub oneIf : Bool → ℕ
-oneIf b = pick b 1 0
-
-up-next : (φ : ℕ → ℕ) (n a : ℕ) → weigh φ (tabulate (suc a) n (λ k. k)) ≡ weigh (λ k. φ (suc k)) (tabulate a n (λ k. k))
-unfolding tabulate weigh
-up-next φ zero a = refl
-up-next φ (suc n) a = ap (_+_ (φ (suc a))) (up-next φ n (suc a))
-
-module _ {A : Type 0} where
-  pub keep-long : (p : A → Bool) (l : List A) → length (keep p l) ≡ weigh (λ x. oneIf (p x)) l
-  unfolding keep weigh
-  keep-long p [] = refl
-  keep-long p (x ∷ l) = go (keep-long p l) (which (p x))
-    where
-      go : length (keep p l) ≡ weigh (λ y. oneIf (p y)) l → Which (p x) → length (pick (p x) (x ∷ keep p l) (keep p l)) ≡ oneIf (p x) + weigh (λ y. oneIf (p y)) l
-      go rec (holds e) = rw e (omega arith)
-      go rec (fails e) = rw e (omega arith)
-
-  insert-weighs : (φ : A → ℕ) (le : A → A → Bool) (x : A) (l : List A) → weigh φ (insert le x l) ≡ φ x + weigh φ l
-  unfolding insert weigh
-  insert-weighs φ le x [] = refl
-  insert-weighs φ le x (y ∷ l) = go (insert-weighs φ le x l) (le x y)
-    where
-      go : weigh φ (insert le x l) ≡ φ x + weigh φ l → (b : Bool) → weigh φ (pick b (x ∷ y ∷ l) (y ∷ insert le x l)) ≡ φ x + weigh φ (y ∷ l)
-      go rec true = refl
-      go rec false = omega (arith, rec)
-
-  pub sorted-weighs : (φ : A → ℕ) (le : A → A → Bool) (l : List A) → weigh φ (sorted le l) ≡ weigh φ l
-  unfolding sorted weigh
-  sorted-weighs φ le [] = refl
-  sorted-weighs φ le (x ∷ l) = omega (arith, insert-weighs φ le x (sorted le l), sorted-weighs φ le l)
-
-  pub weigh-same : (φ ψ : A → ℕ) (l : List A) → All (λ x. φ x ≡ ψ x) l → weigh φ l ≡ weigh ψ l
-  unfolding weigh
-  weigh-same φ ψ [] h = refl
-  weigh-same φ ψ (x ∷ l) h = ap₂ _+_ (h .0) (weigh-same φ ψ l (h .1))
-
-  weigh-none : (l : List A) → weigh (λ x. 0) l ≡ 0
-  unfolding weigh
-  weigh-none [] = refl
-  weigh-none (x ∷ l) = omega (arith, weigh-none l)
-
-  weigh-both : (φ ψ : A → ℕ) (l : List A) → weigh (λ x. φ x + ψ x) l ≡ weigh φ l + weigh ψ l
-  unfolding weigh
-  weigh-both φ ψ [] = refl
-  weigh-both φ ψ (x ∷ l) = omega (arith, weigh-both φ ψ l)
-
-  -- how often the numbers of some elements stand in a list: number by number
-  pub times-each : (f : A → ℕ) (l : List A) (o : List ℕ) → weigh (λ x. times (f x) o) l ≡ weigh (λ i. weigh (λ x. oneIf (eqb (f x) i)) l) o
-  unfolding times weigh
-  times-each f l [] = weigh-none l
-  times-each f l (i ∷ o) = weigh-both (λ x. oneIf (eqb (f x) i)) (λ x. weigh (λ j. oneIf (eqb (f x) j)) o) l ∙ ap (_+_ (weigh (λ x. oneIf (eqb (f x) i)) l)) (times-each f l o)
-
-  -- a list by its places
-  pub up-weighs : (φ : A → ℕ) (l : List A) (d : A) → weigh (λ k. φ (getD l k d)) (upTo (length l)) ≡ weigh φ l
-  unfolding tabulate weigh
-  up-weighs φ [] d = refl
-  up-weighs φ (x ∷ l) d = ap (_+_ (φ x)) (up-next (λ k. φ (getD (x ∷ l) k d)) (length l) 0 ∙ up-weighs φ l d)
+-- how often the numbers of some elements stand in a list: number by number
+pub times-each : {A : Type 0} (f : A → ℕ) (l : List A) (o : List ℕ) → weigh (λ x. times (f x) o) l ≡ weigh (λ i. weigh (λ x. oneIf (eqb (f x) i)) l) o
+unfolding times weigh
+times-each f l [] = weigh-none l
+times-each f l (i ∷ o) = weigh-both (λ x. oneIf (eqb (f x) i)) (λ x. weigh (λ j. oneIf (eqb (f x) j)) o) l ∙ ap (_+_ (weigh (λ x. oneIf (eqb (f x) i)) l)) (times-each f l o)
 
 -- ---- origins
 

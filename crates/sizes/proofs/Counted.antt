@@ -1,40 +1,39 @@
 -- The groups of the rule count the sets that their final groups hold, so the modelled size is that of what is written. Assumes nothing.
 use mathlib.Core.Path.{_≡_, refl, sym, ap, _∙_}
-use mathlib.Core.Bool.{Bool, true, false}
 use mathlib.Core.List.{List, [], _∷_, map}
 use mathlib.Core.Logic.{⊎-elim}
-use Prim.Native.Nat.{ℕ, suc, _+_, _≤_, _<_}
+use Prim.Native.Nat.{ℕ, _≤_, _<_}
 use native.Mathlib.Omega.{arith}
 use lib.ListN.{length, getD}
 use lib.Dec.{eqb}
 use borrow.Author.Tests.{eq-eqb, ne-eqb}
-use Rattle.laws.specs.Pick.{pick}
-use Rattle.laws.specs.Every.{All, EachTwo}
+use Rattle.laws.specs.Pick.{oneIf}
+use Rattle.laws.specs.Every.{All}
 use Rattle.laws.specs.Bag.{weigh}
 use Rattle.laws.specs.Bounded.{upTo}
-use Rattle.laws.specs.Sorting.{sorted, keep}
-use Rattle.laws.proofs.Cases.{Which, which, lt-or-ge, same-or-not}
-use Rattle.laws.proofs.Cases.Which.{holds, fails}
+use Rattle.laws.specs.Sorting.{sorted}
+use Rattle.laws.proofs.Cases.{lt-or-ge, same-or-not}
 use Rattle.laws.proofs.EveryLaws.{all-imp, all-and, all-map, all-unmap, all-getD}
-use Rattle.laws.proofs.SortLaws.{sorted-all}
+use Rattle.laws.proofs.SortLaws.{sorted-all, weigh-sorted, keep-long}
+use Rattle.laws.proofs.BagLaws.{weigh-map, weigh-same}
+use Rattle.laws.proofs.UpLaws.{weigh-places}
 use Rattle.shapes.specs.Shape.{Shape}
-use Rattle.shapes.specs.Order.{order}
-use Rattle.shapes.specs.Group.{Group, groupCost, maxItems}
+use Rattle.shapes.specs.Group.{Group, groupCost}
 use Rattle.shapes.proofs.OrderLaws.{order-self}
 use Rattle.sets.specs.Set.{Set}
 use Rattle.sets.specs.Ids.{distinct}
 use Rattle.groups.specs.Groups.{shapeOf, groupsOf}
 use Rattle.groups.proofs.GroupLaws.{shape-length, groups-long, groups-unlike, groups-some, groups-has, Has}
-use Rattle.rule.specs.Model.{Living, start, run, merged, total}
+use Rattle.rule.specs.Model.{Living, merged, total}
 use Rattle.rule.proofs.Theorems as theorems
 use Rattle.rule.proofs.Origins.{times, homes, one-home, no-home, setsOf, Made, made}
-use Rattle.store.specs.Placing.{Final, runsOf, modelOf, modelled}
+use Rattle.store.specs.Placing.{Final, modelOf, modelled}
 use Rattle.readback.proofs.PlainLaws.{runs-one}
-use Rattle.encoder.specs.Packed.{dense, noLater, sameShape, numberOf, isAmong, belongs, finalOf, isAhead, finalsOf, shared}
+use Rattle.encoder.specs.Packed.{dense, noLater, numberOf, isAmong, belongs, finalOf, isAhead, finalsOf, shared}
 use Rattle.encoder.proofs.NumberLaws.{number-at}
 use Rattle.sizes.specs.Sizes.{costOf, groupAt, Sizes}
-use Rattle.sizes.proofs.Shares.{isShape, share, weigh-map, groups-share}
-use Rattle.sizes.proofs.CountLaws.{oneIf, keep-long, sorted-weighs, weigh-same, times-each, up-weighs, among-times, homes-each, times-below, unlike-zero, share-at}
+use Rattle.sizes.proofs.Shares.{isShape, groups-share}
+use Rattle.sizes.proofs.CountLaws.{times-each, among-times, homes-each, times-below, unlike-zero, share-at}
 
 model-some : (f : Final) → 0 < length (f .ids) → modelOf f ≡ costOf f
 unfolding modelOf
@@ -110,8 +109,8 @@ module _ (regions : ℕ) (jobs : List Set) where
     unfolding finalOf belongs dense setsOf
     ids-count =
         keep-long (λ x. isAmong (num (getD sets x [])) (g .origins)) (sorted (noLater sets) (upTo (length sets)))
-        ∙ sorted-weighs (λ x. oneIf (isAmong (num (getD sets x [])) (g .origins))) (noLater sets) (upTo (length sets))
-        ∙ up-weighs (λ s. oneIf (isAmong (num s) (g .origins))) sets []
+        ∙ weigh-sorted (noLater sets) (λ x. oneIf (isAmong (num (getD sets x [])) (g .origins))) (upTo (length sets))
+        ∙ weigh-places (λ s. oneIf (isAmong (num s) (g .origins))) sets []
         ∙ weigh-same (λ s. oneIf (isAmong (num s) (g .origins))) (λ s. times (num s) (g .origins)) sets (every sets)
         ∙ times-each num sets (g .origins)
         ∙ weigh-same (λ i. weigh (λ s. oneIf (eqb (num s) i)) sets) (λ i. groupAt groups i .sets) (g .origins) (all-imp number-count (g .origins) origins-below)
@@ -153,7 +152,7 @@ module _ (regions : ℕ) (jobs : List Set) where
   unfolding total
   finals-cost =
       weigh-map costOf final (sorted isAhead living)
-      ∙ sorted-weighs (λ g. costOf (final g)) isAhead living
+      ∙ weigh-sorted isAhead (λ g. costOf (final g)) living
       ∙ weigh-same (λ g. costOf (final g)) (λ g. groupCost (g .group)) living (all-imp final-cost living counts)
 
   place-of : (x : ℕ) → x < length sets → (num (getD sets x []) < length groups) × (groupAt groups (num (getD sets x [])) .shape ≡ shapeOf regions (getD sets x []))
@@ -170,7 +169,7 @@ module _ (regions : ℕ) (jobs : List Set) where
     starting-apart = groups-unlike regions jobs;
     starting-of = place-of;
     starting-count = λ i h.
-        keep-long (λ x. eqb (num (getD sets x [])) i) (upTo (length sets)) ∙ up-weighs (λ s. oneIf (eqb (num s) i)) sets [] ∙ number-count i h;
+        keep-long (λ x. eqb (num (getD sets x [])) i) (upTo (length sets)) ∙ weigh-places (λ s. oneIf (eqb (num s) i)) sets [] ∙ number-count i h;
     living-count = counts;
     finals-some = finals-filled;
     after-is = sym finals-cost;

@@ -9,14 +9,15 @@ use Rattle.laws.specs.declared.Order.the-variants.{Less, Equal, Greater}
 use Rattle.laws.specs.Every.{All}
 use Rattle.laws.specs.Bag.{weigh}
 use Rattle.laws.proofs.EveryLaws.{all, all-map}
+use Rattle.laws.proofs.BagLaws.{weigh-map}
 use Rattle.shapes.specs.Shape.{Shape}
 use Rattle.shapes.specs.Order.{order}
 use Rattle.shapes.specs.Group.{Group}
 use Rattle.shapes.proofs.OrderLaws.{order-self, order-equal}
 use Rattle.sets.specs.Set.{Set}
 use Rattle.sets.specs.Ids.{distinct}
-use Rattle.groups.specs.Groups.{shapeOf, placed, withShape, groupsFrom, groupsOf}
-use Rattle.groups.proofs.GroupLaws.{shape-length, Said, said, one, more, Long, with-long}
+use Rattle.groups.specs.Groups.{shapeOf, withShape, groupsFrom, groupsOf}
+use Rattle.groups.proofs.GroupLaws.{shape-length, Said, said, with-less, with-equal, with-more, Long, with-long}
 use Rattle.groups.proofs.GroupLaws.Said.{less, equal, greater}
 
 -- ---- how many sets have a shape
@@ -40,18 +41,6 @@ share u g = whereEqual (order u (g .shape)) (g .sets)
 abbrev pub isShape : Shape → Shape → ℕ
 isShape u s = whereEqual (order u s) 1
 
-with-less : (g : Group) (gs : List Group) (s : Shape) → order s (g .shape) ≡ Less → withShape (g ∷ gs) s ≡ one s ∷ g ∷ gs
-unfolding withShape placed
-with-less g gs s e = rw e
-
-with-equal : (g : Group) (gs : List Group) (s : Shape) → order s (g .shape) ≡ Equal → withShape (g ∷ gs) s ≡ more g ∷ gs
-unfolding withShape placed
-with-equal g gs s e = rw e
-
-with-greater : (g : Group) (gs : List Group) (s : Shape) → order s (g .shape) ≡ Greater → withShape (g ∷ gs) s ≡ g ∷ withShape gs s
-unfolding withShape placed
-with-greater g gs s e = rw e
-
 with-share : (n : ℕ) (u : Shape) (gs : List Group) (s : Shape) → length s ≡ n → All (Long n) gs → weigh (share u) (withShape gs s) ≡ weigh (share u) gs + isShape u s
 unfolding weigh
 with-share n u [] s p l = unfold withShape in omega arith
@@ -64,7 +53,7 @@ with-share n u (g ∷ gs) s p l = go (with-share n u gs s p (l .1)) (said (order
         let same = order-equal s (g .shape) (p ∙ sym (l .0)) e in
         let here : isShape u s ≡ isShape u (g .shape) = ap (isShape u) same in
         rw (with-equal g gs s e) (omega (arith, equal-more (order u (g .shape)) (g .sets)))
-    go rec (greater e) = rw (with-greater g gs s e) (omega (arith, rec))
+    go rec (greater e) = rw (with-more g gs s e) (omega (arith, rec))
 
 from-share : (n : ℕ) (u : Shape) (gs : List Group) (l : List Shape) → All (λ s. length s ≡ n) l → All (Long n) gs
     → weigh (share u) (groupsFrom gs l) ≡ weigh (share u) gs + weigh (isShape u) l
@@ -81,11 +70,6 @@ share-none u (g ∷ gs) h =
 
 pub share-self : (g : Group) → share (g .shape) g ≡ g .sets
 share-self g = ap (λ (o : Order). whereEqual o (g .sets)) (order-self (g .shape))
-
-pub weigh-map : {A B : Type 0} (φ : B → ℕ) (f : A → B) (l : List A) → weigh φ (map f l) ≡ weigh (λ x. φ (f x)) l
-unfolding weigh
-weigh-map φ f [] = refl
-weigh-map φ f (x ∷ l) = omega (arith, weigh-map φ f l)
 
 pub groups-share : (regions : ℕ) (u : Shape) (sets : List Set) → weigh (share u) (groupsOf regions sets) ≡ weigh (λ s. isShape u (shapeOf regions s)) (distinct sets)
 unfolding groupsOf weigh

@@ -17,7 +17,7 @@ use Rattle.rule.specs.Model.{merged}
 use Rattle.store.specs.Placing.{Final, runsOf, modelled}
 use Rattle.encoder.specs.Packed.{numberOf, finalOf, shared}
 
--- "A group costs overhead + row cost x sets": a final group by its own ids
+-- what a final group costs by its own ids
 abbrev pub costOf : Final → ℕ
 costOf f = groupCost (record { shape = f .shape; sets = length (f .ids) })
 
@@ -30,7 +30,7 @@ startOf regions jobs x = numberOf (shapeOf regions (getD (distinct jobs) x [])) 
 
 -- of the sets of a job, in mode 0
 pub record Sizes (regions : ℕ) (jobs : List Set) : Type 0 where
-  -- "group sets by shape": no two starting groups have one shape
+  -- no two starting groups have one shape
   pub starting-apart : EachTwo (λ g h. g .shape ≡ h .shape → ⊥) (groupsOf regions jobs)
   -- the group of an id's set is the one that has the set's shape
   pub starting-of : (x : ℕ) → x < length (distinct jobs)
@@ -38,13 +38,13 @@ pub record Sizes (regions : ℕ) (jobs : List Set) : Type 0 where
   -- and each has as many sets as there are such ids
   pub starting-count : (i : ℕ) → i < length (groupsOf regions jobs)
       → length (keep (λ x. eqb (startOf regions jobs x) i) (upTo (length (distinct jobs)))) ≡ groupAt (groupsOf regions jobs) i .sets
-  -- "A group costs overhead + row cost x sets": the sets of a living group are as many as the ids of its final group
+  -- a living group counts as many sets as its final group has ids
   pub living-count : All (λ g. length (finalOf regions (groupsOf regions jobs) (distinct jobs) g .ids) ≡ g .group .sets) (merged (groupsOf regions jobs) .living)
   -- so no final group is empty
   pub finals-some : All (λ f. 0 < length (f .ids)) (shared regions jobs .finals)
-  -- "modelled size .. after merging": what the final groups cost, each with its own number of ids
+  -- the modelled size after merging is what the final groups cost, each by its own ids
   pub after-is : shared regions jobs .after ≡ weigh costOf (shared regions jobs .finals)
-  -- "the model's cost of each final group written": the same, in the forecast
+  -- and is what the forecast takes for them
   pub forecast-has : modelled (shared regions jobs .finals) ≡ shared regions jobs .after
-  -- "A group of more than 65,535 sets is then cut into runs of 65,535": one of no more is one run
+  -- a final group that one subtable holds is not cut
   pub one-run : (f : Final) → length (f .ids) ≤ maxItems → runsOf f ≡ f ∷ []

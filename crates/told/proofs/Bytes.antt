@@ -1,25 +1,25 @@
--- Demand 2's "its adjustment for every region, and zero for one it never named", from the job's bytes to the sets that it says. Assumes nothing.
+-- Demand 2's first half: from the job's bytes to the sets that it says, every value at its region and zero elsewhere. Assumes nothing.
 use mathlib.Core.Path.{_≡_, refl, sym, ap, _∙_}
 use mathlib.Core.Bool.{true}
 use mathlib.Core.List.{List, [], _∷_}
 use mathlib.Core.Logic.{⊎-elim}
-use Prim.Native.Nat.{ℕ, suc, _+_, _-_, _*_, _/_, _≤_, _<_}
+use Prim.Native.Nat.{ℕ, _+_, _-_, _≤_, _<_}
 use native.Mathlib.Omega.{arith}
 use lib.ListN.{length, getD}
-use Rattle.laws.specs.Signed.{zeroWord}
-use Rattle.laws.proofs.Cases.{lt-or-ge, true-false}
+use Rattle.laws.proofs.Cases.{lt-or-ge}
 use Rattle.laws.proofs.EveryLaws.{all-getD}
-use Rattle.sets.specs.Set.{Set, wordOf, Proper}
-use Rattle.said.specs.Records.{recordBytes, kind, valueKind, regionOf, valueWord}
-use Rattle.said.specs.Sets.{Region, regionList, firstLike, has, indexIn}
+use Rattle.sets.specs.Set.{wordOf, Proper}
+use Rattle.sets.proofs.SetLaws.{word-past}
+use Rattle.said.specs.Records.{endKind, regionOf, recordAt}
+use Rattle.said.specs.Sets.{Region, firstLike, has, indexIn}
 use Rattle.said.specs.Job.{Said, fine, outcome}
 use Rattle.said.proofs.RegionLaws.{like-below, regions-at}
 use Rattle.said.proofs.MeaningLaws.{like-here, equal-first}
 use Rattle.said.proofs.IndexLaws.{index-at, index-below}
 use Rattle.said.proofs.SoundLaws.{fine-walk}
-use Rattle.told.specs.Told.{recordAt, recordCount, endsBefore, ValueIn, FirstUse, coordinatesAt, indexOf, Given, Unnamed, Told}
-use Rattle.told.proofs.WordLaws.{word-past, ends-most}
-use Rattle.told.proofs.TellLaws.{Telling, InUse, all-told}
+use Rattle.told.specs.Told.{recordCount, endsBefore, ValueIn, FirstUse, coordinatesAt, indexOf, Given, Told}
+use Rattle.told.proofs.WordLaws.{count-grows}
+use Rattle.told.proofs.TellLaws.{Telling, all-told}
 
 has-none : (q : ℕ) (l : List ℕ) → l ≡ [] → has q l ≡ true → ⊥
 unfolding has
@@ -42,7 +42,7 @@ module _ (axes : ℕ) (job : List ℕ) (s : Said) (t : Telling axes job (recordC
     most : endsBefore job i ≤ length (s .sets)
     most =
         let e : i + (recordCount job - i) ≡ recordCount job = omega (arith, v .within) in
-        omega (arith, ends-most job (recordCount job - i) i, ap (endsBefore job) e, t .ends)
+        omega (arith, count-grows endKind job (recordCount job - i) i, ap (endsBefore job) e, t .ends)
 
     ended : endsBefore job i < length (s .sets)
     ended = ⊎-elim

@@ -1,33 +1,31 @@
 -- What the records so far have told of each set, kept from record to record. Assumes nothing.
 use mathlib.Core.Path.{_≡_, refl, sym, ap, subst, _∙_}
-use mathlib.Core.Bool.{Bool, true, false}
+use mathlib.Core.Bool.{true, false}
 use mathlib.Core.List.{List, [], _∷_, _++_}
 use mathlib.Core.Logic.{⊎-elim}
-use Prim.Native.Nat.{ℕ, zero, suc, _+_, _-_, _*_, _/_, _%_, _≤_, _<_}
-use native.Mathlib.Nat.{add-zero}
-use native.Mathlib.Numerals.{add-one}
+use Prim.Native.Nat.{ℕ, suc, _+_, _-_, _/_, _≤_, _<_}
 use native.Mathlib.Omega.{arith}
-use lib.ListN.{length, getD, drop, length-append, List·getD-append}
-use lib.Seq.{drop-drop, getD-at}
-use lib.Dec.{eqb}
-use borrow.Author.Tests.{eqb-true}
-use Rattle.laws.specs.Pick.{pick}
+use lib.ListN.{length, getD, length-append, List·getD-append}
+use lib.Seq.{getD-at}
 use Rattle.laws.specs.Every.{All}
 use Rattle.laws.specs.Signed.{zeroWord}
 use Rattle.laws.proofs.Cases.{Which, which, lt-or-ge, true-false}
 use Rattle.laws.proofs.Cases.Which.{holds, fails}
-use Rattle.laws.proofs.EveryLaws.{all-append, all-getD}
+use Rattle.laws.proofs.EveryLaws.{all-getD}
 use Rattle.sets.specs.Set.{Set, wordOf, Proper}
-use Rattle.said.specs.Records.{recordBytes, kind, axisKind, valueKind, endKind, regionOf, valueWord}
-use Rattle.said.specs.Refusals.{axisNo, valueNo, endNo}
+use Rattle.sets.proofs.SetLaws.{word-past}
+use Rattle.said.specs.Records.{kind, axisKind, valueKind, endKind, regionOf, valueWord, recordAt}
 use Rattle.said.specs.Sets.{Region, regionList, firstLike, has, withUse, indexIn, withValue}
-use Rattle.said.specs.Job.{Said, State, inAxes, inSets, Step, stop, on, unless, afterValue, afterEnd, valueStep, endStep, setStep, regionsOnly, step, Outcome, refused, fine, ended, endedSets, follow, walk}
+use Rattle.said.specs.Job.{Said, inAxes, afterValue, afterEnd, regionsOnly, fine, walk}
 use Rattle.said.specs.Good.{Good}
-use Rattle.said.proofs.GoodLaws.{good-start, good-value, good-end}
+use Rattle.said.proofs.GoodLaws.{good-start, good-value, good-end, has-more, has-first, fresh-differs}
+use Rattle.said.proofs.PlacedLaws.{with-other, with-here}
+use Rattle.said.proofs.WalkLaws.{walk-keeps}
+use Rattle.said.proofs.SaidLaws.{use-low}
 use Rattle.said.proofs.IndexLaws.{with-known, with-new, with-has, with-old, index-at, index-below, index-snoc-new}
 use Rattle.said.proofs.RegionLaws.{like-below, regions-length}
-use Rattle.told.specs.Told.{recordAt, endsBefore, FirstUse}
-use Rattle.told.proofs.WordLaws.{word-past, with-other, with-here, use-kept, has-more, has-first, fresh-differs, value-fine, ends-one, ends-same, ends-most}
+use Rattle.told.specs.Told.{countKind, endsBefore, FirstUse}
+use Rattle.told.proofs.WordLaws.{use-kept, value-fine, count-here, count-past, count-grows}
 
 -- record r's region is in use, and the set has the record's word there
 pub record InUse (regions : List Region) (used : List ℕ) (b : Set) (r : List ℕ) : Type 0 where
@@ -45,13 +43,6 @@ up-to P i h p j l = ⊎-elim
     (λ (a : j < i). h j a)
     (λ (a : i ≤ j). let e : i ≡ j = omega arith in subst P e p)
     (lt-or-ge j i)
-
-use-low : (l : List ℕ) (q n : ℕ) → q < n → All (λ p. p < n) l → All (λ p. p < n) (withUse l q)
-use-low l q n h a = go (which (has q l))
-  where
-    go : Which (has q l) → All (λ p. p < n) (withUse l q)
-    go (holds e) = rw (with-known l q e) a
-    go (fails e) = rw (with-new l q e) (all-append (λ p. p < n) l (q ∷ []) a (h, tt))
 
 module _ (axes : ℕ) (job : List ℕ) where
   -- no value record before record i that is in set n names the region at index r
@@ -83,12 +74,12 @@ module _ (axes : ℕ) (job : List ℕ) where
     none : (j : ℕ) → j < i → kind (recordAt job j) ≡ valueKind → ⊥
 
   quiet-start : Quiet 0
-  unfolding endsBefore
+  unfolding countKind
   quiet-start = record { ends = refl; none = λ j h. absurd (omega arith) }
 
   quiet-more : (i : ℕ) → Quiet i → kind (recordAt job i) ≡ axisKind → Quiet (suc i)
   quiet-more i q k = record {
-    ends = ends-same job i (λ e. omega arith) ∙ q .ends;
+    ends = count-past endKind job i (λ e. omega arith) ∙ q .ends;
     none = up-to (λ j. kind (recordAt job j) ≡ valueKind → ⊥) i (q .none) (λ e. omega arith);
   }
 
@@ -123,7 +114,7 @@ module _ (axes : ℕ) (job : List ℕ) where
       none-later : (j : ℕ) → j < suc i → endsBefore job j ≤ length (s .sets)
       none-later j h =
           let e : j + (i - j) ≡ i = omega arith in
-          omega (arith, ends-most job (i - j) j, ap (endsBefore job) e, t .ends)
+          omega (arith, count-grows endKind job (i - j) j, ap (endsBefore job) e, t .ends)
 
       abbrev Use : Set → ℕ → Type 0
       Use b j = InUse (s .regions) (s .used) b (recordAt job j)
@@ -151,7 +142,7 @@ module _ (axes : ℕ) (job : List ℕ) where
       unfolding afterEnd wordOf
       tell-end = record {
         good = good-end s (t .good);
-        ends = ends-one job i k ∙ ap suc (t .ends) ∙ sym long;
+        ends = count-here endKind job i k ∙ ap suc (t .ends) ∙ sym long;
         regions-are = t .regions-are;
         used-low = t .used-low;
         known = up-to (λ j. kind (recordAt job j) ≡ valueKind → regionOf (recordAt job j) < length (s .regions)) i (t .known) (λ v. absurd (omega arith));
@@ -281,7 +272,7 @@ module _ (axes : ℕ) (job : List ℕ) where
       unfolding afterValue
       tell-value = record {
         good = good-value s q w (t .good) new;
-        ends = ends-same job i (λ e. omega arith) ∙ t .ends;
+        ends = count-past endKind job i (λ e. omega arith) ∙ t .ends;
         regions-are = t .regions-are;
         used-low = use-low (s .used) q (length (s .regions)) (unfold firstLike in like-below (s .regions) (regionOf (recordAt job i)) known-here) (t .used-low);
         known = up-to (λ j. kind (recordAt job j) ≡ valueKind → regionOf (recordAt job j) < length (s .regions)) i (t .known) (λ v. known-here);
@@ -302,89 +293,15 @@ module _ (axes : ℕ) (job : List ℕ) where
         begun-silent = λ r l x. new-silent r x;
       }
 
-  -- ---- one step
-
-  abbrev Kept : ℕ → State → Type 0
-  Kept i inAxes = Quiet i
-  Kept i (inSets s) = Telling i s
-
-  abbrev After : ℕ → Step → Type 0
-  After i (stop n) = Unit {0}
-  After i (on s) = Kept i s
-
-  abbrev Ends : ℕ → Outcome → Type 0
-  Ends i (refused n at) = Unit {0}
-  Ends i (fine s) = Telling i s × (s .named ≡ [])
-
-  unless-after : (i n : ℕ) (s : State) → (n ≡ 0 → Kept i s) → After i (unless n s)
-  unfolding unless
-  unless-after i zero s h = h refl
-  unless-after i (suc n) s h = tt
-
-  pick-after : (i : ℕ) (b : Bool) (x y : Step) → (b ≡ true → After i x) → (b ≡ false → After i y) → After i (pick b x y)
-  pick-after i true x y h k = h refl
-  pick-after i false x y h k = k refl
-
-  set-after : (mode i : ℕ) (s : Said) → Telling i s → After (suc i) (setStep mode (recordAt job i) s)
-  unfolding setStep valueStep endStep
-  set-after mode i s t =
-      let r = recordAt job i in
-      let q = firstLike (s .regions) (regionOf r) in
-      pick-after (suc i) (eqb (kind r) valueKind) (valueStep r s) (pick (eqb (kind r) endKind) (endStep mode r s) (stop 5))
-      (λ e. unless-after (suc i) (valueNo r (length (s .regions)) (has q (s .named))) (inSets (afterValue s q (valueWord r)))
-      (λ z.
-      let f = value-fine r (length (s .regions)) (has q (s .named)) z in
-      tell-value i s t (eqb-true (kind r) valueKind e) (f .0) (f .1)))
-      (λ _. pick-after (suc i) (eqb (kind r) endKind) (endStep mode r s) (stop 5)
-      (λ e. unless-after (suc i) (endNo mode r (length (s .sets))) (inSets (afterEnd s)) (λ z. tell-end i s t (eqb-true (kind r) endKind e)))
-      (λ _. tt))
-
-  step-after : (mode i : ℕ) (s : State) → Kept i s → After (suc i) (step axes mode job (recordAt job i) i s)
-  unfolding step
-  step-after mode i inAxes k =
-      let r = recordAt job i in
-      pick-after (suc i) (eqb (kind r) axisKind) (unless (axisNo axes r i) inAxes)
-      (pick (eqb (i % axes) 0) (setStep mode r (regionsOnly (regionList axes (i / axes) job))) (stop 5))
-      (λ e. unless-after (suc i) (axisNo axes r i) inAxes (λ _. quiet-more i k (eqb-true (kind r) axisKind e)))
-      (λ _. pick-after (suc i) (eqb (i % axes) 0) (setStep mode r (regionsOnly (regionList axes (i / axes) job))) (stop 5)
-      (λ z. set-after mode i (regionsOnly (regionList axes (i / axes) job)) (tell-start i (i / axes) k))
-      (λ _. tt))
-  step-after mode i (inSets s) k = set-after mode i s k
-
-  -- ---- the walk
-
-  sets-end : (i : ℕ) (s : Said) (named : List ℕ) → s .named ≡ named → Telling i s → Ends i (endedSets i s named)
-  unfolding endedSets
-  sets-end i s [] e t = (t, e)
-  sets-end i s (q ∷ named) e t = tt
-
-  ended-ends : (i : ℕ) (s : State) → Kept i s → Ends i (ended axes job i s)
-  unfolding ended regionsOnly
-  ended-ends i inAxes k = go (which (eqb (i % axes) 0))
-    where
-      go : Which (eqb (i % axes) 0) → Ends i (pick (eqb (i % axes) 0) (fine (regionsOnly (regionList axes (i / axes) job))) (refused 8 i))
-      go (holds e) = rw e (tell-start i (i / axes) k, refl)
-      go (fails e) = rw e tt
-  ended-ends i (inSets s) k = sets-end i s (s .named) refl k
-
-  follow-ends : (i n : ℕ) (t : Step) (go : State → Outcome) → ((s : State) → Kept (suc i) s → Ends n (go s)) → After (suc i) t → Ends n (follow i t go)
-  unfolding follow
-  follow-ends i n (stop m) go h a = tt
-  follow-ends i n (on s) go h a = h s a
-
-  next-record : (i : ℕ) → drop 12 (recordAt job i) ≡ recordAt job (i + 1)
-  next-record i = let e : 12 * i + 12 ≡ 12 * (i + 1) = omega arith in drop-drop 12 (12 * i) job ∙ ap (λ (k : ℕ). drop k job) e
-
-  walk-ends : (mode left i n : ℕ) (rest : List ℕ) (s : State) → rest ≡ recordAt job i → i + left ≡ n → Kept i s → Ends n (walk axes mode job rest left i s)
-  unfolding walk
-  walk-ends mode zero i n rest s r e k = subst (λ (m : ℕ). Ends m (ended axes job i s)) (sym (add-zero i) ∙ e) (ended-ends i s k)
-  walk-ends mode (suc left) i n rest s r e k =
-      follow-ends i n (step axes mode job rest i s) (λ s′. walk axes mode job (drop 12 rest) left (i + 1) s′)
-      (λ s′ a. walk-ends mode left (i + 1) n (drop 12 rest) s′ (ap (drop 12) r ∙ next-record i) (omega arith) (subst (λ (m : ℕ). Kept m s′) (sym (add-one i)) a))
-      (subst (λ (l : List ℕ). After (suc i) (step axes mode job l i s)) (sym r) (step-after mode i s k))
-
 -- all that the records of a job have told
 pub all-told : (axes mode : ℕ) (job : List ℕ) (records : ℕ) (s : Said) → walk axes mode job job records 0 inAxes ≡ fine s
     → Telling axes job records s × (s .named ≡ [])
 all-told axes mode job records s e =
-    subst (Ends axes job records) e (walk-ends axes job mode records 0 records job inAxes refl (omega arith) (quiet-start axes job))
+    walk-keeps axes mode job (Quiet axes job) (Telling axes job)
+    (λ i k _ q. quiet-more axes job i q k)
+    (λ i _ q. tell-start axes job i (i / axes) q)
+    (λ i t k z p.
+    let f = value-fine (recordAt job i) (length (t .regions)) (has (firstLike (t .regions) (regionOf (recordAt job i))) (t .named)) z in
+    tell-value axes job i t p k (f .0) (f .1))
+    (λ i t k p. tell-end axes job i t p k)
+    records s (quiet-start axes job) e

@@ -1,11 +1,9 @@
 -- A job of one axis, computed: it is taken, its value records stand in their sets by region index, and the theorem says so. Three regions, the last one
 -- with the coordinates of the first; the sets {R1:1}, {R2:7, R1:0} and {}. Assumes nothing.
-use mathlib.Core.Bool.{Bool, true, false}
 use mathlib.Core.List.{List, [], _∷_, _++_, map}
 use mathlib.Core.Path.{_≡_, refl}
 use Prim.Native.Nat.{ℕ, _+_}
 use native.Mathlib.Omega.{arith}
-use lib.ListN.{length, getD}
 use Rattle.laws.specs.Bounded.{allBelow}
 use Rattle.laws.specs.Bytes.{be}
 use Rattle.laws.specs.Signed.{word, signed, zeroWord}
@@ -14,7 +12,7 @@ use Rattle.said.specs.Records.{zeros, axisZeros, valueZeros, endZeros, valueWor
 use Rattle.said.specs.Refusals.{pairRecords, firstFailed, publishedWork, earlyNo, axisNo, valueNo, endNo}
 use Rattle.said.specs.Sets.{Region, coordinates, regionList, sameRegion, like, firstLike, has, withUse, indexIn, placed, withValue}
 use Rattle.said.specs.Job.{Said, fine, unless, afterValue, afterEnd, valueStep, endStep, setStep, regionsOnly, step, ended, endedSets, follow, walk, outcomeFrom, outcome}
-use Rattle.told.specs.Told.{recordCount, endsBefore, ValueIn, coordinatesAt, indexOf, Given, Told}
+use Rattle.told.specs.Told.{recordCount, countKind, endsBefore, ValueIn, coordinatesAt, indexOf, Given, Told}
 use Rattle.told.proofs.Bytes.{told}
 
 abbrev axisRecord : ℕ → ℕ → List ℕ
@@ -56,7 +54,7 @@ taken = refl
 
 -- end records before each record, and in all; regions by index and by coordinates
 counted : map (endsBefore job) (0 ∷ 3 ∷ 4 ∷ 5 ∷ 6 ∷ 7 ∷ 8 ∷ recordCount job ∷ []) ≡ 0 ∷ 0 ∷ 0 ∷ 1 ∷ 1 ∷ 1 ∷ 2 ∷ 3 ∷ []
-unfolding endsBefore
+unfolding countKind
 counted = refl
 
 indexes : map (indexOf s) (0 ∷ 1 ∷ 2 ∷ []) ≡ 1 ∷ 0 ∷ 1 ∷ []
@@ -84,7 +82,7 @@ told-all = told 1 0 job 4096 pairRecords s taken
 
 -- record 6 is a value record of set 1, a zero
 sixth : ValueIn job 1 6
-unfolding endsBefore
+unfolding countKind
 sixth = record { within = omega arith; is-value = refl; in-set = refl }
 
 pub sixth-given : Given 1 job s 1 6

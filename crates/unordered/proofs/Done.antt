@@ -4,7 +4,7 @@ use mathlib.Core.Path.{_≡_, refl, sym, ap, subst, _∙_}
 use mathlib.Core.List.{List, []}
 use Prim.Native.Nat.{ℕ, _+_, _*_, _/_, _≤_, _<_}
 use native.Mathlib.Omega.{arith}
-use lib.ListN.{length, getD, take, length-map}
+use lib.ListN.{length, getD, take}
 use Rattle.laws.specs.Every.{All}
 use Rattle.laws.proofs.EveryLaws.{all-and}
 use Rattle.sets.specs.Set.{Set, Ascending, Proper}
@@ -32,10 +32,6 @@ use Rattle.unordered.proofs.Alike.{Fine}
 pub shared-of : (s : Said) → packedOf 0 s ≡ shared (length (s .used)) (s .sets)
 unfolding packedOf
 shared-of s = refl
-
-pub coords-long : (s : Said) → length (coordsOf s) ≡ length (s .used)
-unfolding coordsOf
-coords-long s = length-map (s .used) _
 
 shared-ids : (n : ℕ) (sets : List Set) → shared n sets .ids ≡ sharedIds sets
 unfolding shared

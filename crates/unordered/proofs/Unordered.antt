@@ -5,6 +5,7 @@ use Prim.Native.Nat.{ℕ, _<_}
 use native.Mathlib.Omega.{arith}
 use lib.ListN.{length, getD}
 use Rattle.laws.specs.Every.{All}
+use Rattle.laws.proofs.ListLaws.{map-map}
 use Rattle.sets.specs.Set.{Set}
 use Rattle.sets.specs.Ids.{place, distinct}
 use Rattle.sets.proofs.IdLaws.{id-below, place-here}
@@ -18,11 +19,12 @@ use Rattle.finishing.specs.Late.{storeFor, reportOf}
 use Rattle.build.specs.Lending.{Lending}
 use Rattle.build.specs.Build.{regionBytes, coordsOf, packedOf, outcomeOf, answerOf, after}
 use Rattle.build.proofs.PackedLaws.{Good}
+use Rattle.build.proofs.Accepted.{coords-long}
 use Rattle.unordered.specs.Same.{SameSets, placeOf, SameBuild}
 use Rattle.unordered.proofs.Alike.{Fine}
-use Rattle.unordered.proofs.Rows.{map-map, Renamed, shared-same}
+use Rattle.unordered.proofs.Rows.{Renamed, shared-same}
 use Rattle.unordered.proofs.Stores.{store-same, report-same, word-same}
-use Rattle.unordered.proofs.Done.{shared-of, coords-long, sets-are, IsDone, is-done}
+use Rattle.unordered.proofs.Done.{shared-of, sets-are, IsDone, is-done}
 
 module _ (axes : ℕ) (a b : Lending) (s t : Said) (c d : Report) (same : SameSets s t) (p : IsDone axes a s c) (q : IsDone axes b t d) where
   -- the id that the set of id x has in the other job

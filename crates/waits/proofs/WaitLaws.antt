@@ -4,7 +4,6 @@ use mathlib.Core.Bool.{Bool, true, false, not}
 use mathlib.Core.Logic.{_⊎_, ⊎-elim}
 use mathlib.Core.List.{List}
 use Prim.Native.Nat.{ℕ, zero, suc, _+_, _-_, _*_, _≤_, _<_}
-use native.Mathlib.Numerals.{add-one}
 use native.Mathlib.Omega.{arith}
 use lib.Dec.{T, eqb}
 use lib.ListN.{length}
@@ -12,6 +11,7 @@ use borrow.Author.Tests.{eq-eqb, ne-eqb}
 use Rattle.laws.specs.Bag.{sum}
 use Rattle.laws.specs.Range.{Only, Outside}
 use Rattle.laws.proofs.Cases.{same-or-not, lt-or-ge}
+use Rattle.laws.proofs.BagLaws.{sum-next}
 use Rattle.laws.proofs.Products.{product}
 use Rattle.shapes.specs.Group.{gain}
 use Rattle.pairs.specs.declared.Pair.{Pair}
@@ -65,10 +65,6 @@ alive-one t w c e = rw (ne-eqb (placeOf t w c) 0 e)
 pub alive-same : (t : Tables) (w w′ : List ℕ) (c : ℕ) → placeOf t w′ c ≡ placeOf t w c → alive t w′ c ≡ alive t w c
 unfolding alive
 alive-same t w w′ c e = rw e
-
-pub sum-next : (a : ℕ → ℕ) (n : ℕ) → sum a (n + 1) ≡ sum a n + a n
-unfolding sum
-sum-next a n = rw add-one
 
 pub sum-mono : (a : ℕ → ℕ) (n m : ℕ) → n ≤ m → sum a n ≤ sum a m
 unfolding sum

@@ -1,6 +1,6 @@
 -- The loop over the records of the sets. Assumes nothing.
 use mathlib.Core.Path.{_≡_, refl, sym, ap, _∙_, subst}
-use Rattle.said.proofs.RecordLaws.{tail-is}
+use Rattle.laws.proofs.ListLaws.{tail-is}
 use mathlib.Core.Bool.{Bool, true, false}
 use mathlib.Core.List.{List, [], _∷_, _++_}
 use Prim.Native.Nat.{ℕ, zero, suc, _+_, _-_, _*_, _/_, _≤_, _<_}

@@ -1,6 +1,6 @@
 use mathlib.Core.List.{List}
 use Rattle.said.specs.Refusals.{axisNo}
-use Rattle.said.proofs.RecordLaws.{tail-is}
+use Rattle.laws.proofs.ListLaws.{tail-is}
 use mathlib.Core.Path.{_≡_, sym, ap, _∙_}
 use Prim.Native.Nat.{ℕ, _-_, _*_}
 use Rattle.walk.proofs.WalkLaws.{Reading, reading-start, reading-more, read-bad, read-part, read-whole, read-open, read-all}

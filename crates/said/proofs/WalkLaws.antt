@@ -1,0 +1,109 @@
+-- What each record of a job keeps true, the walk along all of them keeps true: one induction for all such facts. Assumes nothing.
+use mathlib.Core.Path.{_≡_, refl, sym, ap, subst, _∙_}
+use mathlib.Core.Bool.{Bool, true, false}
+use mathlib.Core.List.{List, [], _∷_}
+use Prim.Native.Nat.{ℕ, zero, suc, _+_, _*_, _/_, _%_}
+use native.Mathlib.Nat.{add-zero}
+use native.Mathlib.Numerals.{add-one}
+use native.Mathlib.Omega.{arith}
+use lib.ListN.{length, drop}
+use lib.Seq.{drop-drop}
+use lib.Dec.{eqb}
+use borrow.Author.Tests.{eqb-true}
+use Rattle.laws.specs.Pick.{pick}
+use Rattle.laws.proofs.Cases.{Which, which}
+use Rattle.laws.proofs.Cases.Which.{holds, fails}
+use Rattle.said.specs.Records.{recordAt, kind, axisKind, valueKind, endKind, regionOf, valueWord}
+use Rattle.said.specs.Refusals.{axisNo, valueNo, endNo}
+use Rattle.said.specs.Sets.{regionList, firstLike, has}
+use Rattle.said.specs.Job.{Said, State, inAxes, inSets, Step, stop, on, unless, afterValue, afterEnd, valueStep, endStep, setStep, regionsOnly, step, Outcome, refused, fine, ended, endedSets, follow, walk}
+
+-- Before record i: Q i while all records so far were axis records, P i s once s is said.
+module _ (axes mode : ℕ) (job : List ℕ) (Q : ℕ → Type 0) (P : ℕ → Said → Type 0)
+    (axis-more : (i : ℕ) → kind (recordAt job i) ≡ axisKind → axisNo axes (recordAt job i) i ≡ 0 → Q i → Q (suc i))
+    (begin : (i : ℕ) → i % axes ≡ 0 → Q i → P i (regionsOnly (regionList axes (i / axes) job)))
+    (value-more : (i : ℕ) (s : Said) → kind (recordAt job i) ≡ valueKind
+    → valueNo (recordAt job i) (length (s .regions)) (has (firstLike (s .regions) (regionOf (recordAt job i))) (s .named)) ≡ 0
+    → P i s → P (suc i) (afterValue s (firstLike (s .regions) (regionOf (recordAt job i))) (valueWord (recordAt job i))))
+    (end-more : (i : ℕ) (s : Said) → kind (recordAt job i) ≡ endKind → P i s → P (suc i) (afterEnd s)) where
+  abbrev Kept : ℕ → State → Type 0
+  Kept i inAxes = Q i
+  Kept i (inSets s) = P i s
+
+  abbrev After : ℕ → Step → Type 0
+  After i (stop n) = Unit {0}
+  After i (on s) = Kept i s
+
+  abbrev Ends : ℕ → Outcome → Type 0
+  Ends i (refused n at) = Unit {0}
+  Ends i (fine s) = P i s × (s .named ≡ [])
+
+  -- ---- one step
+
+  unless-after : (i n : ℕ) (s : State) → (n ≡ 0 → Kept i s) → After i (unless n s)
+  unfolding unless
+  unless-after i zero s h = h refl
+  unless-after i (suc n) s h = tt
+
+  pick-after : (i : ℕ) (b : Bool) (x y : Step) → (b ≡ true → After i x) → (b ≡ false → After i y) → After i (pick b x y)
+  pick-after i true x y h k = h refl
+  pick-after i false x y h k = k refl
+
+  set-after : (i : ℕ) (s : Said) → P i s → After (suc i) (setStep mode (recordAt job i) s)
+  unfolding setStep valueStep endStep
+  set-after i s p =
+      let r = recordAt job i in
+      let q = firstLike (s .regions) (regionOf r) in
+      pick-after (suc i) (eqb (kind r) valueKind) (valueStep r s) (pick (eqb (kind r) endKind) (endStep mode r s) (stop 5))
+      (λ e. unless-after (suc i) (valueNo r (length (s .regions)) (has q (s .named))) (inSets (afterValue s q (valueWord r)))
+      (λ z. value-more i s (eqb-true (kind r) valueKind e) z p))
+      (λ _. pick-after (suc i) (eqb (kind r) endKind) (endStep mode r s) (stop 5)
+      (λ e. unless-after (suc i) (endNo mode r (length (s .sets))) (inSets (afterEnd s)) (λ z. end-more i s (eqb-true (kind r) endKind e) p))
+      (λ _. tt))
+
+  step-after : (i : ℕ) (s : State) → Kept i s → After (suc i) (step axes mode job (recordAt job i) i s)
+  unfolding step
+  step-after i inAxes k =
+      let r = recordAt job i in
+      let first = regionsOnly (regionList axes (i / axes) job) in
+      pick-after (suc i) (eqb (kind r) axisKind) (unless (axisNo axes r i) inAxes) (pick (eqb (i % axes) 0) (setStep mode r first) (stop 5))
+      (λ e. unless-after (suc i) (axisNo axes r i) inAxes (λ z. axis-more i (eqb-true (kind r) axisKind e) z k))
+      (λ _. pick-after (suc i) (eqb (i % axes) 0) (setStep mode r first) (stop 5)
+      (λ z. set-after i first (begin i (eqb-true (i % axes) 0 z) k))
+      (λ _. tt))
+  step-after i (inSets s) k = set-after i s k
+
+  -- ---- the walk
+
+  sets-end : (i : ℕ) (s : Said) (named : List ℕ) → s .named ≡ named → P i s → Ends i (endedSets i s named)
+  unfolding endedSets
+  sets-end i s [] e p = (p, e)
+  sets-end i s (q ∷ named) e p = tt
+
+  ended-ends : (i : ℕ) (s : State) → Kept i s → Ends i (ended axes job i s)
+  unfolding ended regionsOnly
+  ended-ends i inAxes k = go (which (eqb (i % axes) 0))
+    where
+      go : Which (eqb (i % axes) 0) → Ends i (pick (eqb (i % axes) 0) (fine (regionsOnly (regionList axes (i / axes) job))) (refused 8 i))
+      go (holds e) = rw e (begin i (eqb-true (i % axes) 0 e) k, refl)
+      go (fails e) = rw e tt
+  ended-ends i (inSets s) k = sets-end i s (s .named) refl k
+
+  follow-ends : (i n : ℕ) (t : Step) (go : State → Outcome) → ((s : State) → Kept (suc i) s → Ends n (go s)) → After (suc i) t → Ends n (follow i t go)
+  unfolding follow
+  follow-ends i n (stop m) go h a = tt
+  follow-ends i n (on s) go h a = h s a
+
+  next-record : (i : ℕ) → drop 12 (recordAt job i) ≡ recordAt job (i + 1)
+  next-record i = let e : 12 * i + 12 ≡ 12 * (i + 1) = omega arith in drop-drop 12 (12 * i) job ∙ ap (λ (k : ℕ). drop k job) e
+
+  walk-ends : (left i n : ℕ) (rest : List ℕ) (s : State) → rest ≡ recordAt job i → i + left ≡ n → Kept i s → Ends n (walk axes mode job rest left i s)
+  unfolding walk
+  walk-ends zero i n rest s r e k = subst (λ (m : ℕ). Ends m (ended axes job i s)) (sym (add-zero i) ∙ e) (ended-ends i s k)
+  walk-ends (suc left) i n rest s r e k =
+      follow-ends i n (step axes mode job rest i s) (λ s′. walk axes mode job (drop 12 rest) left (i + 1) s′)
+      (λ s′ a. walk-ends left (i + 1) n (drop 12 rest) s′ (ap (drop 12) r ∙ next-record i) (omega arith) (subst (λ (m : ℕ). Kept m s′) (sym (add-one i)) a))
+      (subst (λ (l : List ℕ). After (suc i) (step axes mode job l i s)) (sym r) (step-after i s k))
+
+  pub walk-keeps : (records : ℕ) (s : Said) → Q 0 → walk axes mode job job records 0 inAxes ≡ fine s → P records s × (s .named ≡ [])
+  walk-keeps records s q e = subst (Ends records) e (walk-ends records 0 records job inAxes refl (omega arith) q)
