@@ -25,7 +25,7 @@ use Rattle.finishing.specs.declared.answers.Built.the-variants.{Done}
 use Rattle.build.specs.Lending.{Lending}
 use Rattle.build.specs.Build.{regionBytes, coordsOf, answerOf, after}
 use Rattle.ivs.specs.SetsRead.{listed, namedBy, valueAt, InStore, SetRead, SetsRead}
-use Rattle.ivs.proofs.Accepted.{coords-long}
+use Rattle.build.proofs.Accepted.{coords-long}
 use Rattle.ivs.proofs.Demand2.{SetBack, demand2}
 
 -- ---- a record's value
