@@ -8,6 +8,8 @@ use lib.ListN.{length, replicate}
 use Rattle.merging.specs.declared.encoder.Merged.{Merged}
 use Rattle.slots.specs.declared.tables.Tables.{Tables}
 use Rattle.merging.specs.Optimized.{Ready, Optimized}
+use Rattle.said.specs.Records.{recordCount}
+use Rattle.said.specs.Refusals.{shapesFull}
 use Rattle.said.specs.Job.{Said, Outcome, refused, fine, inAxes, walk}
 use Rattle.job.proofs.CheckLaws.{left-early, left-zeros}
 use Rattle.encoder.specs.declared.places.Places.{Places}
@@ -43,7 +45,7 @@ settle-refused axes mode job (refused n i) s w r z out ids map log = records-ref
 settle-refused axes mode job (fine x) s w r z out ids map log =
     let f = r .full z in
     subst (λ (b : Built). RecordsBuilt axes mode (fine x) b out ids map log out ids map log) (ap₂ Refused (sym (f .1)) (sym (f .2)))
-    (records-built axes mode (fine x) x (Refused 10 0) out ids map log out ids map log refl (pack-full axes mode x (f .0) (f .3) (lengths out ids map log) out ids map log))
+    (records-built axes mode (fine x) x (Refused shapesFull 0) out ids map log out ids map log refl (pack-full axes mode x (f .0) (f .3) (lengths out ids map log) out ids map log))
 
 module _ (axes mode : ℕ) (job : List ℕ) (s : Stage) {w : List ℕ} {m : Merged} (o : Outcome) (mid : List ℕ) (r : Read axes mode job o s mid) (j : Joined s m mid w) (z : s .no ≡ 0) where
   abbrev by : SaidBy axes mode job o s mid
@@ -118,9 +120,9 @@ module _ {axes mode : ℕ} {job w : List ℕ} {s : Stage} {m : Merged} (old : Li
 
   pub close-settle : s .early ≡ false → (a : ℕ) → a ≡ axes → SettleFit a mode job s m w
   close-settle e a q = record {
-    outcome = walk axes mode job job (length job / 12) 0 inAxes;
+    outcome = walk axes mode job job (recordCount job) 0 inAxes;
     mid = mid;
-    read = subst (λ (x : ℕ). Read x mode job (walk axes mode job job (length job / 12) 0 inAxes) s mid) (sym q) (p .after e .1);
+    read = subst (λ (x : ℕ). Read x mode job (walk axes mode job job (recordCount job) 0 inAxes) s mid) (sym q) (p .after e .1);
     joined = j;
   }
 
@@ -129,7 +131,7 @@ module _ {axes mode : ℕ} {job w : List ℕ} {s : Stage} {m : Merged} (old : Li
       → (long : ℕ) → long ≡ length w → (w′ : List ℕ) → w′ ≡ replicate long 0 → Closed axes mode job old pairs b out ids map log out′ ids′ map′ log′ w′
   close-late e a q b out ids map log out′ ids′ map′ log′ f long l w′ c =
       let h = p .after e in
-      let r = f (walk a mode job job (length job / 12) 0 inAxes) mid (subst (λ (x : ℕ). Read x mode job (walk x mode job job (length job / 12) 0 inAxes) s mid) (sym q) (h .1)) j in
+      let r = f (walk a mode job job (recordCount job) 0 inAxes) mid (subst (λ (x : ℕ). Read x mode job (walk x mode job job (recordCount job) 0 inAxes) s mid) (sym q) (h .1)) j in
       record {
         whole = whole-late axes mode job (length old) pairs 0 (sym (h .0)) refl a q b out ids map log out′ ids′ map′ log′ r;
         work-is = left-zeros axes mode job old pairs 0 (sym (h .0)) refl long w′ (l ∙ j .only .long ∙ p .long) c;

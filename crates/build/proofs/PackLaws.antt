@@ -26,7 +26,7 @@ use Rattle.groups.specs.Groups.{groupsOf, maxShapes}
 use Rattle.rule.specs.Model.{merged}
 use Rattle.rule.proofs.Theorems.{fewer, none-of-none}
 use Rattle.store.specs.Lent as store
-use Rattle.said.specs.Refusals.{firstFailed}
+use Rattle.said.specs.Refusals.{shapesFull, firstFailed}
 use Rattle.said.specs.Job.{Said}
 use Rattle.encoder.specs.declared.places.Places.{Places}
 use Rattle.encoder.specs.declared.encoded.Encoded.{Encoded}
@@ -76,12 +76,12 @@ refused-late axes coords k l n out ids map log e =
     let z : eqb (lateNo axes coords k l) 0 ≡ false = ap (λ (x : ℕ). eqb x 0) e ∙ ne-eqb (suc n) 0 (λ x. omega arith) in
     record { answer = rw (z, e); out-is = rw z; ids-is = rw z; map-is = rw z; log-is = rw z }
 
-too-many : (axes : ℕ) (coords : List (List ℕ)) (k : Packed) (l : Lengths) → 1024 < k .groups → lateNo axes coords k l ≡ 10
+too-many : (axes : ℕ) (coords : List (List ℕ)) (k : Packed) (l : Lengths) → maxShapes < k .groups → lateNo axes coords k l ≡ shapesFull
 unfolding lateNo firstFailed
-too-many axes coords k l h = rw (lt-leb (k .groups) 1024 h)
+too-many axes coords k l h = rw (lt-leb (k .groups) maxShapes h)
 
 pub pack-full : (axes mode : ℕ) (s : Said) → mode ≡ 0 → maxShapes < length (groupsOf (length (s .used)) (s .sets)) → (l : Lengths) (out ids map log : List ℕ)
-    → Finished axes (coordsOf s) (packedOf mode s) l (Refused 10 0) out ids map log out ids map log
+    → Finished axes (coordsOf s) (packedOf mode s) l (Refused shapesFull 0) out ids map log out ids map log
 unfolding packedOf shared
 pack-full axes mode s z many l out ids map log =
     refused-late axes (coordsOf s) (packedOf mode s) l 9 out ids map log

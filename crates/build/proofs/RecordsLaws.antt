@@ -13,6 +13,7 @@ use Rattle.sets.specs.Set.{Set}
 use Rattle.sets.specs.Lent.{Held, setsIn}
 use Rattle.sets.proofs.HeldLaws.{Kept, kept-only, held-kept, sets-same, sets-length}
 use Rattle.store.specs.Lent as store
+use Rattle.said.specs.Records.{recordStart, recordCount, regionLong, coordsStart, axisCoords, coordsLong}
 use Rattle.said.specs.Refusals.{publishedWork, earlyNo}
 use Rattle.said.specs.Sets.{Region, regionList}
 use Rattle.said.specs.Job.{Said, Outcome, refused, fine, inAxes, walk, outcomeFrom, outcome}
@@ -25,6 +26,7 @@ use Rattle.encoder.proofs.PlacesLaws.{laid}
 use Rattle.finishing.specs.declared.answers.Built.{Built}
 use Rattle.finishing.specs.declared.answers.Built.the-variants.{Refused}
 use Rattle.finishing.specs.Late.{Lengths}
+use Rattle.limits.specs.Limits.{mostRecords, mostAxes, maxRegions, maxShapes}
 use Rattle.build.specs.Build.{regionBytes, coordsOf, packedOf, answerFrom, answerOf, leftFrom, outAfter, idsAfter, mapAfter, logAfter}
 use Rattle.finishing.specs.Lent.{Finished, lengths}
 use Rattle.build.specs.Collected.{StartsAt, Collected, RecordsBuilt}
@@ -45,14 +47,14 @@ held-more end′ h a b = record {
 -- ---- where a region's coordinates end
 
 -- region x of n regions of so many axes, in so many records
-in-job : (axes n x records a : ℕ) → x < n → a < axes → n * axes ≤ records → 12 * axes * x + 4 + 12 * a + 6 ≤ 12 * records
+in-job : (axes n x records a : ℕ) → x < n → a < axes → n * axes ≤ records → axisCoords (coordsStart axes x) a + coordsLong ≤ recordStart records
 in-job axes n x records a h k m =
     let f = row-fits axes n x h in
-    let e : 12 * axes * x ≡ 12 * (x * axes) = omega arith in
+    let e : regionLong axes * x ≡ recordStart (x * axes) = omega arith in
     omega arith
 
-module _ {axes mode records : ℕ} {job w w₁ : List ℕ} (some : 0 < axes) (few : axes ≤ 64) (bytes : (k : ℕ) → getD job k 0 < 256)
-    (room : 12 * records ≤ length job) (most : records ≤ 1048576) (work : publishedWork records ≤ length w)
+module _ {axes mode records : ℕ} {job w w₁ : List ℕ} (some : 0 < axes) (few : axes ≤ mostAxes) (bytes : (k : ℕ) → getD job k 0 < 256)
+    (room : recordStart records ≤ length job) (most : records ≤ mostRecords) (work : publishedWork records ≤ length w)
     {nr at regions sets values uses : ℕ} (r : JobRead axes mode job records w w₁ nr at regions sets values uses) (z : nr ≡ 0) where
   abbrev held : JobHeld axes mode job records w₁ regions sets values uses
   held = r .good z
@@ -69,13 +71,13 @@ module _ {axes mode records : ℕ} {job w w₁ : List ℕ} (some : 0 < axes) (fe
   sum-few : sets + uses ≤ records
   sum-few = omega (arith, room-of axes job records says some cs .0, sets-long, held .uses-are)
 
-  pub uses-few : uses ≤ 256
+  pub uses-few : uses ≤ maxRegions
   uses-few = omega (arith, room-of axes job records says some cs .2, held .uses-are)
 
   one-more : 0 < uses → sets + uses + 1 ≤ records
   one-more h = omega (arith, room-of axes job records says some cs .1 (omega (arith, held .uses-are)), sets-long, held .uses-are)
 
-  published : 16 * records + min records 1024 * min records 1024 ≤ length w₁
+  published : 16 * records + min records maxShapes * min records maxShapes ≤ length w₁
   unfolding publishedWork
   published = omega (arith, r .only .long)
 
@@ -88,10 +90,10 @@ module _ {axes mode records : ℕ} {job w w₁ : List ℕ} (some : 0 < axes) (fe
   used-low : (i : ℕ) → i < uses → getD (r .good z .said .used) i 0 < length (r .good z .said .regions)
   used-low i h = all-getD (λ (q : ℕ). q < length (r .good z .said .regions)) (says .used) i 0 (cs .used-low) (omega (arith, held .uses-are))
 
-  pub starts-low : (i : ℕ) → i < uses → getD w₁ (4 * records + i) 0 < 256
+  pub starts-low : (i : ℕ) → i < uses → getD w₁ (4 * records + i) 0 < maxRegions
   starts-low i h = omega (arith, used-word i h, used-low i h, cs .regions-few)
 
-  pub sets-few : sets ≤ 1048576
+  pub sets-few : sets ≤ mostRecords
   sets-few = omega (arith, sum-few)
 
   pub base-few : 4 * records + uses ≤ 5242880
@@ -101,8 +103,8 @@ module _ {axes mode records : ℕ} {job w w₁ : List ℕ} (some : 0 < axes) (fe
     kept : Kept (4 * records) w₁ w₂
     kept = kept-only (t .only) (omega arith, tt)
 
-    start-word : (i : ℕ) → i < uses → getD w₂ (4 * records + i) 0 ≡ 12 * axes * getD (r .good z .said .used) i 0 + 4
-    start-word i h = t .is i h ∙ ap (λ (x : ℕ). 12 * axes * x + 4) (used-word i h)
+    start-word : (i : ℕ) → i < uses → getD w₂ (4 * records + i) 0 ≡ coordsStart axes (getD (r .good z .said .used) i 0)
+    start-word i h = t .is i h ∙ ap (coordsStart axes) (used-word i h)
 
     regions-fit : length (r .good z .said .regions) * axes ≤ records
     regions-fit = omega (arith, cs .records-are)
@@ -110,10 +112,10 @@ module _ {axes mode records : ℕ} {job w w₁ : List ℕ} (some : 0 < axes) (fe
     held₂ : Held w₂ 0 (p .sets) (p .regions) (p .line)
     held₂ = rw (q .sets-is, q .regions-is, q .line-is) (held-more (4 * records + uses) (held-kept (held .held) kept) (omega arith) (omega (arith, starts-room, t .only .long)))
 
-    job-long : 12 * axes * length (r .good z .said .regions) ≤ length job
+    job-long : regionLong axes * length (r .good z .said .regions) ≤ length job
     job-long =
         let n = length (says .regions) in
-        let e : 12 * axes * n ≡ 12 * (n * axes) = omega arith in
+        let e : regionLong axes * n ≡ recordStart (n * axes) = omega arith in
         omega (arith, regions-fit)
 
     coords₂ : store.coordsOf job axes w₂ (4 * records) (length (r .good z .said .used)) ≡ coordsOf (r .good z .said)
@@ -164,13 +166,13 @@ module _ (axes mode : ℕ) (job : List ℕ) (work pairs n : ℕ) (e : n ≡ earl
   unfolding outcome
   whole-early h out ids map log =
       by-outcome axes mode job work pairs (refused n 0) (Refused n 0) out ids map log out ids map log
-      (ap (λ (k : ℕ). outcomeFrom k (walk axes mode job job (length job / 12) 0 inAxes)) (sym e) ∙ early-first n (walk axes mode job job (length job / 12) 0 inAxes) h)
+      (ap (λ (k : ℕ). outcomeFrom k (walk axes mode job job (recordCount job) 0 inAxes)) (sym e) ∙ early-first n (walk axes mode job job (recordCount job) 0 inAxes) h)
       (records-refused axes mode (refused n 0) n 0 out ids map log refl)
 
   pub whole-late : n ≡ 0 → (a : ℕ) → a ≡ axes → (b : Built) (out ids map log out′ ids′ map′ log′ : List ℕ)
-      → RecordsBuilt a mode (walk a mode job job (length job / 12) 0 inAxes) b out ids map log out′ ids′ map′ log′ → Whole axes mode job work pairs b out ids map log out′ ids′ map′ log′
+      → RecordsBuilt a mode (walk a mode job job (recordCount job) 0 inAxes) b out ids map log out′ ids′ map′ log′ → Whole axes mode job work pairs b out ids map log out′ ids′ map′ log′
   unfolding outcome
   whole-late z a q b out ids map log out′ ids′ map′ log′ f =
-      by-outcome axes mode job work pairs (walk axes mode job job (length job / 12) 0 inAxes) b out ids map log out′ ids′ map′ log′
-      (none-early (earlyNo axes mode (length job) work pairs) (walk axes mode job job (length job / 12) 0 inAxes) (sym e ∙ z))
-      (subst (λ (x : ℕ). RecordsBuilt x mode (walk x mode job job (length job / 12) 0 inAxes) b out ids map log out′ ids′ map′ log′) q f)
+      by-outcome axes mode job work pairs (walk axes mode job job (recordCount job) 0 inAxes) b out ids map log out′ ids′ map′ log′
+      (none-early (earlyNo axes mode (length job) work pairs) (walk axes mode job job (recordCount job) 0 inAxes) (sym e ∙ z))
+      (subst (λ (x : ℕ). RecordsBuilt x mode (walk x mode job job (recordCount job) 0 inAxes) b out ids map log out′ ids′ map′ log′) q f)

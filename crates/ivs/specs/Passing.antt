@@ -2,14 +2,11 @@
 -- earliest bad record answers". Assumes nothing.
 use mathlib.Core.Path.{_≡_}
 use mathlib.Core.List.{List}
-use Prim.Native.Nat.{ℕ, zero, suc, _*_, _/_, _%_, _<_}
-use lib.ListN.{drop}
+use Prim.Native.Nat.{ℕ, zero, suc, _/_, _%_, _<_}
+-- the bytes of a job from record i on
+pub use Rattle.said.specs.Records.{recordAt}
 use Rattle.said.specs.Sets.{regionList}
 use Rattle.said.specs.Job.{Said, State, inAxes, inSets, stop, on, regionsOnly, step, Outcome, ended}
-
--- the bytes of a job from record i on
-abbrev pub recordAt : List ℕ → ℕ → List ℕ
-recordAt job i = drop (12 * i) job
 
 -- records 0 to i, without i, pass and leave this state
 unfoldable pub Passed : ℕ → ℕ → List ℕ → ℕ → State → Type 0

@@ -8,6 +8,7 @@ use Rattle.said.specs.Job.{Said, fine, outcome}
 use Rattle.encoder.specs.Packed.{Packed}
 use Rattle.finishing.specs.Late.{Lengths, storeFor}
 use Rattle.build.specs.Build.{coordsOf, packedOf}
+use Rattle.limits.specs.Limits.{maxShapes}
 
 -- the job is sound, and this holds of what it says
 pub record Accepted (axes mode : ℕ) (job : List ℕ) (work pairs : ℕ) (P : Said → Type 0) : Type 0 where
@@ -29,7 +30,7 @@ abbrev pub storeBytes : ℕ → ℕ → Said → ℕ
 storeBytes axes mode s = length (storeFor axes (coordsOf s) (packedOf mode s))
 
 pub record ShapesFit (mode : ℕ) (s : Said) : Type 0 where
-  pub shapes-few : shapeCount mode s ≤ 1024
+  pub shapes-few : shapeCount mode s ≤ maxShapes
 
 pub record IdsFit (mode : ℕ) (s : Said) (l : Lengths) : Type 0 where
   pub shapes-fit : ShapesFit mode s

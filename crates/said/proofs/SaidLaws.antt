@@ -6,7 +6,7 @@ use mathlib.Core.Logic.{⊎-elim, _≢_}
 use Prim.Native.Nat.{ℕ, zero, suc, _+_, _*_, _/_, _%_, _≤_, _<_}
 use native.Mathlib.Nat.{le-refl, add-zero, mod-eq-sub-div-mul, div-mul-le-self, lt-div-mul-add, le-of-mul-le-mul-right}
 use native.Mathlib.Omega.{arith}
-use lib.ListN.{length, getD, drop, length-append}
+use lib.ListN.{length, getD, length-append}
 use lib.Seq.{getD-drop}
 use lib.Dec.{eqb}
 use borrow.Author.Tests.{eq-eqb, eqb-true}
@@ -17,8 +17,9 @@ use Rattle.laws.proofs.Cases.Which.{holds, fails}
 use Rattle.laws.proofs.EveryLaws.{all-append, two-end}
 use Rattle.laws.proofs.Products.{product, row-fits}
 use Rattle.laws.proofs.Pigeon.{few-below}
-use Rattle.said.specs.Records.{kind, axisKind, valueKind, endKind, regionOf, valueZeros, valueWord}
-use Rattle.said.specs.Refusals.{axisNo, valueNo, endNo}
+use Rattle.limits.specs.Limits.{maxRegions}
+use Rattle.said.specs.Records.{recordBytes, afterRecord, kind, axisKind, valueKind, endKind, regionOf, valueZeros, valueWord}
+use Rattle.said.specs.Refusals.{badRecord, unfinished, axisNo, valueNo, endNo}
 use Rattle.said.specs.Sets.{regionList, firstLike, has, withUse}
 use Rattle.said.specs.Job.{Said, State, inAxes, inSets, Step, stop, on, unless, afterValue, afterEnd, valueStep, endStep, setStep, regionsOnly, step, Outcome, refused, fine, ended, endedSets, follow, walk}
 use Rattle.said.proofs.RecordLaws.{axis-region, value-bad, value-unknown}
@@ -33,7 +34,7 @@ pub record Counts (axes : ℕ) (job : List ℕ) (records : ℕ) (s : Said) : Typ
   pub used-low : All (λ q. q < length (s .regions)) (s .used)
   pub used-differ : EachTwo (λ x y. x ≡ y → ⊥) (s .used)
   pub used-few : length (s .used) ≤ length (s .regions)
-  pub regions-few : length (s .regions) ≤ 256
+  pub regions-few : length (s .regions) ≤ maxRegions
   pub regions-are : s .regions ≡ regionList axes (length (s .regions)) job
   -- before the first set, and between values, nothing is in use
   pub quiet : length (s .sets) ≡ 0 → s .named ≡ [] → length (s .used) ≡ 0
@@ -92,7 +93,7 @@ value-known r regions named z = go (which (valueZeros r))
 module _ (axes : ℕ) (some : 0 < axes) (job : List ℕ) where
   -- what is kept true before record i
   abbrev Kept : ℕ → State → Type 0
-  Kept i inAxes = i ≤ 256 * axes
+  Kept i inAxes = i ≤ maxRegions * axes
   Kept i (inSets s) = Counts axes job i s
 
   abbrev After : ℕ → Step → Type 0
@@ -104,12 +105,12 @@ module _ (axes : ℕ) (some : 0 < axes) (job : List ℕ) where
   Ends i (fine s) = Counts axes job i s × (s .named ≡ [])
 
   -- no set yet
-  module _ (i : ℕ) (h : i ≤ 256 * axes) (z : i % axes ≡ 0) where
+  module _ (i : ℕ) (h : i ≤ maxRegions * axes) (z : i % axes ≡ 0) where
     whole : i / axes * axes ≡ i
     whole = let a = mod-eq-sub-div-mul i axes in let b = div-mul-le-self i axes in omega arith
 
-    most : i / axes ≤ 256
-    most = le-of-mul-le-mul-right {m = i / axes} {n = 256} {k = axes} (let b = div-mul-le-self i axes in omega arith) some
+    most : i / axes ≤ maxRegions
+    most = le-of-mul-le-mul-right {m = i / axes} {n = maxRegions} {k = axes} (let b = div-mul-le-self i axes in omega arith) some
 
     begin : Counts axes job i (regionsOnly (regionList axes (i / axes) job))
     unfolding regionsOnly
@@ -171,30 +172,30 @@ module _ (axes : ℕ) (some : 0 < axes) (job : List ℕ) where
   set-after : (mode : ℕ) (r : List ℕ) (i : ℕ) (s : Said) → Counts axes job i s → After (i + 1) (setStep mode r s)
   unfolding setStep valueStep endStep firstLike
   set-after mode r i s c =
-      pick-after (i + 1) (eqb (kind r) valueKind) (valueStep r s) (pick (eqb (kind r) endKind) (endStep mode r s) (stop 5))
+      pick-after (i + 1) (eqb (kind r) valueKind) (valueStep r s) (pick (eqb (kind r) endKind) (endStep mode r s) (stop badRecord))
       (λ _. unless-after (i + 1) (valueNo r (length (s .regions)) (has (firstLike (s .regions) (regionOf r)) (s .named)))
       (inSets (afterValue s (firstLike (s .regions) (regionOf r)) (valueWord r)))
       (λ z. value-more i s c (firstLike (s .regions) (regionOf r)) (valueWord r)
       (like-below (s .regions) (regionOf r)
       (value-known r (length (s .regions)) (has (firstLike (s .regions) (regionOf r)) (s .named)) z))))
-      (λ _. pick-after (i + 1) (eqb (kind r) endKind) (endStep mode r s) (stop 5)
+      (λ _. pick-after (i + 1) (eqb (kind r) endKind) (endStep mode r s) (stop badRecord)
       (λ _. unless-after (i + 1) (endNo mode r (length (s .sets))) (inSets (afterEnd s)) (λ z. end-more i s c))
       (λ _. tt))
 
-  axis-more : (r : List ℕ) (i : ℕ) → getD r 1 0 < 256 → axisNo axes r i ≡ 0 → i + 1 ≤ 256 * axes
+  axis-more : (r : List ℕ) (i : ℕ) → getD r 1 0 < 256 → axisNo axes r i ≡ 0 → i + 1 ≤ maxRegions * axes
   axis-more r i b z =
       let e = axis-is axes r i z in
       let l = lt-div-mul-add {a = i} {b = axes} some in
-      let f = row-fits axes 256 (i / axes) (omega arith) in
+      let f = row-fits axes maxRegions (i / axes) (omega arith) in
       omega arith
 
   step-after : (mode : ℕ) (r : List ℕ) (i : ℕ) (s : State) → getD r 1 0 < 256 → Kept i s → After (i + 1) (step axes mode job r i s)
   unfolding step
   step-after mode r i inAxes b k =
       pick-after (i + 1) (eqb (kind r) axisKind) (unless (axisNo axes r i) inAxes)
-      (pick (eqb (i % axes) 0) (setStep mode r (regionsOnly (regionList axes (i / axes) job))) (stop 5))
+      (pick (eqb (i % axes) 0) (setStep mode r (regionsOnly (regionList axes (i / axes) job))) (stop badRecord))
       (λ _. unless-after (i + 1) (axisNo axes r i) inAxes (axis-more r i b))
-      (λ _. pick-after (i + 1) (eqb (i % axes) 0) (setStep mode r (regionsOnly (regionList axes (i / axes) job))) (stop 5)
+      (λ _. pick-after (i + 1) (eqb (i % axes) 0) (setStep mode r (regionsOnly (regionList axes (i / axes) job))) (stop badRecord)
       (λ z. set-after mode r i (regionsOnly (regionList axes (i / axes) job)) (begin i k (eqb-true (i % axes) 0 z)))
       (λ _. tt))
   step-after mode r i (inSets s) b k = set-after mode r i s k
@@ -210,7 +211,7 @@ module _ (axes : ℕ) (some : 0 < axes) (job : List ℕ) where
   unfolding ended regionsOnly
   ended-ends i inAxes k = go (which (eqb (i % axes) 0))
     where
-      go : Which (eqb (i % axes) 0) → Ends i (pick (eqb (i % axes) 0) (fine (regionsOnly (regionList axes (i / axes) job))) (refused 8 i))
+      go : Which (eqb (i % axes) 0) → Ends i (pick (eqb (i % axes) 0) (fine (regionsOnly (regionList axes (i / axes) job))) (refused unfinished i))
       go (holds e) = rw e (begin i k (eqb-true (i % axes) 0 e), refl)
       go (fails e) = rw e tt
   ended-ends i (inSets s) k = sets-end i s (s .named) refl k
@@ -225,8 +226,8 @@ module _ (axes : ℕ) (some : 0 < axes) (job : List ℕ) where
   unfolding walk
   walk-ends mode zero i n rest s e b k = subst (λ (m : ℕ). Ends m (ended axes job i s)) (sym (add-zero i) ∙ e) (ended-ends i s k)
   walk-ends mode (suc left) i n rest s e b k =
-      follow-ends i n (step axes mode job rest i s) (λ s′. walk axes mode job (drop 12 rest) left (i + 1) s′)
-      (λ s′ a. walk-ends mode left (i + 1) n (drop 12 rest) s′ (omega arith) (λ j. rw (getD-drop 12 rest j 0) (b (12 + j))) a)
+      follow-ends i n (step axes mode job rest i s) (λ s′. walk axes mode job (afterRecord rest) left (i + 1) s′)
+      (λ s′ a. walk-ends mode left (i + 1) n (afterRecord rest) s′ (omega arith) (λ j. rw (getD-drop recordBytes rest j 0) (b (recordBytes + j))) a)
       (step-after mode rest i s (b 1) k)
 
 ends : (axes mode : ℕ) (job : List ℕ) (records : ℕ) (s : Said) → 0 < axes → ((k : ℕ) → getD job k 0 < 256)
@@ -251,7 +252,7 @@ no-use axes mode job records s some bytes e z =
 pub room-of : (axes : ℕ) (job : List ℕ) (records : ℕ) (s : Said) → 0 < axes → Counts axes job records s
     → (length (s .sets) + length (s .used) ≤ records)
     × (0 < length (s .used) → length (s .sets) + length (s .used) + 1 ≤ records)
-    × (length (s .used) ≤ 256)
+    × (length (s .used) ≤ maxRegions)
 room-of axes job records s some c =
     let rows : length (s .regions) * 1 ≤ length (s .regions) * axes = product (length (s .regions)) axes (le-refl (length (s .regions))) some in
     let all = c .records-are in
