@@ -9,6 +9,8 @@ use Rattle.merging.specs.declared.encoder.Merged.{Merged}
 use Rattle.slots.specs.declared.tables.Tables.{Tables}
 use Rattle.merging.specs.Optimized.{Ready, Optimized}
 use Rattle.said.specs.Job.{Said, Outcome, refused, fine, inAxes, walk, outcome}
+use Rattle.said.specs.Records.{recordCount}
+use Rattle.said.specs.Refusals.{shapesFull}
 use Rattle.job.proofs.CheckLaws.{left-early, left-zeros}
 use Rattle.encoder.specs.declared.places.Places.{Places}
 use Rattle.encoder.specs.declared.encoded.Encoded.{Encoded}
@@ -46,7 +48,7 @@ settle-refused axes mode job (refused n i) s w r z old = records-refused axes mo
 settle-refused axes mode job (fine x) s w r z old =
     let f = r .full z in
     subst (λ (b : Built). RecordsBuilt axes mode (fine x) b old old) (ap₂ Refused (sym (f .1)) (sym (f .2)))
-    (records-built axes mode (fine x) x (Refused 10 0) old old refl (pack-full axes mode x (f .0) (f .3) old))
+    (records-built axes mode (fine x) x (Refused shapesFull 0) old old refl (pack-full axes mode x (f .0) (f .3) old))
 
 module _ (axes mode : ℕ) (job : List ℕ) (s : Stage) {w : List ℕ} {m : Merged} (o : Outcome) (mid : List ℕ) (r : Read axes mode job o s mid) (j : Joined s m mid w) (z : s .no ≡ 0) where
   abbrev by : SaidBy axes mode job o s mid
@@ -121,9 +123,9 @@ module _ {axes mode : ℕ} {job w : List ℕ} {s : Stage} {m : Merged} (old : Li
 
   pub close-settle : s .early ≡ false → (a : ℕ) → a ≡ axes → SettleFit a mode job s m w
   close-settle e a q = record {
-    outcome = walk axes mode job job (length job / 12) 0 inAxes;
+    outcome = walk axes mode job job (recordCount job) 0 inAxes;
     mid = mid;
-    read = subst (λ (x : ℕ). Read x mode job (walk axes mode job job (length job / 12) 0 inAxes) s mid) (sym q) (p .after e .1);
+    read = subst (λ (x : ℕ). Read x mode job (walk axes mode job job (recordCount job) 0 inAxes) s mid) (sym q) (p .after e .1);
     joined = j;
   }
 
@@ -132,7 +134,7 @@ module _ {axes mode : ℕ} {job w : List ℕ} {s : Stage} {m : Merged} (old : Li
       → (long : ℕ) → long ≡ length w → (w′ : List ℕ) → w′ ≡ replicate long 0 → Closed axes mode job old pairs b lent lent′ w′
   close-late e a q b lent lent′ f long l w′ c =
       let h = p .after e in
-      let r = f (walk a mode job job (length job / 12) 0 inAxes) mid (subst (λ (x : ℕ). Read x mode job (walk x mode job job (length job / 12) 0 inAxes) s mid) (sym q) (h .1)) j in
+      let r = f (walk a mode job job (recordCount job) 0 inAxes) mid (subst (λ (x : ℕ). Read x mode job (walk x mode job job (recordCount job) 0 inAxes) s mid) (sym q) (h .1)) j in
       record {
         built = built-late axes mode job (length old) pairs 0 (sym (h .0)) refl a q b lent lent′ r;
         work-is = left-zeros axes mode job old pairs 0 (sym (h .0)) refl long w′ (l ∙ j .only .long ∙ p .long) c;

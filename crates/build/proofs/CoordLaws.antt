@@ -16,6 +16,7 @@ use Rattle.laws.proofs.Products.{row-fits}
 use Rattle.laws.proofs.RangeLaws.{seg-add, seg-cons, seg-none}
 use Rattle.rows.specs.Subtable.{joinAll}
 use Rattle.store.specs.Lent.{chain, coordsAt, coordsOf}
+use Rattle.said.specs.Records.{recordBytes, recordStart, afterRecord, regionLong, coordsStart}
 use Rattle.said.specs.Sets.{coordinates, regionList}
 use Rattle.said.proofs.RecordLaws.{be-two}
 use Rattle.said.proofs.RegionLaws.{regions-at}
@@ -37,7 +38,7 @@ module _ (job : List ℕ) (bytes : (k : ℕ) → getD job k 0 < 256) where
       ∙ sym (ap (bytesOf 2) (be-two job q) ∙ two-bytes (getD job q 0) (getD job (q + 1) 0) (bytes q) (bytes (q + 1)))
 
   -- the three of one axis
-  axis-is : (at : ℕ) → at + 12 ≤ length job
+  axis-is : (at : ℕ) → at + recordBytes ≤ length job
       → seg (at + 4) 6 job ≡ bytesOf 2 (be 2 (drop at job) 4) ++ (bytesOf 2 (be 2 (drop at job) 6) ++ bytesOf 2 (be 2 (drop at job) 8))
   axis-is at h =
       let e : at + 4 + 2 ≡ at + 6 = omega arith in
@@ -47,25 +48,25 @@ module _ (job : List ℕ) (bytes : (k : ℕ) → getD job k 0 < 256) where
       ∙ ap (λ (l : List ℕ). seg (at + 4) 2 job ++ l) (seg-add (at + 6) 2 2 job ∙ ap (λ (q : ℕ). seg (at + 6) 2 job ++ seg q 2 job) f))
 
   -- the axes from k on; the first of them is the record at byte `at`
-  axes-are : (n k from at : ℕ) → at + 4 ≡ from + 12 * k → at + 12 * n ≤ length job
+  axes-are : (n k from at : ℕ) → at + 4 ≡ from + recordStart k → at + regionLong n ≤ length job
       → joinAll (tabulate k n (λ a. seg (from + 12 * a) 6 job)) ≡ regionBytes (coordinates n (drop at job))
   unfolding joinAll tabulate coordinates regionBytes
   axes-are zero k from at e h = refl
   axes-are (suc n) k from at e h =
-      let ih = axes-are n (suc k) from (at + 12) (omega arith) (omega arith) in
+      let ih = axes-are n (suc k) from (at + recordBytes) (omega arith) (omega arith) in
       let here : seg (from + 12 * k) 6 job ≡ seg (at + 4) 6 job = ap (λ (q : ℕ). seg q 6 job) (sym e) in
-      ap₂ _++_ (here ∙ axis-is at (omega arith)) (ih ∙ ap (λ (l : List ℕ). regionBytes (coordinates n l)) (sym (drop-drop 12 at job)))
-      ∙ regroup (bytesOf 2 (be 2 (drop at job) 4)) (bytesOf 2 (be 2 (drop at job) 6)) (bytesOf 2 (be 2 (drop at job) 8)) (regionBytes (coordinates n (drop 12 (drop at job))))
+      ap₂ _++_ (here ∙ axis-is at (omega arith)) (ih ∙ ap (λ (l : List ℕ). regionBytes (coordinates n l)) (sym (drop-drop recordBytes at job)))
+      ∙ regroup (bytesOf 2 (be 2 (drop at job) 4)) (bytesOf 2 (be 2 (drop at job) 6)) (bytesOf 2 (be 2 (drop at job) 8)) (regionBytes (coordinates n (afterRecord (drop at job))))
     where
       regroup : (a b c d : List ℕ) → (a ++ (b ++ c)) ++ d ≡ a ++ (b ++ (c ++ d))
       regroup a b c d = simp append-assoc
 
-  pub coords-at-are : (axes n q : ℕ) → 12 * axes * n ≤ length job → q < n → coordsAt job axes (12 * axes * q + 4) ≡ regionBytes (getD (regionList axes n job) q [])
+  pub coords-at-are : (axes n q : ℕ) → regionLong axes * n ≤ length job → q < n → coordsAt job axes (coordsStart axes q) ≡ regionBytes (getD (regionList axes n job) q [])
   unfolding coordsAt chain
   coords-at-are axes n q room h =
-      let m : 12 * axes * q ≡ q * (12 * axes) = mul-comm (12 * axes) q in
-      let t : 12 * axes * n ≡ n * (12 * axes) = mul-comm (12 * axes) n in
-      axes-are axes 0 (12 * axes * q + 4) (q * (12 * axes)) (omega arith) (omega (arith, row-fits (12 * axes) n q h))
+      let m : regionLong axes * q ≡ q * regionLong axes = mul-comm (regionLong axes) q in
+      let t : regionLong axes * n ≡ n * regionLong axes = mul-comm (regionLong axes) n in
+      axes-are axes 0 (coordsStart axes q) (q * regionLong axes) (omega arith) (omega (arith, row-fits (regionLong axes) n q h))
       ∙ ap regionBytes (sym (regions-at axes n job q h))
 
 map-is : {B : Type 0} (F : ℕ → B) (l : List ℕ) (G : ℕ → B) (k : ℕ) → ((i : ℕ) → i < length l → G (k + i) ≡ F (getD l i 0)) → tabulate k (length l) G ≡ map F l
@@ -78,8 +79,8 @@ map-is F (x ∷ l) G k h =
     move : (k i : ℕ) → suc k + i ≡ k + suc i
     move k i = omega arith
 
-pub coords-are : (job : List ℕ) → ((k : ℕ) → getD job k 0 < 256) → (axes n : ℕ) → 12 * axes * n ≤ length job → (w : List ℕ) (starts : ℕ) (used : List ℕ)
-    → All (λ q. q < n) used → ((i : ℕ) → i < length used → getD w (starts + i) 0 ≡ 12 * axes * getD used i 0 + 4)
+pub coords-are : (job : List ℕ) → ((k : ℕ) → getD job k 0 < 256) → (axes n : ℕ) → regionLong axes * n ≤ length job → (w : List ℕ) (starts : ℕ) (used : List ℕ)
+    → All (λ q. q < n) used → ((i : ℕ) → i < length used → getD w (starts + i) 0 ≡ coordsStart axes (getD used i 0))
     → coordsOf job axes w starts (length used) ≡ map (λ q. regionBytes (getD (regionList axes n job) q [])) used
 unfolding coordsOf
 coords-are job bytes axes n room w starts used below from =

@@ -22,6 +22,7 @@ use Rattle.store.proofs.RegionLaws.{kept-most}
 use Rattle.readback.proofs.StoreBack.{list-is, from-list, axis-count, regions-are, header-good}
 use Rattle.encoder.specs.Packed.{Packed}
 use Rattle.finishing.specs.Late.{storeFor}
+use Rattle.limits.specs.Limits.{mostAxes, maxRegions}
 use Rattle.build.proofs.RowsBack.{coords-long}
 
 pub record ListBack (axes regions : ℕ) (coords : List (List ℕ)) (k : Packed) : Type 0 where
@@ -48,7 +49,7 @@ piece-at f c (r ∷ l) rest (suc q) h b =
 -- ---- the list
 
 module _ (axes regions : ℕ) (coords : List (List ℕ)) (k : Packed) (coords-are : length coords ≡ regions)
-    (coords-whole : All (λ (c : List ℕ). length c ≡ 6 * axes) coords) (axes-few : axes ≤ 64) (regions-few : regions ≤ 256)
+    (coords-whole : All (λ (c : List ℕ). length c ≡ 6 * axes) coords) (axes-few : axes ≤ mostAxes) (regions-few : regions ≤ maxRegions)
     (runs-few : length (allRuns (k .finals)) < 65536) where
   abbrev gs : List Final
   gs = k .finals

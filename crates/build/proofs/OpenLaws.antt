@@ -10,7 +10,8 @@ use Rattle.sets.specs.Set.{Set}
 use Rattle.groups.specs.Groups.{groupsOf, maxShapes}
 use Rattle.slots.specs.Lent as merge
 use Rattle.merging.specs.Optimized.{Ready}
-use Rattle.said.specs.Refusals.{earlyNo}
+use Rattle.said.specs.Records.{recordCount}
+use Rattle.said.specs.Refusals.{shapesFull, earlyNo}
 use Rattle.said.specs.Job.{Said, Outcome, refused, fine, inAxes, walk}
 use Rattle.encoder.specs.declared.places.Places.{Places}
 use Rattle.encoder.specs.declared.encoded.Gathering.{Gathering}
@@ -59,11 +60,11 @@ module _ {axes mode starts : ℕ} {job w : List ℕ} {p : Places} {x : Said} (c 
     result : (a : Gathering) → r ≡ a → Gathers p w w′ a
     result a q = subst (λ (y : Gathering). Gathers p w w′ y) q (g .result)
 
-    pub read-full : r ≡ Full → (s : Stage) → s ≡ refusedAt false 10 0 → ReadAt axes mode job o s w′
+    pub read-full : r ≡ Full → (s : Stage) → s ≡ refusedAt false shapesFull 0 → ReadAt axes mode job o s w′
     read-full q s h =
         let many : maxShapes < length (groupsOf (length (x .used)) (x .sets)) = rw (← c .sets-are, c .regions-are) (result Full q) in
         subst (λ (y : Stage). ReadAt axes mode job o y w′) (sym h)
-        (subst (λ (y : Outcome). ReadAt axes mode job y (refusedAt false 10 0) w′) (sym e)
+        (subst (λ (y : Outcome). ReadAt axes mode job y (refusedAt false shapesFull 0) w′) (sym e)
         (record {
           not-early = refl;
           is = record { full = λ y. (z, refl, refl, many); collected = λ y. absurd (omega arith); joins = λ y. absurd (omega arith); alone = λ y. refl };
@@ -92,9 +93,10 @@ module _ (axes mode : ℕ) (job w : List ℕ) (pairs n : ℕ) (e : n ≡ earlyNo
         ready = nowhere-ready w;
       })
 
-  pub opened-late : n ≡ 0 → {s : Stage} {w′ : List ℕ} (a : ℕ) → a ≡ axes → length w′ ≡ length w → ReadAt a mode job (walk a mode job job (length job / 12) 0 inAxes) s w′ → OpenedAt axes mode job w pairs w′ s
-  opened-late z {s} {w′} a q l f =
-      let g = subst (λ (y : ℕ). ReadAt y mode job (walk y mode job job (length job / 12) 0 inAxes) s w′) q f in
+  pub opened-late : n ≡ 0 → {s : Stage} {w′ : List ℕ} (a : ℕ) → a ≡ axes → (records : ℕ) → records ≡ recordCount job → length w′ ≡ length w → ReadAt a mode job (walk a mode job job records 0 inAxes) s w′ → OpenedAt axes mode job w pairs w′ s
+  opened-late z {s} {w′} a q records t l f =
+      let r = subst (λ (y : ℕ). ReadAt a mode job (walk a mode job job y 0 inAxes) s w′) t f in
+      let g = subst (λ (y : ℕ). ReadAt y mode job (walk y mode job job (recordCount job) 0 inAxes) s w′) q r in
       record {
         long = l;
         at-once = λ y. let z : _≡_ {A = Bool} true false = sym y ∙ g .not-early in absurd (let one : _≡_ {A = ℕ} 0 1 = cc in omega arith);

@@ -26,7 +26,7 @@ use Rattle.groups.specs.Groups.{groupsOf, maxShapes}
 use Rattle.rule.specs.Model.{merged}
 use Rattle.rule.proofs.Theorems.{fewer, none-of-none}
 use Rattle.store.specs.Lent as store
-use Rattle.said.specs.Refusals.{firstFailed}
+use Rattle.said.specs.Refusals.{shapesFull, firstFailed}
 use Rattle.said.specs.Job.{Said}
 use Rattle.encoder.specs.declared.places.Places.{Places}
 use Rattle.encoder.specs.declared.encoded.Encoded.{Encoded}
@@ -77,12 +77,12 @@ refused-late axes coords k n old e =
     let z : eqb (lateNo axes coords k (lengths old)) 0 ≡ false = ap (λ (x : ℕ). eqb x 0) e ∙ ne-eqb (suc n) 0 (λ x. omega arith) in
     record { answer = rw (z, e); left = rw z }
 
-too-many : (axes : ℕ) (coords : List (List ℕ)) (k : Packed) (l : Lengths) → 1024 < k .groups → lateNo axes coords k l ≡ 10
+too-many : (axes : ℕ) (coords : List (List ℕ)) (k : Packed) (l : Lengths) → maxShapes < k .groups → lateNo axes coords k l ≡ shapesFull
 unfolding lateNo firstFailed
-too-many axes coords k l h = rw (lt-leb (k .groups) 1024 h)
+too-many axes coords k l h = rw (lt-leb (k .groups) maxShapes h)
 
 pub pack-full : (axes mode : ℕ) (s : Said) → mode ≡ 0 → maxShapes < length (groupsOf (length (s .used)) (s .sets)) → (old : Buffers)
-    → Finished axes (coordsOf s) (packedOf mode s) (Refused 10 0) old old
+    → Finished axes (coordsOf s) (packedOf mode s) (Refused shapesFull 0) old old
 unfolding packedOf shared
 pack-full axes mode s z many old =
     refused-late axes (coordsOf s) (packedOf mode s) 9 old

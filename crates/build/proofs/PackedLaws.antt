@@ -45,6 +45,7 @@ use Rattle.store.specs.Placing.{Final}
 use Rattle.encoder.specs.Packed.{Packed, noLater, dense, numberOf, belongs, finalOf, isAhead, finalsOf, shared, own}
 use Rattle.encoder.proofs.NumberLaws.{number-at, among-mem, among, mem-sorted}
 use Rattle.encoder.proofs.LivingLaws.{sorted-each, two-map}
+use Rattle.limits.specs.Limits.{maxShapes}
 use Rattle.build.proofs.ManyLaws.{mem-join, all-join, mem-keep, mem-map, two-join, Cross, up-has}
 
 -- the ids of all rows, group after group
@@ -65,7 +66,7 @@ pub record Good (regions : ℕ) (k : Packed) : Type 0 where
   pub each : (x : ℕ) → x < length (k .sets) → List·Memᴰ x (rowIds (k .finals))
   pub once : EachTwo (λ x y. x ≡ y → ⊥) (rowIds (k .finals))
   -- merging makes no groups
-  pub finals-few : k .groups ≤ 1024 → length (k .finals) ≤ 1024
+  pub finals-few : k .groups ≤ maxShapes → length (k .finals) ≤ maxShapes
 
 -- ---- words
 

@@ -12,6 +12,7 @@ use Rattle.sets.proofs.IdLaws.{id-at, id-below, distinct-most}
 use Rattle.groups.specs.Groups.{groupsOf}
 use Rattle.encoder.specs.Packed.{Packed, shared, own}
 use Rattle.encoder.proofs.DenseIds.{set-of-id}
+use Rattle.limits.specs.Limits.{mostRecords, mostAxes, maxRegions, maxShapes}
 use Rattle.build.proofs.PackedLaws.{Words, shared-good, own-good}
 use Rattle.build.proofs.RowsBack.{RowsBack}
 use Rattle.build.proofs.ShortLaws.{runs-most, reads-back}
@@ -36,9 +37,9 @@ pub record Sized (axes regions : ℕ) (coords : List (List ℕ)) (jobs : List Se
   pub words : All (λ (s : Set). Words s) jobs
   pub coords-are : length coords ≡ regions
   pub coords-whole : All (λ (c : List ℕ). length c ≡ 6 * axes) coords
-  pub axes-few : axes ≤ 64
-  pub regions-few : regions ≤ 256
-  pub sets-few : length jobs ≤ 1048576
+  pub axes-few : axes ≤ mostAxes
+  pub regions-few : regions ≤ maxRegions
+  pub sets-few : length jobs ≤ mostRecords
 
 module _ (axes regions : ℕ) (coords : List (List ℕ)) (jobs : List Set) (s : Sized axes regions coords jobs) where
   shared-ids : (n : ℕ) → n < length jobs → IdOf jobs (shared regions jobs) n
@@ -51,24 +52,24 @@ module _ (axes regions : ℕ) (coords : List (List ℕ)) (jobs : List Set) (s : 
       let e : getD (upTo (length jobs)) n 0 ≡ n = up-at (length jobs) n h in
       record { below = omega arith; is = ap (λ (i : ℕ). getD jobs i []) e }
 
-  shared-sets : length (shared regions jobs .sets) ≤ 1048576
+  shared-sets : length (shared regions jobs .sets) ≤ mostRecords
   unfolding shared
   shared-sets = omega (arith, distinct-most jobs, s .sets-few)
 
-  shared-groups : length (groupsOf regions jobs) ≤ 1024 → shared regions jobs .groups ≤ 1024
+  shared-groups : length (groupsOf regions jobs) ≤ maxShapes → shared regions jobs .groups ≤ maxShapes
   unfolding shared
   shared-groups h = h
 
-  own-sets : length (own regions jobs .sets) ≤ 1048576
+  own-sets : length (own regions jobs .sets) ≤ mostRecords
   unfolding own
   own-sets = s .sets-few
 
-  own-groups : own regions jobs .groups ≤ 1024
+  own-groups : own regions jobs .groups ≤ maxShapes
   unfolding own
   own-groups = omega arith
 
   -- THE LAW of mode 0: where no more than 1,024 shapes are there
-  pub shared-back : length (groupsOf regions jobs) ≤ 1024 → GivesBack axes regions coords jobs (shared regions jobs)
+  pub shared-back : length (groupsOf regions jobs) ≤ maxShapes → GivesBack axes regions coords jobs (shared regions jobs)
   shared-back h = record {
     ids = shared-ids;
     reads = reads-back axes regions coords (shared regions jobs) (shared-good regions jobs (s .proper) (s .words)) (s .coords-are) (s .coords-whole)

@@ -13,6 +13,7 @@ use Rattle.sets.specs.Set.{Set}
 use Rattle.sets.specs.Lent.{Held, setsIn}
 use Rattle.sets.proofs.HeldLaws.{Kept, kept-only, held-kept, sets-same, sets-length}
 use Rattle.store.specs.Lent as store
+use Rattle.said.specs.Records.{recordStart, recordCount, regionLong, coordsStart, axisCoords, coordsLong}
 use Rattle.said.specs.Refusals.{publishedWork, earlyNo}
 use Rattle.said.specs.Sets.{Region, regionList}
 use Rattle.said.specs.Job.{Said, Outcome, refused, fine, inAxes, walk, outcomeFrom, outcome}
@@ -26,7 +27,8 @@ use Rattle.finishing.specs.declared.answers.Built.{Built}
 use Rattle.finishing.specs.declared.answers.Built.the-variants.{Refused}
 use Rattle.finishing.specs.Buffers.{Buffers}
 use Rattle.finishing.specs.Lent.{Finished}
-use Rattle.build.specs.Build.{regionBytes, coordsOf, packedOf, answerFrom, leftFrom}
+use Rattle.build.specs.Build.{regionBytes, coordsOf, packedOf, answerFrom, leftFrom, answerOf}
+use Rattle.limits.specs.Limits.{mostRecords, mostAxes, maxRegions, maxShapes}
 use Rattle.build.specs.Collected.{StartsAt, Collected, RecordsBuilt}
 use Rattle.build.proofs.CoordLaws.{coords-are}
 
@@ -44,14 +46,14 @@ held-more end′ h a b = record {
 -- ---- where a region's coordinates end
 
 -- region x of n regions of so many axes, in so many records
-in-job : (axes n x records a : ℕ) → x < n → a < axes → n * axes ≤ records → 12 * axes * x + 4 + 12 * a + 6 ≤ 12 * records
+in-job : (axes n x records a : ℕ) → x < n → a < axes → n * axes ≤ records → axisCoords (coordsStart axes x) a + coordsLong ≤ recordStart records
 in-job axes n x records a h k m =
     let f = row-fits axes n x h in
-    let e : 12 * axes * x ≡ 12 * (x * axes) = omega arith in
+    let e : regionLong axes * x ≡ recordStart (x * axes) = omega arith in
     omega arith
 
-module _ {axes mode records : ℕ} {job w w₁ : List ℕ} (some : 0 < axes) (few : axes ≤ 64) (bytes : (k : ℕ) → getD job k 0 < 256)
-    (room : 12 * records ≤ length job) (most : records ≤ 1048576) (work : publishedWork records ≤ length w)
+module _ {axes mode records : ℕ} {job w w₁ : List ℕ} (some : 0 < axes) (few : axes ≤ mostAxes) (bytes : (k : ℕ) → getD job k 0 < 256)
+    (room : recordStart records ≤ length job) (most : records ≤ mostRecords) (work : publishedWork records ≤ length w)
     {nr at regions sets values uses : ℕ} (r : JobRead axes mode job records w w₁ nr at regions sets values uses) (z : nr ≡ 0) where
   abbrev held : JobHeld axes mode job records w₁ regions sets values uses
   held = r .good z
@@ -68,13 +70,13 @@ module _ {axes mode records : ℕ} {job w w₁ : List ℕ} (some : 0 < axes) (fe
   sum-few : sets + uses ≤ records
   sum-few = omega (arith, room-of axes job records says some cs .0, sets-long, held .uses-are)
 
-  pub uses-few : uses ≤ 256
+  pub uses-few : uses ≤ maxRegions
   uses-few = omega (arith, room-of axes job records says some cs .2, held .uses-are)
 
   one-more : 0 < uses → sets + uses + 1 ≤ records
   one-more h = omega (arith, room-of axes job records says some cs .1 (omega (arith, held .uses-are)), sets-long, held .uses-are)
 
-  published : 16 * records + min records 1024 * min records 1024 ≤ length w₁
+  published : 16 * records + min records maxShapes * min records maxShapes ≤ length w₁
   unfolding publishedWork
   published = omega (arith, r .only .long)
 
@@ -87,10 +89,10 @@ module _ {axes mode records : ℕ} {job w w₁ : List ℕ} (some : 0 < axes) (fe
   used-low : (i : ℕ) → i < uses → getD (r .good z .said .used) i 0 < length (r .good z .said .regions)
   used-low i h = all-getD (λ (q : ℕ). q < length (r .good z .said .regions)) (says .used) i 0 (cs .used-low) (omega (arith, held .uses-are))
 
-  pub starts-low : (i : ℕ) → i < uses → getD w₁ (4 * records + i) 0 < 256
+  pub starts-low : (i : ℕ) → i < uses → getD w₁ (4 * records + i) 0 < maxRegions
   starts-low i h = omega (arith, used-word i h, used-low i h, cs .regions-few)
 
-  pub sets-few : sets ≤ 1048576
+  pub sets-few : sets ≤ mostRecords
   sets-few = omega (arith, sum-few)
 
   pub base-few : 4 * records + uses ≤ 5242880
@@ -100,8 +102,8 @@ module _ {axes mode records : ℕ} {job w w₁ : List ℕ} (some : 0 < axes) (fe
     kept : Kept (4 * records) w₁ w₂
     kept = kept-only (t .only) (omega arith, tt)
 
-    start-word : (i : ℕ) → i < uses → getD w₂ (4 * records + i) 0 ≡ 12 * axes * getD (r .good z .said .used) i 0 + 4
-    start-word i h = t .is i h ∙ ap (λ (x : ℕ). 12 * axes * x + 4) (used-word i h)
+    start-word : (i : ℕ) → i < uses → getD w₂ (4 * records + i) 0 ≡ coordsStart axes (getD (r .good z .said .used) i 0)
+    start-word i h = t .is i h ∙ ap (coordsStart axes) (used-word i h)
 
     regions-fit : length (r .good z .said .regions) * axes ≤ records
     regions-fit = omega (arith, cs .records-are)
@@ -109,10 +111,10 @@ module _ {axes mode records : ℕ} {job w w₁ : List ℕ} (some : 0 < axes) (fe
     held₂ : Held w₂ 0 (p .sets) (p .regions) (p .line)
     held₂ = rw (q .sets-is, q .regions-is, q .line-is) (held-more (4 * records + uses) (held-kept (held .held) kept) (omega arith) (omega (arith, starts-room, t .only .long)))
 
-    job-long : 12 * axes * length (r .good z .said .regions) ≤ length job
+    job-long : regionLong axes * length (r .good z .said .regions) ≤ length job
     job-long =
         let n = length (says .regions) in
-        let e : 12 * axes * n ≡ 12 * (n * axes) = omega arith in
+        let e : regionLong axes * n ≡ recordStart (n * axes) = omega arith in
         omega (arith, regions-fit)
 
     coords₂ : store.coordsOf job axes w₂ (4 * records) (length (r .good z .said .used)) ≡ coordsOf (r .good z .said)
@@ -155,12 +157,12 @@ module _ (axes mode : ℕ) (job : List ℕ) (work pairs n : ℕ) (e : n ≡ earl
   pub built-early : (n ≡ 0 → ⊥) → (old : Buffers) → RecordsBuilt axes mode (outcome axes mode job work pairs) (Refused n 0) old old
   unfolding outcome
   built-early h old = records-refused axes mode (outcome axes mode job work pairs) n 0 old
-      (ap (λ (k : ℕ). outcomeFrom k (walk axes mode job job (length job / 12) 0 inAxes)) (sym e) ∙ early-first n (walk axes mode job job (length job / 12) 0 inAxes) h)
+      (ap (λ (k : ℕ). outcomeFrom k (walk axes mode job job (recordCount job) 0 inAxes)) (sym e) ∙ early-first n (walk axes mode job job (recordCount job) 0 inAxes) h)
 
   pub built-late : n ≡ 0 → (a : ℕ) → a ≡ axes → (r : Built) (old new : Buffers)
-      → RecordsBuilt a mode (walk a mode job job (length job / 12) 0 inAxes) r old new → RecordsBuilt axes mode (outcome axes mode job work pairs) r old new
+      → RecordsBuilt a mode (walk a mode job job (recordCount job) 0 inAxes) r old new → RecordsBuilt axes mode (outcome axes mode job work pairs) r old new
   unfolding outcome
   built-late z a q r old new f =
       subst (λ (o : Outcome). RecordsBuilt axes mode o r old new)
-      (sym (none-early (earlyNo axes mode (length job) work pairs) (walk axes mode job job (length job / 12) 0 inAxes) (sym e ∙ z)))
-      (subst (λ (x : ℕ). RecordsBuilt x mode (walk x mode job job (length job / 12) 0 inAxes) r old new) q f)
+      (sym (none-early (earlyNo axes mode (length job) work pairs) (walk axes mode job job (recordCount job) 0 inAxes) (sym e ∙ z)))
+      (subst (λ (x : ℕ). RecordsBuilt x mode (walk x mode job job (recordCount job) 0 inAxes) r old new) q f)

@@ -37,6 +37,7 @@ use Rattle.readback.proofs.MapBack.{map-at}
 use Rattle.readback.proofs.StoreBack.{Sound, index-less, store-none, store-value, store-back}
 use Rattle.encoder.specs.Packed.{Packed}
 use Rattle.finishing.specs.Late.{storeFor}
+use Rattle.limits.specs.Limits.{mostAxes, maxRegions}
 use Rattle.build.proofs.PackedLaws.{Good, word-same}
 use Rattle.build.proofs.RunSound.{Spot, runs-sound, id-spot, ids-once}
 
@@ -156,7 +157,7 @@ value-zero w h = ⊎-elim
 -- ---- reading
 
 module _ (axes regions : ℕ) (coords : List (List ℕ)) (k : Packed) (good : Good regions k) (coords-are : length coords ≡ regions)
-    (coords-whole : All (λ (c : List ℕ). length c ≡ 6 * axes) coords) (axes-few : axes ≤ 64) (regions-few : regions ≤ 256)
+    (coords-whole : All (λ (c : List ℕ). length c ≡ 6 * axes) coords) (axes-few : axes ≤ mostAxes) (regions-few : regions ≤ maxRegions)
     (runs-few : length (allRuns (k .finals)) < 65536) (short : length (storeFor axes coords k) < 256 ^ 4) where
   abbrev gs : List Final
   gs = k .finals

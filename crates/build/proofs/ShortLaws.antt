@@ -24,7 +24,8 @@ use Rattle.store.proofs.SizeLaws.{runs-few}
 use Rattle.readback.proofs.StoreBack.{store-long}
 use Rattle.encoder.specs.Packed.{Packed}
 use Rattle.finishing.specs.Late.{storeFor}
-use Rattle.finishing.proofs.StoreLaws.{row-most, table-most}
+use Rattle.finishing.proofs.StoreLaws.{row-most, headMost, rowMost, table-most}
+use Rattle.limits.specs.Limits.{mostRecords, mostAxes, maxRegions, maxShapes}
 use Rattle.build.proofs.PackedLaws.{rowIds, Good, rows-most}
 use Rattle.build.proofs.RunSound.{runs-rows, runs-sound}
 use Rattle.build.proofs.RowsBack.{coords-long, RowsBack, rows-back}
@@ -42,7 +43,7 @@ group-runs : (g : Final) → length (runsOf g) ≡ runCount (length (g .ids))
 unfolding runsOf
 group-runs g = length-tabulate 0 (runCount (length (g .ids))) (λ k. record { shape = g .shape; ids = take maxItems (drop (maxItems * k) (g .ids)) })
 
-all-runs : (gs : List Final) → All (λ (g : Final). length (g .ids) ≤ 1048576) gs → length (allRuns gs) ≤ 17 * length gs
+all-runs : (gs : List Final) → All (λ (g : Final). length (g .ids) ≤ mostRecords) gs → length (allRuns gs) ≤ 17 * length gs
 unfolding allRuns joinAll
 all-runs [] h = omega arith
 all-runs (g ∷ gs) h =
@@ -52,16 +53,16 @@ all-runs (g ∷ gs) h =
 -- ---- subtables
 
 module _ (number : ℕ → ℕ) (set : ℕ → Set) where
-  table-few : (s : Shape) (xs : List ℕ) → length s ≤ 256 → length (subtableOf number set s xs) ≤ 518 + 1024 * length xs
+  table-few : (s : Shape) (xs : List ℕ) → length s ≤ maxRegions → length (subtableOf number set s xs) ≤ headMost + rowMost * length xs
   table-few s xs h =
-      let c : length (columnsOf s) ≤ 256 = omega (arith, columns-count s, columns-most s) in
-      let r : columnAt (wordCount s) (length (columnsOf s)) ≤ 1024 = omega (arith, row-most (wordCount s) (length (columnsOf s))) in
+      let c : length (columnsOf s) ≤ maxRegions = omega (arith, columns-count s, columns-most s) in
+      let r : columnAt (wordCount s) (length (columnsOf s)) ≤ rowMost = omega (arith, row-most (wordCount s) (length (columnsOf s))) in
       omega (arith, sub-length number set s xs (omega arith), table-most (length (columnsOf s)) (columnAt (wordCount s) (length (columnsOf s))) (length xs) c r)
 
   abbrev table : Final → List ℕ
   table r = subtableOf number set (r .shape) (r .ids)
 
-  tables-few : (rs : List Final) → All (λ (r : Final). length (r .shape) ≤ 256) rs → length (joinAll (map table rs)) ≤ 518 * length rs + 1024 * length (rowIds rs)
+  tables-few : (rs : List Final) → All (λ (r : Final). length (r .shape) ≤ maxRegions) rs → length (joinAll (map table rs)) ≤ headMost * length rs + rowMost * length (rowIds rs)
   unfolding joinAll
   tables-few [] h = omega arith
   tables-few (r ∷ rs) h =
@@ -71,16 +72,16 @@ module _ (number : ℕ → ℕ) (set : ℕ → Set) where
 -- ---- in all
 
 module _ (axes regions : ℕ) (coords : List (List ℕ)) (k : Packed) (good : Good regions k) (coords-are : length coords ≡ regions)
-    (coords-whole : All (λ (c : List ℕ). length c ≡ 6 * axes) coords) (axes-few : axes ≤ 64) (regions-few : regions ≤ 256)
-    (groups-few : k .groups ≤ 1024) (sets-few : length (k .sets) ≤ 1048576) where
+    (coords-whole : All (λ (c : List ℕ). length c ≡ 6 * axes) coords) (axes-few : axes ≤ mostAxes) (regions-few : regions ≤ maxRegions)
+    (groups-few : k .groups ≤ maxShapes) (sets-few : length (k .sets) ≤ mostRecords) where
   abbrev gs : List Final
   gs = k .finals
 
   abbrev set : ℕ → Set
   set y = getD (k .sets) y []
 
-  pub runs-most : length (allRuns (k .finals)) ≤ 17408
-  runs-most = omega (arith, all-runs gs (ids-most gs 1048576 (omega (arith, rows-most regions k good))), good .finals-few groups-few)
+  pub runs-most : length (allRuns (k .finals)) ≤ 17 * maxShapes
+  runs-most = omega (arith, all-runs gs (ids-most gs mostRecords (omega (arith, rows-most regions k good))), good .finals-few groups-few)
 
   abbrev kept : ℕ
   kept = length (keptOf (length coords) gs)
@@ -91,7 +92,7 @@ module _ (axes regions : ℕ) (coords : List (List ℕ)) (k : Packed) (good : Go
   abbrev tables : List (List ℕ)
   tables = map (table (newIndex gs) set) (allRuns gs)
 
-  kept-few : kept ≤ 256
+  kept-few : kept ≤ maxRegions
   kept-few = omega (arith, kept-most (λ r. names r gs) (length coords))
 
   tables-count : length tables ≡ length (allRuns gs)
@@ -104,12 +105,12 @@ module _ (axes regions : ℕ) (coords : List (List ℕ)) (k : Packed) (good : Go
   list-is : length (bytesOf 2 axes ++ (bytesOf 2 kept ++ body)) ≡ 4 + length body
   list-is = length-append (bytesOf 2 axes) (bytesOf 2 kept ++ body) ∙ omega (arith, length-append (bytesOf 2 kept) body, bytes-length 2 axes, bytes-length 2 kept)
 
-  body-few : length body ≤ 98304
-  body-few = omega (arith, coords-long axes coords gs coords-whole, product 384 256 {a = 6 * axes} {b = kept} (omega arith) kept-few)
+  body-few : length body ≤ 6 * mostAxes * maxRegions
+  body-few = omega (arith, coords-long axes coords gs coords-whole, product (6 * mostAxes) maxRegions {a = 6 * axes} {b = kept} (omega arith) kept-few)
 
-  tables-most : length (joinAll tables) ≤ 518 * length (allRuns gs) + 1024 * length (k .sets)
+  tables-most : length (joinAll tables) ≤ headMost * length (allRuns gs) + rowMost * length (k .sets)
   tables-most =
-      let narrow : All (λ (r : Final). length (r .shape) ≤ 256) (allRuns gs) =
+      let narrow : All (λ (r : Final). length (r .shape) ≤ maxRegions) (allRuns gs) =
       all-imp (λ (r : Final) s. omega (arith, s .long)) (allRuns gs) (runs-sound regions k good coords coords-are) in
       omega (arith, tables-few (newIndex gs) set (allRuns gs) narrow, ap length (runs-rows gs), rows-most regions k good)
 

@@ -6,22 +6,24 @@ use lib.ListN.{length, getD}
 use Rattle.laws.specs.Range.{Only}
 use Rattle.sets.specs.Lent.{setsIn}
 use Rattle.store.specs.Lent as store
+use Rattle.said.specs.Records.{coordsStart}
 use Rattle.said.specs.Job.{Said, Outcome}
 use Rattle.encoder.specs.Lent.{Fit}
 use Rattle.encoder.specs.declared.places.Places.{Places}
 use Rattle.finishing.specs.declared.answers.Built.{Built}
 use Rattle.finishing.specs.Buffers.{Buffers, lengths}
-use Rattle.build.specs.Build.{coordsOf, answerFrom, leftFrom}
+use Rattle.build.specs.Build.{coordsOf, answerFrom, leftFrom, packedOf}
+use Rattle.limits.specs.Limits.{mostAxes}
 
 -- n words from `at` on were numbers of regions, and are where in the job the coordinates of these start
 pub record StartsAt (at n axes : ℕ) (old new : List ℕ) : Type 0 where
   pub only : Only ((at, n) ∷ []) old new
-  pub is : (i : ℕ) → i < n → getD new (at + i) 0 ≡ 12 * axes * getD old (at + i) 0 + 4
+  pub is : (i : ℕ) → i < n → getD new (at + i) 0 ≡ coordsStart axes (getD old (at + i) 0)
 
 -- work holds what a job says
 pub record Collected (axes starts : ℕ) (job : List ℕ) (p : Places) (s : Said) (w : List ℕ) : Type 0 where
   pub fit : Fit p w
-  pub axes-few : axes ≤ 64
+  pub axes-few : axes ≤ mostAxes
   pub starts-to : starts + p .regions ≤ p .line
   pub sets-are : setsIn 0 (p .sets) w ≡ s .sets
   pub regions-are : length (s .used) ≡ p .regions

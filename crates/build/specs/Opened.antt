@@ -2,13 +2,14 @@
 use mathlib.Core.Path.{_≡_}
 use mathlib.Core.Bool.{Bool, true, false}
 use mathlib.Core.List.{List, [], _∷_}
-use Prim.Native.Nat.{ℕ, _/_, _<_}
+use Prim.Native.Nat.{ℕ, _<_}
 use lib.ListN.{length}
 use Rattle.groups.specs.Groups.{groupsOf, maxShapes}
 use Rattle.merging.specs.declared.encoder.Merged.{Merged}
 use Rattle.merging.specs.Optimized.{Ready, Optimized}
-use Rattle.said.specs.Refusals.{earlyNo}
+use Rattle.said.specs.Refusals.{earlyNo, shapesFull}
 use Rattle.said.specs.Job.{Said, Outcome, refused, fine, inAxes, walk, outcome}
+use Rattle.said.specs.Records.{recordCount}
 use Rattle.job.specs.Check.{workLeft}
 use Rattle.encoder.specs.declared.places.Places.{Places}
 use Rattle.encoder.specs.Arranged.{tablesOf, JoinFit}
@@ -26,7 +27,7 @@ refusedAt early n i = record { early = early; no = n; at = i; starts = 0; places
 
 -- a job that says x is read: there are too many shapes, or its sets are held in work, and grouped in mode 0
 pub record Grouped (axes mode : ℕ) (job : List ℕ) (x : Said) (s : Stage) (w : List ℕ) : Type 0 where
-  pub full : (s .no ≡ 0 → ⊥) → (mode ≡ 0) × (s .no ≡ 10) × (s .at ≡ 0) × (maxShapes < length (groupsOf (length (x .used)) (x .sets)))
+  pub full : (s .no ≡ 0 → ⊥) → (mode ≡ 0) × (s .no ≡ shapesFull) × (s .at ≡ 0) × (maxShapes < length (groupsOf (length (x .used)) (x .sets)))
   pub collected : s .no ≡ 0 → Collected axes (s .starts) job (s .places) x w
   pub joins : s .no ≡ 0 → mode ≡ 0 → JoinFit (s .places) (s .groups) (s .distinct) w
   pub alone : (mode ≡ 0 → ⊥) → s .groups ≡ 0
@@ -45,7 +46,7 @@ pub record ReadAt (axes mode : ℕ) (job : List ℕ) (o : Outcome) (s : Stage) (
 pub record OpenedAt (axes mode : ℕ) (job old : List ℕ) (pairs : ℕ) (new : List ℕ) (s : Stage) : Type 0 where
   pub long : length new ≡ length old
   pub at-once : s .early ≡ true → (new ≡ old) × (s .no ≡ earlyNo axes mode (length job) (length old) pairs) × (s .no ≡ 0 → ⊥) × (s .at ≡ 0) × (s .groups ≡ 0)
-  pub after : s .early ≡ false → (earlyNo axes mode (length job) (length old) pairs ≡ 0) × Read axes mode job (walk axes mode job job (length job / 12) 0 inAxes) s new
+  pub after : s .early ≡ false → (earlyNo axes mode (length job) (length old) pairs ≡ 0) × Read axes mode job (walk axes mode job job (recordCount job) 0 inAxes) s new
   pub ready : Ready (tablesOf (s .places) (s .groups)) new
 
 -- how many pair records are to be cleared: none where nothing was written yet

@@ -17,6 +17,7 @@ ghost use Rattle.said.specs.Job.{Outcome};
 ghost use Rattle.encoder.specs.Packed.{own};
 ghost use Rattle.finishing.specs.Buffers.{buffers};
 ghost use Rattle.finishing.specs.Lent.{Finished};
+ghost use Rattle.limits.specs.Limits.{mostAxes};
 ghost use Rattle.build.specs.Collected.{RecordsBuilt};
 ghost use Rattle.build.specs.Opened.{Read, OpenedAt, Joined, PairsUsed, SettleFit, CloseFit, Closed};
 
@@ -29,7 +30,7 @@ fn finish_none(
     map: &mut [u32],
     log: &mut [u32],
 ) -> Built
-    requires { ⌜ axes ≤ 64 ⌝ }
+    requires { ⌜ axes ≤ mostAxes ⌝ }
     ensures { λ r. ⌜ Finished axes [] (own 0 []) r (buffers (now (out .entry)) (now (ids .entry)) (now (map .entry)) (now (log .entry))) (buffers (now (out .exit)) (now (ids .exit)) (now (map .exit)) (now (log .exit))) ⌝ }
 {
     let mut null = [0u32; 3];

@@ -6,12 +6,17 @@ use encoder::lay_out;
 use job::early_no;
 use job::read_job;
 use laws::wide;
+use records::coords_start;
+use records::records_in;
+use said::Refusal;
 ghost use mathlib.Core.Path.{_≡_};
 ghost use mathlib.Core.Bool.{true, false};
 ghost use Prim.Native.Nat.{ℕ, _+_, _*_, _/_, _<_, _≤_};
 ghost use lib.ListN.{length, getD};
+ghost use Rattle.said.specs.Records.{recordStart};
 ghost use Rattle.said.specs.Refusals.{publishedWork};
 ghost use Rattle.said.specs.Job.{walk, inAxes};
+ghost use Rattle.limits.specs.Limits.{mostRecords, mostAxes, maxRegions};
 ghost use Rattle.build.specs.Collected.{StartsAt};
 ghost use Rattle.build.specs.Opened.{noPlaces, refusedAt, ReadAt, OpenedAt};
 
@@ -69,21 +74,21 @@ fn refuse(early: bool, no: usize, at: usize) -> Stage
 // Where in the job the coordinates of each region in use start: the words from `at` on are its number until now.
 fn place_starts(work: &mut [u32], at: usize, n: usize, axes: usize)
     requires { ⌜ at + n ≤ length (now work) ⌝ }
-    requires { ⌜ axes ≤ 64 ⌝ }
-    requires { ⌜ ((i : ℕ) → i < n → getD (now work) (at + i) 0 < 256) ⌝ }
+    requires { ⌜ axes ≤ mostAxes ⌝ }
+    requires { ⌜ ((i : ℕ) → i < n → getD (now work) (at + i) 0 < maxRegions) ⌝ }
     ensures { λ _. ⌜ StartsAt at n axes (now (work .entry)) (now (work .exit)) ⌝ }
 {
     let mut i = 0;
     while i < n {
         let q = wide(work[at + i]);
-        work[at + i] = (12 * axes * q + 4) as u32;
+        work[at + i] = coords_start(axes, q) as u32;
         i += 1;
     }
 }
 
 // Reads the records of a job whose axis count, mode, length and work are right, and groups its sets in mode 0.
 fn open_records(axes: usize, mode: u32, job: &[u8], records: usize, work: &mut [u32]) -> Stage
-    requires { ⌜ (12 * records ≤ length (now job)) × (0 < axes) × (axes ≤ 64) × (records ≤ 1048576) × (publishedWork records ≤ length (now work)) ⌝ }
+    requires { ⌜ (recordStart records ≤ length (now job)) × (0 < axes) × (axes ≤ mostAxes) × (records ≤ mostRecords) × (publishedWork records ≤ length (now work)) ⌝ }
     ensures { λ r. ⌜ ReadAt axes mode (now (job .entry)) (walk axes mode (now (job .entry)) (now (job .entry)) records 0 inAxes) r (now (work .exit)) ⌝ }
 {
     let r = read_job(job, axes, mode, records, work);
@@ -105,7 +110,7 @@ fn open_records(axes: usize, mode: u32, job: &[u8], records: usize, work: &mut [
         };
     }
     let Gathering::Groups(groups, distinct) = gather(work, places) else {
-        return refuse(false, 10, 0);
+        return refuse(false, Refusal::SHAPES_FULL, 0);
     };
     Stage {
         early: false,
@@ -126,5 +131,5 @@ pub fn open(axes: u32, mode: u32, job: &[u8], work: &mut [u32], pairs: usize) ->
     if no != 0 {
         return refuse(true, no, 0);
     }
-    open_records(wide(axes), mode, job, job.len() / 12, work)
+    open_records(wide(axes), mode, job, records_in(job.len()), work)
 }

@@ -8,6 +8,7 @@ use native.Mathlib.Omega.{arith}
 use borrow.Author.Tests.{eq-eqb, ne-eqb}
 use Rattle.laws.proofs.Cases.{lt-or-ge}
 use Rattle.laws.proofs.Products.{product, row-next}
+use Rattle.limits.specs.Limits.{mostRecords, maxRegions, maxShapes}
 use Rattle.encoder.specs.declared.places.Places.{Places}
 use Rattle.encoder.specs.Places.{roomFor, PlacesAt, Laid}
 
@@ -17,11 +18,11 @@ pub room-none : (n u : ℕ) → u ≡ 0 → roomFor n u ≡ min n 1
 unfolding roomFor
 room-none n u e = rw (eq-eqb u 0 e) refl
 
-pub room-some : (n u : ℕ) → 0 < u → roomFor n u ≡ min n 1024
+pub room-some : (n u : ℕ) → 0 < u → roomFor n u ≡ min n maxShapes
 unfolding roomFor
 room-some n u h = rw (ne-eqb u 0 (λ z. omega arith)) refl
 
-pub room-most : (n u : ℕ) → roomFor n u ≤ min n 1024
+pub room-most : (n u : ℕ) → roomFor n u ≤ min n maxShapes
 room-most n u = ⊎-elim (λ (l : 0 < u). omega (arith, room-some n u l)) (λ (l : u ≤ 0). omega (arith, room-none n u (omega arith))) (lt-or-ge 0 u)
 
 -- one at least, where there are sets
@@ -31,8 +32,8 @@ room-one n u h = ⊎-elim (λ (l : 0 < u). omega (arith, room-some n u l)) (λ (
 -- ---- numbers
 
 -- the words of the slots
-pub slots-few : (sets regions room : ℕ) → room ≡ roomFor sets regions → regions ≤ 256 → (room + 1) * regions ≤ 262400
-slots-few sets regions room e h = let p : (room + 1) * regions ≤ 1025 * 256 = product 1025 256 (omega (arith, room-most sets regions)) h in omega arith
+pub slots-few : (sets regions room : ℕ) → room ≡ roomFor sets regions → regions ≤ maxRegions → (room + 1) * regions ≤ (maxShapes + 1) * maxRegions
+slots-few sets regions room e h = product (maxShapes + 1) maxRegions (omega (arith, room-most sets regions)) h
 
 square : (c : ℕ) → 1 ≤ c → c * c ≡ (c - 1) * (c - 1) + 2 * (c - 1) + 1
 square zero h = absurd (omega arith)
@@ -59,16 +60,16 @@ module _ (base n u r c q : ℕ) (low : c ≤ n) (some : 1 ≤ c) (behind : base 
       let b = square (r - 1) (omega arith) in
       omega arith
 
-  rows-large : c ≤ 1024 → u ≤ 256 → 1024 ≤ q → base + 4 * n + (c + 1) * u + 8 * c + 3 * (c - 1) + n ≤ 16 * r + q * q
+  rows-large : c ≤ maxShapes → u ≤ maxRegions → maxShapes ≤ q → base + 4 * n + (c + 1) * u + 8 * c + 3 * (c - 1) + n ≤ 16 * r + q * q
   rows-large most narrow many =
-      let cu : c * u ≤ 1024 * 256 = product 1024 256 most narrow in
-      let qq : 1024 * 1024 ≤ q * q = product q q many many in
+      let cu : c * u ≤ maxShapes * maxRegions = product maxShapes maxRegions most narrow in
+      let qq : 1024 * maxShapes ≤ q * q = product q q many many in
       let next = row-next c u in
       omega arith
 
 -- ---- the tables
 
-module _ (base n u r long : ℕ) (p : Places) (f : PlacesAt base n u p) (behind : base ≤ 4 * r + u) (few : r ≤ 1048576) (narrow : u ≤ 256)
+module _ (base n u r long : ℕ) (p : Places) (f : PlacesAt base n u p) (behind : base ≤ 4 * r + u) (few : r ≤ mostRecords) (narrow : u ≤ maxRegions)
     (fits : n + u ≤ r) (more : 0 < u → n + u + 1 ≤ r) where
   rows-is : p .rows ≡ base + 4 * n + (p .room + 1) * u + 8 * p .room + 3 * (p .room - 1)
   rows-is = omega (arith, f .rows-is, f .log-is, f .place-is, f .order-is, f .slots-is)
@@ -76,24 +77,24 @@ module _ (base n u r long : ℕ) (p : Places) (f : PlacesAt base n u p) (behind 
   low : p .room ≤ n
   low = omega (arith, f .room-is, room-most n u)
 
-  most : p .room ≤ 1024
+  most : p .room ≤ maxShapes
   most = omega (arith, f .room-is, room-most n u)
 
   none : p .room < 1 → (n ≡ 0) × (p .room ≡ 0)
   none h = ⊎-elim (λ (l : 0 < n). absurd (omega (arith, f .room-is, room-one n u l))) (λ (l : n ≤ 0). (omega arith, omega arith)) (lt-or-ge 0 n)
 
-  rows-used : 1 ≤ p .room → 0 < u → p .rows + n ≤ 16 * r + min r 1024 * min r 1024
+  rows-used : 1 ≤ p .room → 0 < u → p .rows + n ≤ 16 * r + min r maxShapes * min r maxShapes
   rows-used h l = ⊎-elim
-      (λ (k : r < 1024). omega (arith, rows-is, rows-small base n u r (p .room) (min r 1024) low h behind fits l (more l) (omega arith)))
-      (λ (k : 1024 ≤ r). omega (arith, rows-is, rows-large base n u r (p .room) (min r 1024) low h behind fits most narrow (omega arith)))
-      (lt-or-ge r 1024)
+      (λ (k : r < maxShapes). omega (arith, rows-is, rows-small base n u r (p .room) (min r maxShapes) low h behind fits l (more l) (omega arith)))
+      (λ (k : maxShapes ≤ r). omega (arith, rows-is, rows-large base n u r (p .room) (min r maxShapes) low h behind fits most narrow (omega arith)))
+      (lt-or-ge r maxShapes)
 
-  rows-unused : 1 ≤ p .room → u ≡ 0 → p .rows + n ≤ 16 * r + min r 1024 * min r 1024
+  rows-unused : 1 ≤ p .room → u ≡ 0 → p .rows + n ≤ 16 * r + min r maxShapes * min r maxShapes
   rows-unused h z =
       let b = low in
-      omega (arith, rows-is, rows-alone base n u r (p .room) (min r 1024) low h behind fits z (omega (arith, f .room-is, room-none n u z)) (omega arith))
+      omega (arith, rows-is, rows-alone base n u r (p .room) (min r maxShapes) low h behind fits z (omega (arith, f .room-is, room-none n u z)) (omega arith))
 
-  rows-short : p .rows + n ≤ 16 * r + min r 1024 * min r 1024
+  rows-short : p .rows + n ≤ 16 * r + min r maxShapes * min r maxShapes
   rows-short = ⊎-elim
       (λ (h : p .room < 1).
       let z = none h in
@@ -102,8 +103,8 @@ module _ (base n u r long : ℕ) (p : Places) (f : PlacesAt base n u p) (behind 
       (λ (h : 1 ≤ p .room). ⊎-elim (rows-used h) (λ (l : u ≤ 0). rows-unused h (omega arith)) (lt-or-ge 0 u))
       (lt-or-ge (p .room) 1)
 
-  -- THE LAW: 16 r + min(r, 1024)^2 words are enough
-  pub laid : 16 * r + min r 1024 * min r 1024 ≤ long → Laid p long
+  -- THE LAW: the published words are enough
+  pub laid : 16 * r + min r maxShapes * min r maxShapes ≤ long → Laid p long
   laid room = record {
     sets-few = omega (arith, f .sets-is);
     regions-few = omega (arith, f .regions-is);

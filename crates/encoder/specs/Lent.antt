@@ -11,6 +11,7 @@ use Rattle.sets.specs.Lent.{setOf, setsIn, Held}
 use Rattle.rule.specs.Told.{words}
 use Rattle.store.specs.Placing.{Final}
 use Rattle.store.specs.Lent.{finalAt, finalsAt}
+use Rattle.limits.specs.Limits.{mostRecords, maxRegions, maxShapes}
 use Rattle.encoder.specs.Packed.{Packed, own}
 use Rattle.encoder.specs.Places.{Laid}
 use Rattle.encoder.specs.declared.places.Places.{Places}
@@ -40,11 +41,11 @@ pub record FinalIn (p : Places) (w : List ℕ) (g : ℕ) : Type 0 where
 -- What was made of the sets stands in work. A row is the number of a set, the first one of its id.
 pub record PackedAt (k : Packed) (p : Places) (e : Encoded) (w : List ℕ) : Type 0 where
   pub held : Held w 0 (p .sets) (p .regions) (p .line)
-  pub sets-few : p .sets ≤ 1048576
-  pub regions-few : p .regions ≤ 256
+  pub sets-few : p .sets ≤ mostRecords
+  pub regions-few : p .regions ≤ maxRegions
   pub line-to : p .line ≤ p .ids
   pub ids-to : p .ids + p .sets ≤ p .columns
-  pub finals-few : e .count ≤ 1024
+  pub finals-few : e .count ≤ maxShapes
   pub finals-to : p .columns + 3 * e .count ≤ p .rows
   pub rows-to : p .rows + p .sets ≤ length w
   pub log-to : p .log + 3 * e .merges ≤ p .rows
@@ -56,7 +57,7 @@ pub record PackedAt (k : Packed) (p : Places) (e : Encoded) (w : List ℕ) : Typ
   pub rows-few : sum (λ g. getD w (groupAt p g + 2) 0) (e .count) ≤ p .sets
   pub finals-are : relabel (λ x. getD (k .ids) x 0) (finalsAt (p .regions) (p .columns) (e .count) w) ≡ k .finals
   pub groups-is : e .groups ≡ k .groups
-  pub groups-few : e .groups ≤ 1024
+  pub groups-few : e .groups ≤ maxShapes
   pub merges-is : e .merges ≡ length (k .log)
   pub log-are : seg (p .log) (3 * e .merges) w ≡ words (k .log)
   pub weighed-is : e .weighed ≡ k .weighed

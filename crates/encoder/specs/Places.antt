@@ -3,11 +3,12 @@ use mathlib.Core.Path.{_≡_}
 use Prim.Native.Nat.{ℕ, _+_, _-_, _*_, _≤_, _<_, min}
 use lib.Dec.{eqb}
 use Rattle.laws.specs.Pick.{pick}
+use Rattle.limits.specs.Limits.{mostRecords, maxRegions, maxShapes}
 use Rattle.encoder.specs.declared.places.Places.{Places}
 
 -- How many groups there may be: no more than sets, and at most 1,024; one, where no region is in use, since all sets are empty then.
 unfoldable pub roomFor : ℕ → ℕ → ℕ
-roomFor sets regions = min sets (pick (eqb regions 0) 1 1024)
+roomFor sets regions = min sets (pick (eqb regions 0) 1 maxShapes)
 
 -- The tables of so many sets and regions, one behind the other from `base` on. The final groups will stand where `columns` and `into` stood.
 pub record PlacesAt (base sets regions : ℕ) (p : Places) : Type 0 where
@@ -30,10 +31,10 @@ pub record PlacesAt (base sets regions : ℕ) (p : Places) : Type 0 where
 
 -- They lie one behind the other in so many words.
 pub record Laid (p : Places) (long : ℕ) : Type 0 where
-  pub sets-few : p .sets ≤ 1048576
-  pub regions-few : p .regions ≤ 256
+  pub sets-few : p .sets ≤ mostRecords
+  pub regions-few : p .regions ≤ maxRegions
   pub room-is : p .room ≡ roomFor (p .sets) (p .regions)
-  pub room-few : p .room ≤ 1024
+  pub room-few : p .room ≤ maxShapes
   pub room-most : p .room ≤ p .sets
   pub line-to : p .line + p .sets ≤ p .first
   pub first-to : p .first + p .sets ≤ p .ids

@@ -1,6 +1,8 @@
 // Where the tables of a build stand in work, behind the sets.
+use limits::Limits;
 ghost use mathlib.Core.Path.{_≡_};
 ghost use Prim.Native.Nat.{_-_, _*_, _≤_, min};
+ghost use Rattle.limits.specs.Limits.{mostRecords, maxRegions, maxShapes};
 ghost use Rattle.encoder.specs.Places.{roomFor, PlacesAt};
 
 // Of so many sets and regions, in this order. `line`, `first`, `ids` and `kinds` have a word for each set: set numbers in the order of the
@@ -44,12 +46,12 @@ fn room_for(sets: usize, regions: usize) -> usize
     if regions == 0 {
         return least(sets, 1);
     }
-    least(sets, 1024)
+    least(sets, Limits::SHAPES)
 }
 
 // Three words for each merge that so many groups can have. Where there are no groups there is no log.
 pub fn log_words(groups: usize) -> usize
-    requires { ⌜ groups ≤ 1024 ⌝ }
+    requires { ⌜ groups ≤ maxShapes ⌝ }
     ensures { λ r. ⌜ r ≡ 3 * (groups - 1) ⌝ }
 {
     if groups == 0 {
@@ -61,8 +63,8 @@ pub fn log_words(groups: usize) -> usize
 // The tables of so many sets and regions, from `base` on.
 pub fn lay_out(base: usize, sets: usize, regions: usize) -> Places
     requires { ⌜ base ≤ 5242880 ⌝ }
-    requires { ⌜ sets ≤ 1048576 ⌝ }
-    requires { ⌜ regions ≤ 256 ⌝ }
+    requires { ⌜ sets ≤ mostRecords ⌝ }
+    requires { ⌜ regions ≤ maxRegions ⌝ }
     ensures { λ r. ⌜ PlacesAt base sets regions r ⌝ }
 {
     let room = room_for(sets, regions);

@@ -29,6 +29,7 @@ use Rattle.encoder.specs.declared.places.Places.{Places}
 use Rattle.encoder.specs.declared.encoded.Encoded.{Encoded}
 use Rattle.encoder.specs.Packed.{Packed}
 use Rattle.encoder.specs.Lent.{relabel, PackedAt}
+use Rattle.limits.specs.Limits.{maxRegions}
 use Rattle.finishing.specs.declared.answers.Report.{Report}
 use Rattle.finishing.specs.declared.answers.Built.the-variants.{Refused, Done}
 use Rattle.finishing.specs.Buffers.{Buffers, Lengths, lengths}
@@ -77,7 +78,7 @@ module _ {axes starts : ℕ} {job : List ℕ} {p : Places} {e : Encoded} {w : Li
   -- ---- what was drafted
 
   module _ {marks numbers : List ℕ} {bytes runs kept : ℕ} (d : Drafted axes w (p .regions) (p .columns) (e .count) marks numbers bytes runs kept) where
-    pub kept-few : kept ≤ 256
+    pub kept-few : kept ≤ maxRegions
     kept-few = omega (arith, d .numbered .all, kept-most (markedIn marks) (p .regions), fit .packed .regions-few)
 
     bytes-few : bytes < 4294967296

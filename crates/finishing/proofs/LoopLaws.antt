@@ -13,7 +13,7 @@ use Rattle.laws.proofs.BytesLaws.{over-length}
 use Rattle.laws.proofs.Cases.{lt-or-ge}
 use Rattle.laws.proofs.RangeLaws.{length-seg, seg-none, seg-snoc}
 use Rattle.rows.proofs.OverLaws.{over-none, over-join, set-over}
-use Rattle.said.specs.Refusals.{firstFailed}
+use Rattle.said.specs.Refusals.{idsShort, mapShort, logShort, outShort, firstFailed}
 use Rattle.finishing.specs.Lent.{RowsNamed, RoomFor, shortNo}
 
 -- ---- naming rows: those before q are named
@@ -104,23 +104,23 @@ module _ (sets distinct groups bytes out ids map log : ℕ) where
   abbrev pub shorts : ℕ
   shorts = shortNo sets distinct groups bytes out ids map log
 
-  pub ids-short : ids < sets → 11 ≡ shorts
+  pub ids-short : ids < sets → idsShort ≡ shorts
   unfolding shortNo firstFailed
   ids-short a = simp (lt-leb sets ids a)
 
-  pub map-short : (ids < sets → ⊥) → map < distinct → 12 ≡ shorts
+  pub map-short : (ids < sets → ⊥) → map < distinct → mapShort ≡ shorts
   unfolding shortNo firstFailed
   map-short a b = let h : sets ≤ ids = omega arith in simp (le-leb sets ids h, lt-leb distinct map b)
 
   module _ (a : ids < sets → ⊥) (b : map < distinct → ⊥) where
-    pub log-short : log < 3 * (groups - 1) → 13 ≡ shorts
+    pub log-short : log < 3 * (groups - 1) → logShort ≡ shorts
     unfolding shortNo firstFailed
     log-short c =
         let h : sets ≤ ids = omega arith in
         let i : distinct ≤ map = omega arith in
         simp (le-leb sets ids h, le-leb distinct map i, lt-leb (3 * (groups - 1)) log c)
 
-    pub out-short : 3 * (groups - 1) ≤ log → out < bytes → 14 ≡ shorts
+    pub out-short : 3 * (groups - 1) ≤ log → out < bytes → outShort ≡ shorts
     unfolding shortNo firstFailed
     out-short c d =
         let h : sets ≤ ids = omega arith in

@@ -43,6 +43,7 @@ use Rattle.encoder.specs.declared.places.Places.{Places}
 use Rattle.encoder.specs.declared.encoded.Encoded.{Encoded}
 use Rattle.encoder.specs.Packed.{Packed}
 use Rattle.encoder.specs.Lent.{relabel, groupAt, FinalIn, PackedAt}
+use Rattle.limits.specs.Limits.{mostRecords, mostAxes, maxRegions}
 use Rattle.finishing.specs.Lent.{RowsNamed}
 
 -- ---- sets in work, by either definition
@@ -222,27 +223,34 @@ pub row-most : (word n : ℕ) → columnAt word n ≤ 4 * n
 row-most word zero = omega (arith, at-zero word)
 row-most word (suc n) = omega (arith, ap (columnAt word) (add-one n), at-step word n, bytes-range word n .1, row-most word n)
 
-pub table-most : (n row items : ℕ) → n ≤ 256 → row ≤ 1024 → tableSize n row items ≤ 518 + 1024 * items
+-- the most bytes of a subtable's head and of a row
+abbrev pub headMost : ℕ
+headMost = 6 + 2 * maxRegions
+
+abbrev pub rowMost : ℕ
+rowMost = 4 * maxRegions
+
+pub table-most : (n row items : ℕ) → n ≤ maxRegions → row ≤ rowMost → tableSize n row items ≤ headMost + rowMost * items
 table-most n row items a b = ⊎-elim
     (λ (e : items ≡ 0). omega (arith, size-none n row items e))
     (λ d. omega (arith, size-some n row items d, mul-le-mul-left items b))
     (same-or-not items 0)
 
-module _ (n row count : ℕ) (few : n ≤ 256) (short : row ≤ 1024) where
+module _ (n row count : ℕ) (few : n ≤ maxRegions) (short : row ≤ rowMost) where
   abbrev run-size : ℕ → ℕ
   run-size k = tableSize n row (min maxItems (count - maxItems * k))
 
   -- the items of the runs from k on add up to what is left
-  runs-most : (m k : ℕ) → total (tabulate k m run-size) ≤ 518 * m + 1024 * (count - maxItems * k)
+  runs-most : (m k : ℕ) → total (tabulate k m run-size) ≤ headMost * m + rowMost * (count - maxItems * k)
   unfolding tabulate weigh
   runs-most zero k = omega arith
   runs-most (suc m) k = omega (arith, runs-most m (suc k), table-most n row (min maxItems (count - maxItems * k)) few short)
 
-  sizes-most : count ≤ 1048576 → total (runSizes n row count) ≤ 8806 + 1024 * count
+  sizes-most : count ≤ mostRecords → total (runSizes n row count) ≤ 17 * headMost + rowMost * count
   unfolding runSizes
   sizes-most h = omega (arith, runs-most (runCount count) 0, runs-few count h)
 
-  sizes-few : count ≤ 1048576 → length (runSizes n row count) ≤ 17
+  sizes-few : count ≤ mostRecords → length (runSizes n row count) ≤ 17
   unfolding runSizes
   sizes-few h = omega (arith, length-tabulate 0 (runCount count) run-size, runs-few count h)
 
@@ -261,7 +269,7 @@ chain-snoc f n =
     ∙ ap (λ (k : ℕ). joinAll (tabulate 0 n f) ++ f k) e
 
 module _ (f : ℕ → List ℕ) (c : ℕ → ℕ) where
-  chain-most : (n : ℕ) → ((g : ℕ) → g < n → total (f g) ≤ 8806 + 1024 * c g) → total (chain f n) ≤ 8806 * n + 1024 * sum c n
+  chain-most : (n : ℕ) → ((g : ℕ) → g < n → total (f g) ≤ 17 * headMost + rowMost * c g) → total (chain f n) ≤ 17 * headMost * n + rowMost * sum c n
   unfolding sum
   chain-most zero h = unfold chain in unfold tabulate in unfold joinAll in unfold weigh in omega arith
   chain-most (suc n) h =
@@ -283,19 +291,19 @@ module _ (k : Packed) (p : Places) (e : Encoded) (w : List ℕ) (packed : Packed
     unfolding finalAt
     group-sets = length-seg (getD w (p .columns + 3 * g + 1) 0) (sets-of g) w (omega (arith, packed .finals-in g h .rows-to, packed .rows-to))
 
-    sets-few : length (the-group g .ids) ≤ 1048576
+    sets-few : length (the-group g .ids) ≤ mostRecords
     sets-few = omega (arith, group-sets, packed .finals-in g h .rows-from, packed .finals-in g h .rows-to, packed .sets-few)
 
-    columns-few : length (columnsOf (the-group g .shape)) ≤ 256
+    columns-few : length (columnsOf (the-group g .shape)) ≤ maxRegions
     columns-few = omega (arith, columns-count (the-group g .shape), columns-most (the-group g .shape), shape-few, packed .regions-few)
       where
         shape-few : length (the-group g .shape) ≤ p .regions
         shape-few = unfold finalAt in unfold seg in omega (arith, length-take (p .regions) (drop (getD w (p .columns + 3 * g) 0) w))
 
-    row-few : columnAt (wordCount (the-group g .shape)) (length (columnsOf (the-group g .shape))) ≤ 1024
+    row-few : columnAt (wordCount (the-group g .shape)) (length (columnsOf (the-group g .shape))) ≤ rowMost
     row-few = omega (arith, row-most (wordCount (the-group g .shape)) (length (columnsOf (the-group g .shape))), columns-few)
 
-    group-most : total (groupSizes (the-group g)) ≤ 8806 + 1024 * sets-of g
+    group-most : total (groupSizes (the-group g)) ≤ 17 * headMost + rowMost * sets-of g
     unfolding groupSizes
     group-most =
         let s = the-group g .shape in
@@ -308,13 +316,13 @@ module _ (k : Packed) (p : Places) (e : Encoded) (w : List ℕ) (packed : Packed
         let s = the-group g .shape in
         sizes-few (length (columnsOf s)) (columnAt (wordCount s) (length (columnsOf s))) (length (the-group g .ids)) columns-few row-few sets-few
 
-  pub store-small : (axes kept runs : ℕ) → axes ≤ 64 → kept ≤ 256 → runs ≡ length (sizesAt (p .regions) (p .columns) (e .count) w)
+  pub store-small : (axes kept runs : ℕ) → axes ≤ mostAxes → kept ≤ maxRegions → runs ≡ length (sizesAt (p .regions) (p .columns) (e .count) w)
       → 8 + 4 * runs + (4 + 6 * axes * kept) + total (sizesAt (p .regions) (p .columns) (e .count) w) < 4294967296
   unfolding sizesAt
   store-small axes kept runs a b r =
       let most = chain-most (λ g. groupSizes (the-group g)) sets-of (e .count) group-most in
       let few = chain-few (λ g. groupSizes (the-group g)) sets-of (e .count) group-few in
-      let list = product 384 256 {a = 6 * axes} {b = kept} (omega arith) b in
+      let list = product (6 * mostAxes) maxRegions {a = 6 * axes} {b = kept} (omega arith) b in
       omega (arith, packed .rows-few, packed .sets-few, packed .finals-few)
 
 -- ---- what was drafted can be written

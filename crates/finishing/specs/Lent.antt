@@ -14,6 +14,7 @@ use Rattle.encoder.specs.Packed.{Packed}
 use Rattle.encoder.specs.Lent.{PackedAt, relabel}
 use Rattle.encoder.specs.declared.places.Places.{Places}
 use Rattle.encoder.specs.declared.encoded.Encoded.{Encoded}
+use Rattle.limits.specs.Limits.{mostAxes}
 use Rattle.finishing.specs.declared.answers.Report.{Report}
 use Rattle.finishing.specs.declared.answers.Built.{Built}
 use Rattle.finishing.specs.Buffers.{Buffers, lengths}
@@ -21,7 +22,7 @@ use Rattle.finishing.specs.Late.{lateAnswer, buffersLeft}
 
 -- sets are packed in work, and from `starts` on stands for each region where in the job its coordinates start
 pub record FinishFit (axes starts : ℕ) (job : List ℕ) (p : Places) (e : Encoded) (w : List ℕ) : Type 0 where
-  pub axes-few : axes ≤ 64
+  pub axes-few : axes ≤ mostAxes
   pub packed-as : Packed
   pub packed : PackedAt packed-as p e w
   pub starts-to : starts + p .regions ≤ p .rows

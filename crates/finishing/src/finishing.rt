@@ -4,9 +4,11 @@ use crate::answers::Report;
 use encoder::Encoded;
 use encoder::Places;
 use encoder::log_words;
+use limits::Limits;
 use planning::Plan;
 use planning::draft;
 use planning::forecast;
+use said::Refusal;
 use writing::write_map;
 use writing::write_store;
 ghost use mathlib.Core.Path.{_≡_};
@@ -19,9 +21,7 @@ ghost use Rattle.encoder.specs.Packed.{Packed};
 ghost use Rattle.encoder.specs.Lent.{PackedAt};
 ghost use Rattle.finishing.specs.Buffers.{buffers};
 ghost use Rattle.finishing.specs.Lent.{FinishFit, Finished, RowsNamed, WordsFit, WordsWritten, reportIn, shortNo, storeIn};
-
-// The most regions of a store.
-const REGIONS: usize = 256;
+ghost use Rattle.limits.specs.Limits.{mostAxes, maxRegions, maxShapes};
 
 // Rows are numbers of sets until now: each becomes the id of its set. Words that are no set's number belong to no row, and stay.
 fn name_rows(work: &mut [u32], rows: usize, n: usize, ids: usize)
@@ -64,20 +64,20 @@ fn short_no(
     map: usize,
     log: usize,
 ) -> usize
-    requires { ⌜ e .groups ≤ 1024 ⌝ }
+    requires { ⌜ e .groups ≤ maxShapes ⌝ }
     ensures { λ r. ⌜ r ≡ shortNo (p .sets) (e .distinct) (e .groups) bytes out ids map log ⌝ }
 {
     if ids < p.sets {
-        return 11;
+        return Refusal::IDS_SHORT;
     }
     if map < e.distinct {
-        return 12;
+        return Refusal::MAP_SHORT;
     }
     if log < log_words(e.groups) {
-        return 13;
+        return Refusal::LOG_SHORT;
     }
     if out < bytes {
-        return 14;
+        return Refusal::OUT_SHORT;
     }
     0
 }
@@ -140,8 +140,8 @@ fn write_words(
 
 // What a done build answers: the counts as they were packed and planned, and the forecast.
 fn report(axes: usize, work: &[u32], p: Places, e: Encoded, plan: Plan) -> Report
-    requires { ⌜ axes ≤ 64 ⌝ }
-    requires { ⌜ plan .kept ≤ 256 ⌝ }
+    requires { ⌜ axes ≤ mostAxes ⌝ }
+    requires { ⌜ plan .kept ≤ maxRegions ⌝ }
     requires { ⌜ WordsFit p e (now work) ⌝ }
     ensures { λ r. ⌜ r ≡ reportIn axes p e (now (work .entry)) (plan .bytes) (plan .runs) (plan .kept) ⌝ }
 {
@@ -177,8 +177,8 @@ pub fn finish(
     requires { ⌜ FinishFit axes starts (now job) p e (now work) ⌝ }
     ensures { λ r. ⌜ ((k : Packed) → PackedAt k p e (now (work .entry)) → Finished axes (coordsOf (now (job .entry)) axes (now (work .entry)) starts (p .regions)) k r (buffers (now (out .entry)) (now (ids .entry)) (now (map .entry)) (now (log .entry))) (buffers (now (out .exit)) (now (ids .exit)) (now (map .exit)) (now (log .exit)))) ⌝ }
 {
-    let mut marks = [0u32; REGIONS];
-    let mut numbers = [0u32; REGIONS];
+    let mut marks = [0u32; Limits::REGIONS];
+    let mut numbers = [0u32; Limits::REGIONS];
     let plan = draft(
         axes,
         work,

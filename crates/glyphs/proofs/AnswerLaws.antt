@@ -14,7 +14,7 @@ use Rattle.rows.proofs.PutLaws.{put-join}
 use Rattle.glyphs.specs.declared.write.Glyphs.{Glyphs}
 use Rattle.glyphs.specs.declared.write.Glyphs.the-variants.{Done, Refused}
 use Rattle.glyphs.specs.Packing.{together, innerBits, entryOf, bytesFor, mapBits, mapSize, entryFormat, countOf, headFor, headSize, entriesOf, mapBytes}
-use Rattle.glyphs.specs.Answers.{maxGlyphs, glyphsOf, glyphsLeft}
+use Rattle.glyphs.specs.Answers.{tooManyGlyphs, glyphMapShort, maxGlyphs, glyphsOf, glyphsLeft}
 use Rattle.glyphs.proofs.KeptLaws.{count-most}
 use Rattle.glyphs.proofs.WriteLaws.{head-size, entries-long}
 
@@ -46,7 +46,7 @@ sized ws all bits e size count at pa pb pe ps pc pt =
     }
 
 module _ (ws old : List ℕ) where
-  pub many-answer : maxGlyphs < length ws → (room : ℕ) → Refused 40 ≡ glyphsOf ws room
+  pub many-answer : maxGlyphs < length ws → (room : ℕ) → Refused tooManyGlyphs ≡ glyphsOf ws room
   unfolding glyphsOf
   many-answer h room = rw (lt-ltb maxGlyphs (length ws) h)
 
@@ -58,7 +58,7 @@ module _ (ws old : List ℕ) where
     pub bytes-are : at + count * size ≡ length (mapBytes ws)
     bytes-are = rw (z .at-is, z .count-is, z .size-is) (sym (map-long ws))
 
-    pub short-answer : length old < at + count * size → Refused 41 ≡ glyphsOf ws (length old)
+    pub short-answer : length old < at + count * size → Refused glyphMapShort ≡ glyphsOf ws (length old)
     unfolding glyphsOf
     short-answer h = rw (le-ltb maxGlyphs (length ws) few, lt-ltb (length old) (length (mapBytes ws)) (omega (arith, bytes-are)))
 

@@ -20,7 +20,7 @@ use Rattle.laws.proofs.Cases.{lt-or-ge}
 use Rattle.glyphs.specs.declared.read.Entry.{Entry}
 use Rattle.glyphs.specs.declared.read.Entry.the-variants.{Word, Refused}
 use Rattle.glyphs.specs.Packing.{outerOf, innerOf, ored, innerBits, entryOf, bytesFor, mapBits, mapSize, entryFormat, keptOf, countOf, headOf, headFor, headSize, entriesOf, mapBytes}
-use Rattle.glyphs.specs.Reading.{formatIn, formIn, startOf, countIn, bitsIn, sizeIn, mapOk, entryNo, placeOf, wordOf, readMap}
+use Rattle.glyphs.specs.Reading.{badGlyphMap, formatIn, formIn, startOf, countIn, bitsIn, sizeIn, mapOk, entryNo, placeOf, wordOf, readMap}
 use Rattle.glyphs.proofs.FormatLaws.{HoldsAll, format-holds, bits-range, size-range}
 use Rattle.glyphs.proofs.KeptLaws.{count-most, count-some, count-same}
 use Rattle.glyphs.proofs.WriteLaws.{size-zero, size-one, head-zero, head-one, head-size, entries-long}
@@ -241,6 +241,6 @@ pub empty-map : mapBytes [] ≡ 0 ∷ 0 ∷ 0 ∷ 0 ∷ []
 unfolding mapBytes headFor entryFormat mapSize mapBits innerBits leadingZeros countOf keptOf entriesOf bytesFor entryOf ored bytesOf
 empty-map = refl
 
-pub empty-refused : (g : ℕ) → readMap (mapBytes []) g ≡ Refused 42
+pub empty-refused : (g : ℕ) → readMap (mapBytes []) g ≡ Refused badGlyphMap
 unfolding readMap mapOk be startOf countIn
 empty-refused g = rw empty-map

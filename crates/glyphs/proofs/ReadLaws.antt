@@ -13,7 +13,7 @@ use Rattle.laws.proofs.Products.{product, row-fits}
 use Rattle.reader.specs.Store as store
 use Rattle.glyphs.specs.declared.read.Entry.{Entry}
 use Rattle.glyphs.specs.declared.read.Entry.the-variants.{Word, Refused}
-use Rattle.glyphs.specs.Reading.{formatIn, formIn, startOf, countIn, bitsIn, sizeIn, mapOk, entryNo, placeOf, wordOf, readMap}
+use Rattle.glyphs.specs.Reading.{badGlyphMap, formatIn, formIn, startOf, countIn, bitsIn, sizeIn, mapOk, entryNo, placeOf, wordOf, readMap}
 
 module _ (format : ℕ) where
   pub start-zero : format ≡ 0 → 4 ≡ startOf format
@@ -73,12 +73,12 @@ module _ (n g : ℕ) where
 
 -- ---- the answer
 
-pub bad-map : (s : List ℕ) (g : ℕ) → mapOk s ≡ false → Refused 42 ≡ readMap s g
+pub bad-map : (s : List ℕ) (g : ℕ) → mapOk s ≡ false → Refused badGlyphMap ≡ readMap s g
 unfolding readMap
 bad-map s g h = rw h
 
 module _ (s : List ℕ) (g : ℕ) (ok : mapOk s ≡ true) (e p : ℕ) (f : e ≡ be (sizeIn s) s (placeOf s g)) (q : p ≡ 2 ^ bitsIn s) where
-  pub outer-large : 65535 < e / p → Refused 42 ≡ readMap s g
+  pub outer-large : 65535 < e / p → Refused badGlyphMap ≡ readMap s g
   unfolding readMap wordOf
   outer-large h = rw (ok, ← f, ← q, lt-ltb 65535 (e / p) h)
 

@@ -21,8 +21,8 @@ use Rattle.glyphs.specs.declared.write.Glyphs.the-variants as glyphs
 use Rattle.glyphs.specs.declared.read.Entry.{Entry}
 use Rattle.glyphs.specs.declared.read.Entry.the-variants as entry
 use Rattle.glyphs.specs.Packing.{mapSize, countOf, headSize, mapBytes}
-use Rattle.glyphs.specs.Answers.{maxGlyphs, glyphsOf}
-use Rattle.glyphs.specs.Reading.{bitsIn, sizeIn, mapOk, placeOf, wordOf, readMap}
+use Rattle.glyphs.specs.Answers.{tooManyGlyphs, glyphMapShort, maxGlyphs, glyphsOf}
+use Rattle.glyphs.specs.Reading.{badGlyphMap, bitsIn, sizeIn, mapOk, placeOf, wordOf, readMap}
 use Rattle.glyphs.proofs.FormatLaws.{size-range}
 use Rattle.glyphs.proofs.KeptLaws.{count-most}
 use Rattle.glyphs.proofs.WidthLaws.{power-most}
@@ -46,11 +46,11 @@ pub glyphs-small : (ws : List ℕ) (room : ℕ) → GlyphsSmall (glyphsOf ws roo
 unfolding glyphsOf
 glyphs-small ws room = many (which (ltb maxGlyphs (length ws)))
   where
-    short : length ws ≤ maxGlyphs → (b : Bool) → GlyphsSmall (pick b (glyphs.Refused 41) (glyphs.Done (length (mapBytes ws))))
+    short : length ws ≤ maxGlyphs → (b : Bool) → GlyphsSmall (pick b (glyphs.Refused glyphMapShort) (glyphs.Done (length (mapBytes ws))))
     short h true = omega arith
     short h false = map-small ws h
 
-    many : Which (ltb maxGlyphs (length ws)) → GlyphsSmall (pick (ltb maxGlyphs (length ws)) (glyphs.Refused 40) (pick (ltb room (length (mapBytes ws))) (glyphs.Refused 41) (glyphs.Done (length (mapBytes ws)))))
+    many : Which (ltb maxGlyphs (length ws)) → GlyphsSmall (pick (ltb maxGlyphs (length ws)) (glyphs.Refused tooManyGlyphs) (pick (ltb room (length (mapBytes ws))) (glyphs.Refused glyphMapShort) (glyphs.Done (length (mapBytes ws)))))
     many (holds e) = rw e (omega arith)
     many (fails e) = rw e (short (ltb-false _ _ e) (ltb room (length (mapBytes ws))))
 
@@ -64,7 +64,7 @@ word-small : (bits e : ℕ) → bits ≤ 16 → EntrySmall (wordOf bits e)
 unfolding wordOf
 word-small bits e h = go (which (ltb 65535 (e / 2 ^ bits)))
   where
-    go : Which (ltb 65535 (e / 2 ^ bits)) → EntrySmall (pick (ltb 65535 (e / 2 ^ bits)) (entry.Refused 42) (entry.Word (e / 2 ^ bits * 65536 + e % 2 ^ bits)))
+    go : Which (ltb 65535 (e / 2 ^ bits)) → EntrySmall (pick (ltb 65535 (e / 2 ^ bits)) (entry.Refused badGlyphMap) (entry.Word (e / 2 ^ bits * 65536 + e % 2 ^ bits)))
     go (holds t) = rw t (omega arith)
     go (fails t) = rw t (omega (arith, ltb-false 65535 (e / 2 ^ bits) t, mod-lt e {m = 2 ^ bits} (pow-pos bits), power-most bits h))
 
@@ -72,6 +72,6 @@ pub entry-small : (s : List ℕ) (g : ℕ) → EntrySmall (readMap s g)
 unfolding readMap
 entry-small s g = go (mapOk s)
   where
-    go : (b : Bool) → EntrySmall (pick (not b) (entry.Refused 42) (wordOf (bitsIn s) (be (sizeIn s) s (placeOf s g))))
+    go : (b : Bool) → EntrySmall (pick (not b) (entry.Refused badGlyphMap) (wordOf (bitsIn s) (be (sizeIn s) s (placeOf s g))))
     go true = word-small (bitsIn s) (be (sizeIn s) s (placeOf s g)) (omega arith)
     go false = omega arith

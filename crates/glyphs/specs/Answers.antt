@@ -14,11 +14,18 @@ use Rattle.glyphs.specs.declared.write.Glyphs.the-variants.{Done, Refuse
 abbrev pub maxGlyphs : ℕ
 maxGlyphs = 1048576
 
+-- the numbers of its refusals
+abbrev pub tooManyGlyphs : ℕ
+tooManyGlyphs = 40
+
+abbrev pub glyphMapShort : ℕ
+glyphMapShort = 41
+
 -- of words, and an output of `room` bytes
 unfoldable pub glyphsOf : List ℕ → ℕ → Glyphs
 glyphsOf ws room =
-    pick (ltb maxGlyphs (length ws)) (Refused 40)
-    (pick (ltb room (length (mapBytes ws))) (Refused 41) (Done (length (mapBytes ws))))
+    pick (ltb maxGlyphs (length ws)) (Refused tooManyGlyphs)
+    (pick (ltb room (length (mapBytes ws))) (Refused glyphMapShort) (Done (length (mapBytes ws))))
 
 -- past the map all is as it was, and after a refusal everything
 unfoldable pub glyphsLeft : List ℕ → List ℕ → List ℕ

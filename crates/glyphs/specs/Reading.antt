@@ -46,9 +46,13 @@ entryNo n g = pick (ltb g n) g (n - 1)
 unfoldable pub placeOf : List ℕ → ℕ → ℕ
 placeOf s g = startOf (formatIn s) + entryNo (countIn s) g * sizeIn s
 
+-- the number of its refusal
+abbrev pub badGlyphMap : ℕ
+badGlyphMap = 42
+
 -- an entry's word: the bits above the inner ones are the outer number
 unfoldable pub wordOf : ℕ → ℕ → Entry
-wordOf bits e = pick (ltb 65535 (e / 2 ^ bits)) (Refused 42) (Word (e / 2 ^ bits * 65536 + e % 2 ^ bits))
+wordOf bits e = pick (ltb 65535 (e / 2 ^ bits)) (Refused badGlyphMap) (Word (e / 2 ^ bits * 65536 + e % 2 ^ bits))
 
 unfoldable pub readMap : List ℕ → ℕ → Entry
-readMap s g = pick (not (mapOk s)) (Refused 42) (wordOf (bitsIn s) (be (sizeIn s) s (placeOf s g)))
+readMap s g = pick (not (mapOk s)) (Refused badGlyphMap) (wordOf (bitsIn s) (be (sizeIn s) s (placeOf s g)))

@@ -15,6 +15,11 @@ pub enum Entry {
     Refused(u8),
 }
 
+impl Entry {
+    // The number of its refusal.
+    pub const BAD_GLYPH_MAP: u8 = 42;
+}
+
 // Where the entries of a map of this format start.
 fn start(format: usize) -> usize
     ensures { λ r. ⌜ r ≡ startOf format ⌝ }
@@ -96,13 +101,13 @@ pub fn read_glyph(map: &[u8], glyph: u32) -> Entry
     ensures { λ r. ⌜ r ≡ readMap (now (map .entry)) glyph ⌝ }
 {
     if !map_ok(map) {
-        return Entry::Refused(42);
+        return Entry::Refused(Entry::BAD_GLYPH_MAP);
     }
     let e = entry_at(map, glyph as usize);
     let p = power(be(map, 1, 1) % 16 + 1);
     let outer = e / p;
     if 65535 < outer {
-        return Entry::Refused(42);
+        return Entry::Refused(Entry::BAD_GLYPH_MAP);
     }
     Entry::Word((outer * 65536 + e % p) as u32)
 }

@@ -18,8 +18,15 @@ pub enum Glyphs {
     Refused(u8),
 }
 
-// The most glyphs of a map.
-const GLYPHS: usize = 1048576;
+impl Glyphs {
+    // The most glyphs of a map.
+    pub const MOST: usize = 1048576;
+
+    // The numbers of its refusals.
+    pub const TOO_MANY_GLYPHS: u8 = 40;
+
+    pub const GLYPH_MAP_SHORT: u8 = 41;
+}
 
 // A head whose count has k bytes.
 fn put_head(out: &mut [u8], format: u32, k: usize, form: u32, count: u32)
@@ -86,8 +93,8 @@ pub fn write_glyphs(words: &[u32], out: &mut [u8]) -> Glyphs
     ensures { λ r. ⌜ r ≡ glyphsOf (now (words .entry)) (length (now (out .entry))) ⌝ }
     ensures { λ _. ⌜ now (out .exit) ≡ glyphsLeft (now (words .entry)) (now (out .entry)) ⌝ }
 {
-    if GLYPHS < words.len() {
-        return Glyphs::Refused(40);
+    if Glyphs::MOST < words.len() {
+        return Glyphs::Refused(Glyphs::TOO_MANY_GLYPHS);
     }
     let all = together(words);
     let bits = inner_bits(all);
@@ -96,7 +103,7 @@ pub fn write_glyphs(words: &[u32], out: &mut [u8]) -> Glyphs
     let at = head_size(count);
     let bytes = at + count * size;
     if out.len() < bytes {
-        return Glyphs::Refused(41);
+        return Glyphs::Refused(Glyphs::GLYPH_MAP_SHORT);
     }
     let form = (size - 1) * 16 + (bits - 1);
     write_head(out, form as u32, count);

@@ -13,6 +13,8 @@ use Rattle.shapes.specs.Order.{order}
 use Rattle.shapes.specs.Group.{Group}
 use Rattle.sets.specs.Set.{Set, wordOf}
 use Rattle.sets.specs.Ids.{distinct}
+-- more distinct shapes are refused
+pub use Rattle.limits.specs.Limits.{maxShapes}
 
 -- the width of each of so many regions
 unfoldable pub shapeOf : ℕ → Set → Shape
@@ -40,7 +42,3 @@ groupsFrom groups (s ∷ l) = groupsFrom (withShape groups s) l
 -- the groups of a job's sets, each distinct set counted once
 unfoldable pub groupsOf : ℕ → List Set → List Group
 groupsOf regions sets = groupsFrom [] (map (shapeOf regions) (distinct sets))
-
--- "more than 1,024 distinct shapes" are refused
-abbrev pub maxShapes : ℕ
-maxShapes = 1024

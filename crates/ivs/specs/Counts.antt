@@ -7,6 +7,7 @@ use lib.ListN.{length, getD}
 use Rattle.said.specs.Records.{kind, regionOf, axisOf, recordAt}
 use Rattle.said.specs.Sets.{Region, regionList}
 use Rattle.told.specs.Told.{countKind, endsBefore}
+use Rattle.limits.specs.Limits.{maxItems}
 
 -- how many of the first i records are axis records
 abbrev pub axisRecords : List ℕ → ℕ → ℕ
@@ -72,7 +73,7 @@ pub record SetsFull (axes mode : ℕ) (job : List ℕ) (i : ℕ) (r : List ℕ) 
   pub zeros-one : Zeros r 1 11
   pub whole : axisRecords job i % axes ≡ 0
   pub mode-one : mode ≡ 1
-  pub full : endsBefore job i ≡ 65535
+  pub full : endsBefore job i ≡ maxItems
 
 -- 8 UNFINISHED: "the job ends inside a set or a region"
 pub data Unfinished (axes : ℕ) (job : List ℕ) (records : ℕ) : Type 0 where

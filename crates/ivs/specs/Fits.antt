@@ -5,11 +5,13 @@ use Prim.Native.Nat.{ℕ, _/_, _%_, _≤_, _<_}
 use lib.ListN.{length}
 use Rattle.said.specs.Refusals.{publishedWork, pairRecords}
 use Rattle.build.specs.Lending.{Lending}
+use Rattle.said.specs.Records.{spareBytes, recordsIn}
+use Rattle.limits.specs.Limits.{mostRecords, mostAxes}
 
 -- "1 to 64 axes"
 pub record AxesFit (axes : ℕ) : Type 0 where
   pub some : 0 < axes
-  pub most : axes ≤ 64
+  pub most : axes ≤ mostAxes
 
 pub record ModeFit (axes mode : ℕ) : Type 0 where
   pub axes-fit : AxesFit axes
@@ -18,12 +20,12 @@ pub record ModeFit (axes mode : ℕ) : Type 0 where
 -- "records of 12 bytes"; "At most 1,048,576 records"
 pub record LengthFit (axes mode bytes : ℕ) : Type 0 where
   pub mode-fit : ModeFit axes mode
-  pub whole : bytes % 12 ≡ 0
-  pub few : bytes / 12 ≤ 1048576
+  pub whole : spareBytes bytes ≡ 0
+  pub few : recordsIn bytes ≤ mostRecords
 
 pub record WorkFit (axes mode bytes work pairs : ℕ) : Type 0 where
   pub length-fit : LengthFit axes mode bytes
-  pub enough : publishedWork (bytes / 12) ≤ work
+  pub enough : publishedWork (recordsIn bytes) ≤ work
   pub paired : pairRecords ≤ pairs
 
 -- of a call

@@ -10,6 +10,7 @@ use Rattle.finishing.specs.Buffers.{Lengths}
 use Rattle.finishing.specs.Late.{storeFor}
 use Rattle.build.specs.Lending.{Lending}
 use Rattle.build.specs.Build.{coordsOf, packedOf, outcomeOf}
+use Rattle.limits.specs.Limits.{maxShapes}
 
 -- the job is sound, and this holds of what it says
 pub record Accepted (c : Lending) (P : Said → Type 0) : Type 0 where
@@ -31,7 +32,7 @@ abbrev pub storeBytes : ℕ → ℕ → Said → ℕ
 storeBytes axes mode s = length (storeFor axes (coordsOf s) (packedOf mode s))
 
 pub record ShapesFit (mode : ℕ) (s : Said) : Type 0 where
-  pub shapes-few : shapeCount mode s ≤ 1024
+  pub shapes-few : shapeCount mode s ≤ maxShapes
 
 pub record IdsFit (mode : ℕ) (s : Said) (l : Lengths) : Type 0 where
   pub shapes-fit : ShapesFit mode s

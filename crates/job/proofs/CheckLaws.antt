@@ -6,7 +6,7 @@ use native.Mathlib.Omega.{arith}
 use lib.ListN.{length, replicate}
 use borrow.Author.Tests.{eq-eqb, ne-eqb}
 use Rattle.sets.proofs.HeldLaws.{sets-length}
-use Rattle.said.specs.Records.{recordBytes}
+use Rattle.said.specs.Records.{recordsIn, recordCount}
 use Rattle.said.specs.Refusals.{publishedWork, earlyNo}
 use Rattle.said.specs.Job.{Outcome, inAxes, walk, outcomeFrom, outcome}
 use Rattle.said.specs.Job.{refused, fine}
@@ -27,7 +27,7 @@ none-early zero o h = refl
 none-early (suc n) o h = absurd (omega arith)
 
 -- the published work has the words of the tables
-pub room : (axes mode bytes work pairs : ℕ) → Open axes mode bytes work pairs → 16 * (bytes / recordBytes) ≤ work
+pub room : (axes mode bytes work pairs : ℕ) → Open axes mode bytes work pairs → 16 * recordsIn bytes ≤ work
 unfolding publishedWork
 room axes mode bytes work pairs o = omega (arith, o .enough)
 
@@ -35,7 +35,7 @@ module _ (axes mode : ℕ) (job w : List ℕ) (pairs n : ℕ) (e : n ≡ earlyNo
   pub refused-early : (n ≡ 0 → ⊥) → Refused n 0 ≡ checkedOf (outcome axes mode job (length w) pairs)
   unfolding outcome checkedOf
   refused-early h =
-      let o : Outcome = walk axes mode job job (length job / recordBytes) 0 inAxes in
+      let o : Outcome = walk axes mode job job (recordCount job) 0 inAxes in
       sym (ap checkedOf (ap (λ k. outcomeFrom k o) (sym e) ∙ early-first n o h))
 
   pub left-early : (n ≡ 0 → ⊥) → w ≡ workLeft axes mode (length job) pairs w
@@ -46,14 +46,16 @@ module _ (axes mode : ℕ) (job w : List ℕ) (pairs n : ℕ) (e : n ≡ earlyNo
   unfolding workLeft
   left-zeros z long w′ l c = c ∙ rw (← e, eq-eqb n 0 z, l) refl
 
-  outcome-walk : n ≡ 0 → outcome axes mode job (length w) pairs ≡ walk axes mode job job (length job / recordBytes) 0 inAxes
+  outcome-walk : n ≡ 0 → outcome axes mode job (length w) pairs ≡ walk axes mode job job (recordCount job) 0 inAxes
   unfolding outcome
   outcome-walk z = none-early _ _ (sym e ∙ z)
 
-  module _ (z : n ≡ 0) {a : ℕ} (q : a ≡ axes) {w′ : List ℕ} {no′ at regions sets values uses : ℕ}
-      (read : JobRead a mode job (length job / recordBytes) w w′ no′ at regions sets values uses) where
-    read-by : JobRead axes mode job (length job / recordBytes) w w′ no′ at regions sets values uses
-    read-by = subst (λ k. JobRead k mode job (length job / recordBytes) w w′ no′ at regions sets values uses) q read
+  module _ (z : n ≡ 0) {a : ℕ} (q : a ≡ axes) {records : ℕ} (r : records ≡ recordCount job) {w′ : List ℕ} {no′ at regions sets values uses : ℕ}
+      (read : JobRead a mode job records w w′ no′ at regions sets values uses) where
+    read-by : JobRead axes mode job (recordCount job) w w′ no′ at regions sets values uses
+    read-by =
+        subst (λ k. JobRead axes mode job k w w′ no′ at regions sets values uses) r
+        (subst (λ k. JobRead k mode job records w w′ no′ at regions sets values uses) q read)
 
     pub refused-record : (no′ ≡ 0 → ⊥) → Refused no′ at ≡ checkedOf (outcome axes mode job (length w) pairs)
     unfolding checkedOf

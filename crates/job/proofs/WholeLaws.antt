@@ -18,13 +18,14 @@ use Rattle.said.specs.Job.{regionsOnly}
 use Rattle.walk.specs.Inner.{AxesRead}
 use Rattle.values.specs.Lent.{slotIn, Holds}
 use Rattle.walk.specs.Lent.{FirstsOf, Room, SetsHeld, SetsRead}
+use Rattle.limits.specs.Limits.{mostRecords}
 use Rattle.job.specs.Lent.{tablesAt, Prepared, JobHeld, JobRead}
 use Rattle.said.specs.Refusals.{publishedWork}
 use Rattle.said.proofs.RegionLaws.{regions-length, like-below}
 use Rattle.values.proofs.HoldLaws.{stamps-none}
 use Rattle.said.proofs.GoodLaws.{good-start}
 
-module _ (axes regions records : ℕ) (job old mid new : List ℕ) (few : records ≤ 1048576) (room : 16 * records ≤ length old)
+module _ (axes regions records : ℕ) (job old mid new : List ℕ) (few : records ≤ mostRecords) (room : 16 * records ≤ length old)
     (small : regions * (6 * axes) ≤ 6 * records) (fits : regions ≤ records)
     (f : FirstsOf (5 * records) (5 * records + (3 * regions + regions * (6 * axes))) axes regions job old mid)
     (z : Zeroed (5 * records) (2 * regions) mid new) where

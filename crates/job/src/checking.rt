@@ -3,6 +3,7 @@ use crate::early::clear;
 use crate::early::early_no;
 use crate::whole::read_job;
 use laws::wide;
+use records::records_in;
 ghost use mathlib.Core.Path.{_≡_};
 ghost use lib.ListN.{length};
 ghost use Rattle.said.specs.Job.{outcome};
@@ -24,7 +25,7 @@ pub fn check(axes: u32, mode: u32, job: &[u8], work: &mut [u32], pairs: usize) -
         return Checked::Refused(no, 0);
     }
     let a = wide(axes);
-    let r = read_job(job, a, mode, job.len() / 12, work);
+    let r = read_job(job, a, mode, records_in(job.len()), work);
     clear(work);
     if r.no != 0 {
         return Checked::Refused(r.no, r.at);

@@ -1,27 +1,32 @@
 // What is tested before the first record, the published number of words of work, and the clearing of work.
+use limits::Limits;
+use records::are_records;
+use records::records_in;
+use said::Refusal;
 ghost use mathlib.Core.Path.{_≡_};
 ghost use mathlib.Core.List.{List};
 ghost use Prim.Native.Nat.{ℕ, _<_, _≤_};
 ghost use lib.ListN.{length, replicate};
 ghost use Rattle.said.specs.Refusals.{publishedWork, workWords, earlyNo};
 ghost use Rattle.said.specs.Open.{Open};
+ghost use Rattle.limits.specs.Limits.{mostRecords};
 
 // The words of work that a job of so many records needs.
 fn needed(records: usize) -> usize
-    requires { ⌜ records ≤ 1048576 ⌝ }
+    requires { ⌜ records ≤ mostRecords ⌝ }
     ensures { λ r. ⌜ r ≡ publishedWork records ⌝ }
 {
-    if records < 1024 {
+    if records < Limits::SHAPES {
         return 16 * records + records * records;
     }
-    16 * records + 1048576
+    16 * records + Limits::SHAPES * Limits::SHAPES
 }
 
 // The published number for so many records; 0 above the record limit.
 pub fn work_words(records: usize) -> usize
     ensures { λ r. ⌜ r ≡ workWords records ⌝ }
 {
-    if 1048576 < records {
+    if Limits::RECORDS < records {
         return 0;
     }
     needed(records)
@@ -33,26 +38,26 @@ pub fn early_no(axes: u32, mode: u32, bytes: usize, work: usize, pairs: usize) -
     ensures { λ r. ⌜ (r ≡ 0 → Open axes mode bytes work pairs) ⌝ }
 {
     if axes == 0 {
-        return 1;
+        return Refusal::BAD_AXES;
     }
-    if 64 < axes {
-        return 1;
+    if Limits::AXES < axes {
+        return Refusal::BAD_AXES;
     }
     if 1 < mode {
-        return 2;
+        return Refusal::BAD_MODE;
     }
-    if bytes % 12 != 0 {
-        return 3;
+    if !are_records(bytes) {
+        return Refusal::BAD_JOB_LENGTH;
     }
-    let records = bytes / 12;
-    if 1048576 < records {
-        return 3;
+    let records = records_in(bytes);
+    if Limits::RECORDS < records {
+        return Refusal::BAD_JOB_LENGTH;
     }
     if work < needed(records) {
-        return 4;
+        return Refusal::WORK_SHORT;
     }
-    if pairs < 1048576 {
-        return 4;
+    if pairs < Limits::PAIRS {
+        return Refusal::WORK_SHORT;
     }
     0
 }

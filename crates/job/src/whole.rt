@@ -7,9 +7,11 @@ use walk::read_sets;
 ghost use mathlib.Core.Path.{_≡_};
 ghost use Prim.Native.Nat.{ℕ, _+_, _*_, _/_, _%_, _<_, _≤_};
 ghost use lib.ListN.{length};
+ghost use Rattle.said.specs.Records.{recordStart, regionLong};
 ghost use Rattle.said.specs.Sets.{regionList};
 ghost use Rattle.said.specs.Job.{regionsOnly};
 ghost use Rattle.values.specs.Lent.{Holds};
+ghost use Rattle.limits.specs.Limits.{mostRecords, mostAxes};
 ghost use Rattle.job.specs.Lent.{Prepared, tablesAt, JobRead};
 
 // A refusal number with its place, or 0 and the counts.
@@ -24,7 +26,7 @@ pub struct JobEnd {
 
 // The tables before the first set, where the axis records of so many regions are read.
 fn prepare(job: &[u8], axes: usize, regions: usize, records: usize, work: &mut [u32])
-    requires { ⌜ (regions * (12 * axes) ≤ length (now job)) × (0 < axes) × (axes ≤ 64) × (records ≤ 1048576) ⌝ }
+    requires { ⌜ (regions * regionLong axes ≤ length (now job)) × (0 < axes) × (axes ≤ mostAxes) × (records ≤ mostRecords) ⌝ }
     requires { ⌜ (16 * records ≤ length (now work)) × (regions * (6 * axes) ≤ 6 * records) × (regions ≤ records) ⌝ }
     ensures { λ _. ⌜ Prepared axes regions records (now (job .entry)) (now (work .entry)) (now (work .exit)) ⌝ }
 {
@@ -34,7 +36,7 @@ fn prepare(job: &[u8], axes: usize, regions: usize, records: usize, work: &mut [
 
 // Where the tables stand for a job of so many records.
 fn tables_at(records: usize, axes: usize, regions: usize) -> Tables
-    requires { ⌜ (records ≤ 1048576) × (axes ≤ 64) × (regions * (6 * axes) ≤ 6 * records) × (regions ≤ records) ⌝ }
+    requires { ⌜ (records ≤ mostRecords) × (axes ≤ mostAxes) × (regions * (6 * axes) ≤ 6 * records) × (regions ≤ records) ⌝ }
     ensures { λ r. ⌜ r ≡ tablesAt records axes regions ⌝ }
 {
     Tables {
@@ -50,7 +52,7 @@ fn tables_at(records: usize, axes: usize, regions: usize) -> Tables
 
 // Reads a job's records: the earliest bad one answers, or work holds its sets.
 pub fn read_job(job: &[u8], axes: usize, mode: u32, records: usize, work: &mut [u32]) -> JobEnd
-    requires { ⌜ (12 * records ≤ length (now job)) × (0 < axes) × (axes ≤ 64) × (records ≤ 1048576) × (16 * records ≤ length (now work)) ⌝ }
+    requires { ⌜ (recordStart records ≤ length (now job)) × (0 < axes) × (axes ≤ mostAxes) × (records ≤ mostRecords) × (16 * records ≤ length (now work)) ⌝ }
     ensures { λ r. ⌜ JobRead axes mode (now (job .entry)) records (now (work .entry)) (now (work .exit)) (r .no) (r .at) (r .regions) (r .sets) (r .values) (r .uses) ⌝ }
 {
     let a = axes_end(job, axes, records);

@@ -13,6 +13,7 @@ ghost use Prim.Native.Nat.{_-_, _*_, _≤_, _<_};
 ghost use lib.Dec.{ltb};
 ghost use lib.ListN.{length};
 ghost use Rattle.waits.specs.Waits.{room};
+ghost use Rattle.limits.specs.Limits.{maxShapes};
 ghost use Rattle.merging.specs.Held.{Joinable, JoinedAt, SomeStanding, Turned, Tidied, Ran};
 
 // How many pairs wait, were weighed and were joined, and what the groups cost together.
@@ -71,7 +72,7 @@ pub fn turn(pairs: &mut [Pair], work: &mut [u32], t: Tables, s: Progress) -> Pro
 
 // Whether more pairs wait than twice those of the living groups: then half of them and more are of dead ones.
 pub fn crowded(t: Tables, s: Progress) -> bool
-    requires { ⌜ t .groups ≤ 1024 ⌝ }
+    requires { ⌜ t .groups ≤ maxShapes ⌝ }
     requires { ⌜ s .merges ≤ t .groups ⌝ }
     ensures { λ r. ⌜ r ≡ ltb ((t .groups - s .merges) * (t .groups - s .merges)) (s .waiting) ⌝ }
 {

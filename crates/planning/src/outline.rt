@@ -7,6 +7,7 @@ ghost use mathlib.Core.Path.{_≡_};
 ghost use Prim.Native.Nat.{ℕ, _+_, _*_, _≤_, _<_};
 ghost use lib.ListN.{length};
 ghost use Rattle.store.specs.Lent.{Drafted, Handed, Small};
+ghost use Rattle.limits.specs.Limits.{mostAxes, maxRegions, maxShapes};
 
 pub struct Plan {
     pub bytes: usize,
@@ -25,9 +26,9 @@ pub fn draft(
     marks: &mut [u32],
     numbers: &mut [u32],
 ) -> Plan
-    requires { ⌜ axes ≤ 64 ⌝ }
-    requires { ⌜ regions ≤ 256 ⌝ }
-    requires { ⌜ count ≤ 1024 ⌝ }
+    requires { ⌜ axes ≤ mostAxes ⌝ }
+    requires { ⌜ regions ≤ maxRegions ⌝ }
+    requires { ⌜ count ≤ maxShapes ⌝ }
     requires { ⌜ groups + 3 * count ≤ length (now work) ⌝ }
     requires { ⌜ ((g : ℕ) → g < count → Handed regions index (now work) (groups + 3 * g)) ⌝ }
     requires { ⌜ ((g : ℕ) → g < count → Small (now work) (groups + 3 * g)) ⌝ }

@@ -7,10 +7,11 @@ ghost use lib.ListN.{length};
 ghost use Rattle.shapes.specs.Lent.{Narrow};
 ghost use Rattle.store.specs.Placing.{forecastOf, modelOf};
 ghost use Rattle.store.specs.Lent.{Handed, Small, finalAt, finalsAt};
+ghost use Rattle.limits.specs.Limits.{mostAxes, maxRegions, maxShapes};
 
 // The model's cost of the group whose three words stand at group; 4 for one without sets, which is a null subtable.
 fn model(work: &[u32], regions: usize, group: usize, index: usize) -> u64
-    requires { ⌜ regions ≤ 256 ⌝ }
+    requires { ⌜ regions ≤ maxRegions ⌝ }
     requires { ⌜ Handed regions index (now work) group ⌝ }
     requires { ⌜ Small (now work) group ⌝ }
     requires { ⌜ Narrow (finalAt regions (now work) group .shape) ⌝ }
@@ -35,10 +36,10 @@ pub fn forecast(
     count: usize,
     index: usize,
 ) -> u64
-    requires { ⌜ axes ≤ 64 ⌝ }
-    requires { ⌜ kept ≤ 256 ⌝ }
-    requires { ⌜ regions ≤ 256 ⌝ }
-    requires { ⌜ count ≤ 1024 ⌝ }
+    requires { ⌜ axes ≤ mostAxes ⌝ }
+    requires { ⌜ kept ≤ maxRegions ⌝ }
+    requires { ⌜ regions ≤ maxRegions ⌝ }
+    requires { ⌜ count ≤ maxShapes ⌝ }
     requires { ⌜ groups + 3 * count ≤ length (now work) ⌝ }
     requires { ⌜ ((g : ℕ) → g < count → Handed regions index (now work) (groups + 3 * g)) ⌝ }
     requires { ⌜ ((g : ℕ) → g < count → Small (now work) (groups + 3 * g)) ⌝ }

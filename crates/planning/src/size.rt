@@ -1,4 +1,5 @@
 // How many bytes the subtables take, worked out without writing.
+use limits::Limits;
 use reader::column_at;
 use rows::Form;
 use rows::columns;
@@ -9,9 +10,7 @@ ghost use mathlib.Core.Path.{_≡_};
 ghost use Prim.Native.Nat.{ℕ, _+_, _*_, _≤_, _<_};
 ghost use lib.ListN.{length};
 ghost use Rattle.store.specs.Lent.{FormOf, Handed, Small, Summed, finalAt, groupSizes, runSizes, sizesAt};
-
-// The most regions of a store.
-const REGIONS: usize = 256;
+ghost use Rattle.limits.specs.Limits.{mostRecords, maxRegions, maxShapes};
 
 // How many bytes, and in how many subtables.
 pub struct Sum {
@@ -23,7 +22,7 @@ pub struct Sum {
 fn size_runs(n: usize, row: usize, count: usize) -> Sum
     requires { ⌜ n < 65536 ⌝ }
     requires { ⌜ row < 262144 ⌝ }
-    requires { ⌜ count ≤ 1048576 ⌝ }
+    requires { ⌜ count ≤ mostRecords ⌝ }
     ensures { λ r. ⌜ Summed (runSizes n row count) (r .bytes) (r .runs) ⌝ }
     ensures { λ r. ⌜ (r .bytes ≤ 584115552256) × (r .runs ≤ 17) ⌝ }
 {
@@ -39,18 +38,18 @@ fn size_runs(n: usize, row: usize, count: usize) -> Sum
 
 // The form of a group's rows.
 pub fn form_of(work: &[u32], regions: usize, group: usize, index: usize) -> Form
-    requires { ⌜ regions ≤ 256 ⌝ }
+    requires { ⌜ regions ≤ maxRegions ⌝ }
     requires { ⌜ Handed regions index (now work) group ⌝ }
     ensures { λ r. ⌜ FormOf (finalAt regions (now (work .entry)) group) (r .word) (r .count) ⌝ }
 {
     let shape = work[group] as usize;
-    let mut cols = [0u32; REGIONS];
+    let mut cols = [0u32; Limits::REGIONS];
     columns(&work[shape..shape + regions], &mut cols)
 }
 
 // Of one group.
 fn size_group(work: &[u32], regions: usize, group: usize, index: usize) -> Sum
-    requires { ⌜ regions ≤ 256 ⌝ }
+    requires { ⌜ regions ≤ maxRegions ⌝ }
     requires { ⌜ Handed regions index (now work) group ⌝ }
     requires { ⌜ Small (now work) group ⌝ }
     ensures { λ r. ⌜ Summed (groupSizes (finalAt regions (now (work .entry)) group)) (r .bytes) (r .runs) ⌝ }
@@ -65,8 +64,8 @@ fn size_group(work: &[u32], regions: usize, group: usize, index: usize) -> Sum
 
 // Of count groups.
 pub fn size_groups(work: &[u32], regions: usize, groups: usize, count: usize, index: usize) -> Sum
-    requires { ⌜ regions ≤ 256 ⌝ }
-    requires { ⌜ count ≤ 1024 ⌝ }
+    requires { ⌜ regions ≤ maxRegions ⌝ }
+    requires { ⌜ count ≤ maxShapes ⌝ }
     requires { ⌜ groups + 3 * count ≤ length (now work) ⌝ }
     requires { ⌜ ((g : ℕ) → g < count → Handed regions index (now work) (groups + 3 * g)) ⌝ }
     requires { ⌜ ((g : ℕ) → g < count → Small (now work) (groups + 3 * g)) ⌝ }

@@ -103,20 +103,30 @@ abbrev pub inColumn : List ℕ → ℕ → ℕ → Column → Reading
 inColumn s at inner Missing = NoColumn
 inColumn s at inner (At j) = Written (cell s at inner j)
 
+-- the numbers of its refusals
+abbrev pub badStore : ℕ
+badStore = 20
+
+abbrev pub noRow : ℕ
+noRow = 21
+
+abbrev pub noRegion : ℕ
+noRegion = 22
+
 -- "20 BAD_STORE .. 21 NO_ROW: outer or inner too large, or a null subtable. 22 NO_REGION. Header and list are tested first, then outer, the
 -- subtable, inner, the region."
 unfoldable pub readSubtable : List ℕ → ℕ → ℕ → ℕ → Reading
 readSubtable s at inner region =
-    pick (eqb at 0) (Refused 21)
-    (pick (not (subtableOk s at (regionCount s))) (Refused 20)
-    (pick (leb (itemCount s at) inner) (Refused 21)
-    (pick (leb (regionCount s) region) (Refused 22)
+    pick (eqb at 0) (Refused noRow)
+    (pick (not (subtableOk s at (regionCount s))) (Refused badStore)
+    (pick (leb (itemCount s at) inner) (Refused noRow)
+    (pick (leb (regionCount s) region) (Refused noRegion)
     (inColumn s at inner (find region 0 (regionsAt s at))))))
 
 unfoldable pub readStore : List ℕ → ℕ → ℕ → ℕ → Reading
 readStore s outer inner region =
-    pick (not (headerOk s)) (Refused 20)
-    (pick (leb (be 2 s 6) outer) (Refused 21)
+    pick (not (headerOk s)) (Refused badStore)
+    (pick (leb (be 2 s 6) outer) (Refused noRow)
     (readSubtable s (be 4 s (8 + 4 * outer)) inner region))
 
 -- Document 01's number of an answer, 0 where nothing is refused, and its value: NoColumn means zero.

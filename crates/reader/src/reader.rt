@@ -16,6 +16,15 @@ pub enum Reading {
     Refused(u8),
 }
 
+impl Reading {
+    // The numbers of its refusals.
+    pub const BAD_STORE: u8 = 20;
+
+    pub const NO_ROW: u8 = 21;
+
+    pub const NO_REGION: u8 = 22;
+}
+
 pub fn header_ok(s: &[u8]) -> bool
     ensures { λ r. ⌜ r ≡ headerOk (now (s .entry)) ⌝ }
 {
@@ -134,18 +143,18 @@ fn read_subtable(s: &[u8], at: usize, inner: usize, region: usize) -> Reading
     ensures { λ r. ⌜ r ≡ readSubtable (now (s .entry)) at inner region ⌝ }
 {
     if at == 0 {
-        return Reading::Refused(21);
+        return Reading::Refused(Reading::NO_ROW);
     }
     let list = be(s, 2, 4);
     let regions = be(s, list + 2, 2);
     if !subtable_ok(s, at, regions) {
-        return Reading::Refused(20);
+        return Reading::Refused(Reading::BAD_STORE);
     }
     if be(s, at, 2) <= inner {
-        return Reading::Refused(21);
+        return Reading::Refused(Reading::NO_ROW);
     }
     if regions <= region {
-        return Reading::Refused(22);
+        return Reading::Refused(Reading::NO_REGION);
     }
     let n = be(s, at + 4, 2);
     let Column::At(j) = find(s, at + 6, n, region) else {
@@ -163,11 +172,11 @@ pub fn read(store: &[u8], outer: u32, inner: u32, region: u32) -> Reading
     ensures { λ r. ⌜ r ≡ readStore (now (store .entry)) outer inner region ⌝ }
 {
     if !header_ok(store) {
-        return Reading::Refused(20);
+        return Reading::Refused(Reading::BAD_STORE);
     }
     let o = outer as usize;
     if be(store, 6, 2) <= o {
-        return Reading::Refused(21);
+        return Reading::Refused(Reading::NO_ROW);
     }
     let at = be(store, 8 + 4 * o, 4);
     read_subtable(store, at, inner as usize, region as usize)

@@ -1,13 +1,33 @@
-// One record, by the bytes from its first one on: its zero bytes, its numbers, its refusal. The one file of code that knows the layout.
+// The records of a job; no other code knows their layout. Below: one record, by the bytes from its first one on, its zero bytes, its numbers,
+// its refusal.
+mod nth;
+mod places;
+
+pub use crate::nth::Kind;
+pub use crate::nth::axis_at;
+pub use crate::nth::end_at;
+pub use crate::nth::fine_at;
+pub use crate::nth::kind_at;
+pub use crate::nth::region_at;
+pub use crate::nth::word_at;
+pub use crate::places::COORDS_LONG;
+pub use crate::places::are_records;
+pub use crate::places::axis_coords;
+pub use crate::places::coordinate;
+pub use crate::places::coords_start;
+pub use crate::places::records_in;
+pub use crate::places::region_long;
+use limits::Limits;
+use said::Refusal;
 ghost use mathlib.Core.Path.{_≡_};
 ghost use Prim.Native.Nat.{ℕ, _+_, _<_, _≤_};
 ghost use lib.ListN.{length, getD};
 ghost use Rattle.laws.specs.Bytes.{be};
-ghost use Rattle.said.specs.Records.{zeros, valueZeros, valueWord};
+ghost use Rattle.said.specs.Records.{recordBytes, zeros, regionOf, valueZeros, valueWord};
 ghost use Rattle.said.specs.Refusals.{axisNo, endNo};
 
 // A byte as an index, and as a word.
-pub fn byte_wide(b: u8) -> usize
+fn byte_wide(b: u8) -> usize
     ensures { λ r. ⌜ r ≡ b ⌝ }
 {
     b as usize
@@ -35,7 +55,7 @@ fn zero_bytes(rec: &[u8], p: usize, n: usize) -> bool
 }
 
 // The number of the two bytes from p on.
-pub fn two_bytes(rec: &[u8], p: usize) -> u32
+fn two_bytes(rec: &[u8], p: usize) -> u32
     requires { ⌜ p + 2 ≤ length (now rec) ⌝ }
     ensures { λ r. ⌜ r ≡ be 2 (now (rec .entry)) p ⌝ }
     ensures { λ r. ⌜ r < 65536 ⌝ }
@@ -44,8 +64,8 @@ pub fn two_bytes(rec: &[u8], p: usize) -> u32
 }
 
 // The word of a value record's value: two's complement with the sign bit turned.
-pub fn value_word(rec: &[u8]) -> u32
-    requires { ⌜ 12 ≤ length (now rec) ⌝ }
+fn value_word(rec: &[u8]) -> u32
+    requires { ⌜ recordBytes ≤ length (now rec) ⌝ }
     ensures { λ r. ⌜ r ≡ valueWord (now (rec .entry)) ⌝ }
 {
     let x = two_bytes(rec, 4) * 65536 + two_bytes(rec, 6);
@@ -56,28 +76,36 @@ pub fn value_word(rec: &[u8]) -> u32
 }
 
 // The refusal number of an axis record, the i-th.
-pub fn axis_no(rec: &[u8], axes: usize, i: usize) -> usize
-    requires { ⌜ (0 < axes) × (12 ≤ length (now rec)) ⌝ }
+fn axis_no(rec: &[u8], axes: usize, i: usize) -> usize
+    requires { ⌜ (0 < axes) × (recordBytes ≤ length (now rec)) ⌝ }
     ensures { λ r. ⌜ r ≡ axisNo axes (now (rec .entry)) i ⌝ }
 {
-    if byte_wide(rec[1]) != i / axes {
-        return 5;
+    if region_of(rec) != i / axes {
+        return Refusal::BAD_RECORD;
     }
     if byte_wide(rec[2]) != i % axes {
-        return 5;
+        return Refusal::BAD_RECORD;
     }
     if !zero_bytes(rec, 3, 1) {
-        return 5;
+        return Refusal::BAD_RECORD;
     }
     if !zero_bytes(rec, 10, 2) {
-        return 5;
+        return Refusal::BAD_RECORD;
     }
     0
 }
 
+// The region that a value record names.
+fn region_of(rec: &[u8]) -> usize
+    requires { ⌜ recordBytes ≤ length (now rec) ⌝ }
+    ensures { λ r. ⌜ r ≡ regionOf (now (rec .entry)) ⌝ }
+{
+    byte_wide(rec[1])
+}
+
 // The zero bytes of a value record are zero.
-pub fn value_fine(rec: &[u8]) -> bool
-    requires { ⌜ 12 ≤ length (now rec) ⌝ }
+fn value_fine(rec: &[u8]) -> bool
+    requires { ⌜ recordBytes ≤ length (now rec) ⌝ }
     ensures { λ r. ⌜ r ≡ valueZeros (now (rec .entry)) ⌝ }
 {
     if !zero_bytes(rec, 2, 2) {
@@ -87,16 +115,16 @@ pub fn value_fine(rec: &[u8]) -> bool
 }
 
 // The refusal number of an end record after so many others.
-pub fn end_no(rec: &[u8], mode: u32, sets: usize) -> usize
-    requires { ⌜ 12 ≤ length (now rec) ⌝ }
+fn end_no(rec: &[u8], mode: u32, sets: usize) -> usize
+    requires { ⌜ recordBytes ≤ length (now rec) ⌝ }
     ensures { λ r. ⌜ r ≡ endNo mode (now (rec .entry)) sets ⌝ }
 {
     if !zero_bytes(rec, 1, 11) {
-        return 5;
+        return Refusal::BAD_RECORD;
     }
     if mode == 1 {
-        if sets == 65535 {
-            return 9;
+        if sets == Limits::ITEMS {
+            return Refusal::SETS_FULL;
         }
     }
     0

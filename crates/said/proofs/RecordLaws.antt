@@ -10,8 +10,9 @@ use borrow.Author.Tests.{eq-eqb, ne-eqb, lt-ltb, le-ltb}
 use Rattle.laws.specs.Bytes.{be}
 use Rattle.laws.specs.Signed.{word, signed, zeroWord}
 use Rattle.laws.proofs.SignedLaws.{value-twos, word-value}
+use Rattle.limits.specs.Limits.{maxItems}
 use Rattle.said.specs.Records.{zeros, regionOf, axisOf, axisZeros, valueZeros, endZeros, valueWord}
-use Rattle.said.specs.Refusals.{firstFailed, axisNo, valueNo, endNo}
+use Rattle.said.specs.Refusals.{badRecord, unknownRegion, regionTwice, setsFull, firstFailed, axisNo, valueNo, endNo}
 
 pub be-two : (s : List ℕ) (p : ℕ) → be 2 s p ≡ getD s p 0 * 256 + getD s (p + 1) 0
 unfolding be
@@ -35,21 +36,21 @@ word-high r x e l h = rw (← e, turned x (omega arith)) (omega arith)
 -- ---- tests
 
 module _ (axes : ℕ) (r : List ℕ) (i : ℕ) where
-  pub axis-region : (regionOf r ≡ i / axes → ⊥) → 5 ≡ axisNo axes r i
+  pub axis-region : (regionOf r ≡ i / axes → ⊥) → badRecord ≡ axisNo axes r i
   unfolding axisNo firstFailed
   axis-region n = rw (ne-eqb (regionOf r) (i / axes) n)
 
   module _ (a : regionOf r ≡ i / axes) where
-    pub axis-axis : (axisOf r ≡ i % axes → ⊥) → 5 ≡ axisNo axes r i
+    pub axis-axis : (axisOf r ≡ i % axes → ⊥) → badRecord ≡ axisNo axes r i
     unfolding axisNo firstFailed
     axis-axis n = rw (eq-eqb (regionOf r) (i / axes) a, ne-eqb (axisOf r) (i % axes) n)
 
     module _ (b : axisOf r ≡ i % axes) where
-      pub axis-three : zeros r 3 1 ≡ false → 5 ≡ axisNo axes r i
+      pub axis-three : zeros r 3 1 ≡ false → badRecord ≡ axisNo axes r i
       unfolding axisNo firstFailed axisZeros
       axis-three c = rw (eq-eqb (regionOf r) (i / axes) a, eq-eqb (axisOf r) (i % axes) b, c)
 
-      pub axis-ten : zeros r 3 1 ≡ true → zeros r 10 2 ≡ false → 5 ≡ axisNo axes r i
+      pub axis-ten : zeros r 3 1 ≡ true → zeros r 10 2 ≡ false → badRecord ≡ axisNo axes r i
       unfolding axisNo firstFailed axisZeros
       axis-ten c d = rw (eq-eqb (regionOf r) (i / axes) a, eq-eqb (axisOf r) (i % axes) b, c, d)
 
@@ -58,32 +59,32 @@ module _ (axes : ℕ) (r : List ℕ) (i : ℕ) where
       axis-passed c d = rw (eq-eqb (regionOf r) (i / axes) a, eq-eqb (axisOf r) (i % axes) b, c, d)
 
 module _ (mode : ℕ) (r : List ℕ) (sets : ℕ) where
-  pub end-bad : zeros r 1 11 ≡ false → 5 ≡ endNo mode r sets
+  pub end-bad : zeros r 1 11 ≡ false → badRecord ≡ endNo mode r sets
   unfolding endNo firstFailed endZeros
   end-bad z = rw z
 
-  pub end-full : zeros r 1 11 ≡ true → mode ≡ 1 → sets ≡ 65535 → 9 ≡ endNo mode r sets
+  pub end-full : zeros r 1 11 ≡ true → mode ≡ 1 → sets ≡ maxItems → setsFull ≡ endNo mode r sets
   unfolding endNo firstFailed endZeros
-  end-full z m n = rw (z, eq-eqb mode 1 m, eq-eqb sets 65535 n)
+  end-full z m n = rw (z, eq-eqb mode 1 m, eq-eqb sets maxItems n)
 
-  pub end-few : zeros r 1 11 ≡ true → mode ≡ 1 → (sets ≡ 65535 → ⊥) → 0 ≡ endNo mode r sets
+  pub end-few : zeros r 1 11 ≡ true → mode ≡ 1 → (sets ≡ maxItems → ⊥) → 0 ≡ endNo mode r sets
   unfolding endNo firstFailed endZeros
-  end-few z m n = rw (z, eq-eqb mode 1 m, ne-eqb sets 65535 n)
+  end-few z m n = rw (z, eq-eqb mode 1 m, ne-eqb sets maxItems n)
 
   pub end-free : zeros r 1 11 ≡ true → (mode ≡ 1 → ⊥) → 0 ≡ endNo mode r sets
   unfolding endNo firstFailed endZeros
   end-free z m = rw (z, ne-eqb mode 1 m)
 
 module _ (r : List ℕ) (regions : ℕ) (named : Bool) where
-  pub value-bad : valueZeros r ≡ false → 5 ≡ valueNo r regions named
+  pub value-bad : valueZeros r ≡ false → badRecord ≡ valueNo r regions named
   unfolding valueNo firstFailed
   value-bad z = rw z
 
-  pub value-unknown : valueZeros r ≡ true → regions ≤ regionOf r → 6 ≡ valueNo r regions named
+  pub value-unknown : valueZeros r ≡ true → regions ≤ regionOf r → unknownRegion ≡ valueNo r regions named
   unfolding valueNo firstFailed
   value-unknown z h = rw (z, le-ltb (regionOf r) regions h)
 
-  pub value-twice : valueZeros r ≡ true → regionOf r < regions → named ≡ true → 7 ≡ valueNo r regions named
+  pub value-twice : valueZeros r ≡ true → regionOf r < regions → named ≡ true → regionTwice ≡ valueNo r regions named
   unfolding valueNo firstFailed
   value-twice z h n = rw (z, lt-ltb (regionOf r) regions h, n)
 

@@ -11,6 +11,7 @@ use borrow.Author.Tests.{eq-eqb}
 use Rattle.laws.specs.Bytes.{be}
 use Rattle.laws.proofs.BytesLaws.{be-drop}
 use Rattle.laws.proofs.Products.{row-next}
+use Rattle.said.specs.Records.{recordBytes, afterRecord, regionLong, afterRegion, regionFrom, coordPlace}
 use Rattle.said.specs.Sets.{Region, coordinates, regionList, sameRegion, like}
 use Rattle.laws.proofs.Cases.{Which, which}
 use Rattle.laws.proofs.Cases.Which.{holds, fails}
@@ -20,33 +21,33 @@ use Rattle.laws.proofs.Cases.Which.{holds, fails}
 pub coords-length : (n : ℕ) (rest : List ℕ) → length (coordinates n rest) ≡ 3 * n
 unfolding coordinates
 coords-length zero rest = refl
-coords-length (suc n) rest = omega (arith, coords-length n (drop 12 rest))
+coords-length (suc n) rest = omega (arith, coords-length n (afterRecord rest))
 
-pub coords-at : (n : ℕ) (rest : List ℕ) (k : ℕ) → k < 3 * n → getD (coordinates n rest) k 0 ≡ be 2 rest (12 * (k / 3) + (4 + 2 * (k % 3)))
+pub coords-at : (n : ℕ) (rest : List ℕ) (k : ℕ) → k < 3 * n → getD (coordinates n rest) k 0 ≡ be 2 rest (coordPlace k)
 unfolding coordinates
 coords-at zero rest k h = absurd (omega arith)
 coords-at (suc n) rest zero h = refl
 coords-at (suc n) rest (suc zero) h = refl
 coords-at (suc n) rest (suc (suc zero)) h = refl
 coords-at (suc n) rest (suc (suc (suc k))) h =
-    let e : 12 + (12 * (k / 3) + (4 + 2 * (k % 3))) ≡ 12 * (suc (suc (suc k)) / 3) + (4 + 2 * (suc (suc (suc k)) % 3)) = omega arith in
-    coords-at n (drop 12 rest) k (omega arith) ∙ be-drop 2 12 rest (12 * (k / 3) + (4 + 2 * (k % 3))) ∙ ap (λ (q : ℕ). be 2 rest q) e
+    let e : recordBytes + coordPlace k ≡ coordPlace (suc (suc (suc k))) = omega arith in
+    coords-at n (afterRecord rest) k (omega arith) ∙ be-drop 2 recordBytes rest (coordPlace k) ∙ ap (λ (q : ℕ). be 2 rest q) e
 
 -- ---- the regions of a job
 
 pub regions-length : (axes n : ℕ) (job : List ℕ) → length (regionList axes n job) ≡ n
 unfolding regionList
 regions-length axes zero job = refl
-regions-length axes (suc n) job = ap suc (regions-length axes n (drop (12 * axes) job))
+regions-length axes (suc n) job = ap suc (regions-length axes n (afterRegion axes job))
 
-pub regions-at : (axes n : ℕ) (job : List ℕ) (x : ℕ) → x < n → getD (regionList axes n job) x [] ≡ coordinates axes (drop (x * (12 * axes)) job)
+pub regions-at : (axes n : ℕ) (job : List ℕ) (x : ℕ) → x < n → getD (regionList axes n job) x [] ≡ coordinates axes (regionFrom axes job x)
 unfolding regionList
 regions-at axes zero job x h = absurd (omega arith)
-regions-at axes (suc n) job zero h = let e : 0 * (12 * axes) ≡ 0 = omega arith in rw e
+regions-at axes (suc n) job zero h = let e : 0 * regionLong axes ≡ 0 = omega arith in rw e
 regions-at axes (suc n) job (suc x) h =
-    let e : 12 * axes + x * (12 * axes) ≡ suc x * (12 * axes) = (let r = row-next x (12 * axes) in let q : (x + 1) * (12 * axes) ≡ suc x * (12 * axes) = rw add-one in omega arith) in
-    regions-at axes n (drop (12 * axes) job) x (omega arith)
-    ∙ ap (coordinates axes) (drop-drop (x * (12 * axes)) (12 * axes) job ∙ ap (λ (k : ℕ). drop k job) e)
+    let e : regionLong axes + x * regionLong axes ≡ suc x * regionLong axes = (let r = row-next x (regionLong axes) in let q : (x + 1) * regionLong axes ≡ suc x * regionLong axes = rw add-one in omega arith) in
+    regions-at axes n (afterRegion axes job) x (omega arith)
+    ∙ ap (coordinates axes) (drop-drop (x * regionLong axes) (regionLong axes) job ∙ ap (λ (k : ℕ). drop k job) e)
 
 -- ---- the first like each
 

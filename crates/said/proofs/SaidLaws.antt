@@ -16,8 +16,9 @@ use Rattle.laws.proofs.Cases.Which.{holds, fails}
 use Rattle.laws.proofs.EveryLaws.{all-append, two-end}
 use Rattle.laws.proofs.Products.{product, row-fits}
 use Rattle.laws.proofs.Pigeon.{few-below}
-use Rattle.said.specs.Records.{regionOf, valueZeros, valueWord, recordAt}
-use Rattle.said.specs.Refusals.{axisNo, valueNo}
+use Rattle.said.specs.Records.{regionOf, valueZeros, valueWord, recordAt, recordBytes, afterRecord, kind, axisKind, valueKind, endKind}
+use Rattle.said.specs.Refusals.{axisNo, valueNo, badRecord, unfinished, endNo}
+use Rattle.limits.specs.Limits.{maxRegions}
 use Rattle.said.specs.Sets.{regionList, firstLike, has, withUse}
 use Rattle.said.specs.Job.{Said, inAxes, afterValue, afterEnd, regionsOnly, fine, walk}
 use Rattle.said.proofs.RecordLaws.{axis-region, value-bad, value-unknown}
@@ -33,7 +34,7 @@ pub record Counts (axes : ℕ) (job : List ℕ) (records : ℕ) (s : Said) : Typ
   pub used-low : All (λ q. q < length (s .regions)) (s .used)
   pub used-differ : EachTwo (λ x y. x ≡ y → ⊥) (s .used)
   pub used-few : length (s .used) ≤ length (s .regions)
-  pub regions-few : length (s .regions) ≤ 256
+  pub regions-few : length (s .regions) ≤ maxRegions
   pub regions-are : s .regions ≡ regionList axes (length (s .regions)) job
   -- before the first set, and between values, nothing is in use
   pub quiet : length (s .sets) ≡ 0 → s .named ≡ [] → length (s .used) ≡ 0
@@ -91,12 +92,12 @@ value-known r regions named z = go (which (valueZeros r))
 
 module _ (axes : ℕ) (some : 0 < axes) (job : List ℕ) where
   -- no set yet
-  module _ (i : ℕ) (h : i ≤ 256 * axes) (z : i % axes ≡ 0) where
+  module _ (i : ℕ) (h : i ≤ maxRegions * axes) (z : i % axes ≡ 0) where
     whole : i / axes * axes ≡ i
     whole = let a = mod-eq-sub-div-mul i axes in let b = div-mul-le-self i axes in omega arith
 
-    most : i / axes ≤ 256
-    most = le-of-mul-le-mul-right {m = i / axes} {n = 256} {k = axes} (let b = div-mul-le-self i axes in omega arith) some
+    most : i / axes ≤ maxRegions
+    most = le-of-mul-le-mul-right {m = i / axes} {n = maxRegions} {k = axes} (let b = div-mul-le-self i axes in omega arith) some
 
     begin : Counts axes job i (regionsOnly (regionList axes (i / axes) job))
     unfolding regionsOnly
@@ -144,11 +145,11 @@ module _ (axes : ℕ) (some : 0 < axes) (job : List ℕ) where
       quiet = λ e _. absurd (omega (arith, length-append (s .sets) (s .begun ∷ [])));
     }
 
-  axis-more : (r : List ℕ) (i : ℕ) → getD r 1 0 < 256 → axisNo axes r i ≡ 0 → suc i ≤ 256 * axes
+  axis-more : (r : List ℕ) (i : ℕ) → getD r 1 0 < 256 → axisNo axes r i ≡ 0 → suc i ≤ maxRegions * axes
   axis-more r i b z =
       let e = axis-is axes r i z in
       let l = lt-div-mul-add {a = i} {b = axes} some in
-      let f = row-fits axes 256 (i / axes) (omega arith) in
+      let f = row-fits axes maxRegions (i / axes) (omega arith) in
       omega arith
 
 ends : (axes mode : ℕ) (job : List ℕ) (records : ℕ) (s : Said) → 0 < axes → ((k : ℕ) → getD job k 0 < 256)
@@ -180,7 +181,7 @@ no-use axes mode job records s some bytes e z =
 pub room-of : (axes : ℕ) (job : List ℕ) (records : ℕ) (s : Said) → 0 < axes → Counts axes job records s
     → (length (s .sets) + length (s .used) ≤ records)
     × (0 < length (s .used) → length (s .sets) + length (s .used) + 1 ≤ records)
-    × (length (s .used) ≤ 256)
+    × (length (s .used) ≤ maxRegions)
 room-of axes job records s some c =
     let rows : length (s .regions) * 1 ≤ length (s .regions) * axes = product (length (s .regions)) axes (le-refl (length (s .regions))) some in
     let all = c .records-are in

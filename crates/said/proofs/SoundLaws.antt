@@ -18,8 +18,8 @@ use Rattle.laws.proofs.Cases.{Which, which, lt-or-ge, and-true}
 use Rattle.laws.proofs.Cases.Which.{holds, fails}
 use Rattle.laws.proofs.EveryLaws.{all-append, all-imp, all-and}
 use Rattle.sets.specs.Set.{Set}
-use Rattle.said.specs.Records.{recordBytes, mostRecords, mostAxes, regionOf, valueZeros, valueWord, recordAt}
-use Rattle.said.specs.Refusals.{firstFailed, publishedWork, pairRecords, earlyNo, valueNo}
+use Rattle.said.specs.Records.{recordBytes, mostRecords, mostAxes, regionOf, valueZeros, valueWord, recordAt, afterRecord, areRecords, recordsIn, recordCount, regionLong, afterRegion, kind, axisKind, valueKind, endKind}
+use Rattle.said.specs.Refusals.{firstFailed, publishedWork, pairRecords, earlyNo, valueNo, axisNo, endNo}
 use Rattle.said.specs.Sets.{Region, coordinates, regionList, firstLike, has, withUse, indexIn, placed, withValue}
 use Rattle.said.specs.Job.{Said, inAxes, afterValue, afterEnd, regionsOnly, Outcome, fine, walk, outcomeFrom, outcome}
 use Rattle.said.specs.Good.{Good}
@@ -51,7 +51,7 @@ module _ (P : Said → Type 0)
   said-keeps axes mode job records s b e =
       walk-keeps axes mode job (λ i. Unit {0}) (λ i t. P t) (λ i _ _ _. tt)
       (λ i _ _. begins (regionList axes (i / axes) job))
-      (λ i t _ z p. more (recordAt job i) t (bytes-drop (12 * i) job b) z p)
+      (λ i t _ z p. more (recordAt job i) t (bytes-drop (recordBytes * i) job b) z p)
       (λ i t _ p. ends t p)
       records s tt e .0
 
@@ -122,13 +122,13 @@ Coordinates axes c = (length c ≡ 3 * axes) × All (λ x. x < 65536) c
 coords-low : (n : ℕ) (rest : List ℕ) → Bytes rest → All (λ x. x < 65536) (coordinates n rest)
 unfolding coordinates
 coords-low zero rest b = tt
-coords-low (suc n) rest b = (two-low rest 4 b, (two-low rest 6 b, (two-low rest 8 b, coords-low n (drop 12 rest) (bytes-drop 12 rest b))))
+coords-low (suc n) rest b = (two-low rest 4 b, (two-low rest 6 b, (two-low rest 8 b, coords-low n (afterRecord rest) (bytes-drop recordBytes rest b))))
 
 regions-well : (axes n : ℕ) (rest : List ℕ) → Bytes rest → All (Coordinates axes) (regionList axes n rest)
 unfolding regionList
 regions-well axes zero rest b = tt
 regions-well axes (suc n) rest b =
-    ((coords-length axes rest, coords-low axes rest b), regions-well axes n (drop (12 * axes) rest) (bytes-drop (12 * axes) rest b))
+    ((coords-length axes rest, coords-low axes rest b), regions-well axes n (afterRegion axes rest) (bytes-drop (regionLong axes) rest b))
 
 -- ---- each region in use is the first like it, so no two have the same coordinates
 
@@ -209,8 +209,8 @@ unfolding earlyNo
 open-if axes mode bytes work pairs z =
     let axes-test = ltb 0 axes && leb axes mostAxes in
     let mode-test = leb mode 1 in
-    let job-test = eqb (bytes % recordBytes) 0 && leb (bytes / recordBytes) mostRecords in
-    let work-test = leb (publishedWork (bytes / recordBytes)) work in
+    let job-test = areRecords bytes && leb (recordsIn bytes) mostRecords in
+    let work-test = leb (publishedWork (recordsIn bytes)) work in
     let pair-test = leb pairRecords pairs in
     let a = first-passed axes-test 0 ((mode-test, 2) ∷ (job-test, 3) ∷ (work-test, 4) ∷ (pair-test, 4) ∷ []) z in
     let b = first-passed mode-test 1 ((job-test, 3) ∷ (work-test, 4) ∷ (pair-test, 4) ∷ []) (a .1) in
@@ -218,15 +218,15 @@ open-if axes mode bytes work pairs z =
     let d = first-passed work-test 3 ((pair-test, 4) ∷ []) (c .1) in
     let f = first-passed pair-test 3 [] (d .1) in
     let p = and-true (ltb 0 axes) (leb axes mostAxes) (a .0) in
-    let q = and-true (eqb (bytes % recordBytes) 0) (leb (bytes / recordBytes) mostRecords) (c .0) in
+    let q = and-true (areRecords bytes) (leb (recordsIn bytes) mostRecords) (c .0) in
     let m = eqb-true (bytes % recordBytes) 0 (q .0) in
     record {
       some = ltb-true 0 axes (p .0);
       most = leb-true axes mostAxes (p .1);
       mode-known = leb-true mode 1 (b .0);
-      few = leb-true (bytes / recordBytes) mostRecords (q .1);
+      few = leb-true (recordsIn bytes) mostRecords (q .1);
       whole = omega arith;
-      enough = leb-true (publishedWork (bytes / recordBytes)) work (d .0);
+      enough = leb-true (publishedWork (recordsIn bytes)) work (d .0);
       paired = leb-true pairRecords pairs (f .0);
     }
 
@@ -237,8 +237,8 @@ from-fine (suc n) o s e = let z : _≡_ {A = ℕ} 0 1 = cc in absurd (omega arit
 
 -- a job that is taken: no refusal of 1 to 4, and its records say it
 pub fine-walk : (axes mode : ℕ) (job : List ℕ) (work pairs : ℕ) (s : Said) → outcome axes mode job work pairs ≡ fine s
-    → Open axes mode (length job) work pairs × (walk axes mode job job (length job / recordBytes) 0 inAxes ≡ fine s)
+    → Open axes mode (length job) work pairs × (walk axes mode job job (recordCount job) 0 inAxes ≡ fine s)
 unfolding outcome
 fine-walk axes mode job work pairs s e =
-    let f = from-fine (earlyNo axes mode (length job) work pairs) (walk axes mode job job (length job / recordBytes) 0 inAxes) s e in
+    let f = from-fine (earlyNo axes mode (length job) work pairs) (walk axes mode job job (recordCount job) 0 inAxes) s e in
     (open-if axes mode (length job) work pairs (f .0), f .1)

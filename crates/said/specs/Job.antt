@@ -2,11 +2,11 @@
 use mathlib.Core.Bool.{Bool, true, false}
 use mathlib.Core.List.{List, [], _∷_, _++_}
 use Prim.Native.Nat.{ℕ, zero, suc, _+_, _*_, _/_, _%_}
-use lib.ListN.{length, drop}
+use lib.ListN.{length}
 use lib.Dec.{eqb}
 use Rattle.laws.specs.Pick.{pick}
 use Rattle.sets.specs.Set.{Set}
-use Rattle.said.specs.Records.{recordBytes, kind, axisKind, valueKind, endKind, regionOf, valueWord}
+use Rattle.said.specs.Records.{afterRecord, recordCount, kind, axisKind, valueKind, endKind, regionOf, valueWord}
 use Rattle.said.specs.Refusals.{badRecord, unfinished, earlyNo, axisNo, valueNo, endNo}
 use Rattle.said.specs.Sets.{Region, regionList, firstLike, has, withUse, indexIn, withValue}
 
@@ -97,7 +97,7 @@ follow i (on s) go = go s
 unfoldable pub walk : ℕ → ℕ → List ℕ → List ℕ → ℕ → ℕ → State → Outcome
 walk axes mode job rest zero i s = ended axes job i s
 walk axes mode job rest (suc left) i s =
-    follow i (step axes mode job rest i s) (λ s′. walk axes mode job (drop recordBytes rest) left (i + 1) s′)
+    follow i (step axes mode job rest i s) (λ s′. walk axes mode job (afterRecord rest) left (i + 1) s′)
 
 -- "1 to 4 are tested in that order. Then records from the first on"; the place of 1 to 4 is 0
 unfoldable pub outcomeFrom : ℕ → Outcome → Outcome
@@ -107,4 +107,4 @@ outcomeFrom (suc n) o = refused (suc n) 0
 -- of axis count, mode, job, the words of work and the number of pair records
 unfoldable pub outcome : ℕ → ℕ → List ℕ → ℕ → ℕ → Outcome
 outcome axes mode job work pairs =
-    outcomeFrom (earlyNo axes mode (length job) work pairs) (walk axes mode job job (length job / recordBytes) 0 inAxes)
+    outcomeFrom (earlyNo axes mode (length job) work pairs) (walk axes mode job job (recordCount job) 0 inAxes)

@@ -1,23 +1,58 @@
 -- A record of a job. Document 01: "records of 12 bytes, no header. Numbers are big-endian. Byte 0 is the kind." This file alone knows
--- where in a record things stand, and how many of them there may be. Below, `r` are the bytes from a record's first one on.
+-- where in a record things stand, and where in a job a record does. Below, `r` are the bytes from a record's first one on.
 use mathlib.Core.Bool.{Bool, _&&_}
-use mathlib.Core.List.{List}
-use Prim.Native.Nat.{ℕ, _+_, _*_}
-use lib.ListN.{getD, drop}
+use mathlib.Core.List.{List, [], _∷_}
+use Prim.Native.Nat.{ℕ, _+_, _*_, _/_, _%_}
+use lib.ListN.{getD, drop, length}
 use lib.Dec.{eqb}
 use Rattle.laws.specs.Bounded.{allBelow}
 use Rattle.laws.specs.Bytes.{be}
 use Rattle.laws.specs.Signed.{word, signed}
+-- how many records and axes there may be
+pub use Rattle.limits.specs.Limits.{mostRecords, mostAxes}
 
--- "At most 1,048,576 records; 1 to 64 axes."
 abbrev pub recordBytes : ℕ
 recordBytes = 12
 
-abbrev pub mostRecords : ℕ
-mostRecords = 1048576
+-- ---- the records of a job
 
-abbrev pub mostAxes : ℕ
-mostAxes = 64
+-- where record i begins, and so how long i records are
+abbrev pub recordStart : ℕ → ℕ
+recordStart i = recordBytes * i
+
+-- the bytes from record i on
+abbrev pub recordAt : List ℕ → ℕ → List ℕ
+recordAt job i = drop (recordStart i) job
+
+-- where r are the bytes from a record on, those from the next one on
+abbrev pub afterRecord : List ℕ → List ℕ
+afterRecord r = drop recordBytes r
+
+-- how many of so many bytes are left over where the rest are records; none is; how many records they are
+abbrev pub spareBytes : ℕ → ℕ
+spareBytes bytes = bytes % recordBytes
+
+abbrev pub areRecords : ℕ → Bool
+areRecords bytes = eqb (spareBytes bytes) 0
+
+abbrev pub recordsIn : ℕ → ℕ
+recordsIn bytes = bytes / recordBytes
+
+abbrev pub recordCount : List ℕ → ℕ
+recordCount job = recordsIn (length job)
+
+-- the bytes of a region's axis records, one for each axis; where r are the bytes from a region on, those from the next one on
+abbrev pub regionLong : ℕ → ℕ
+regionLong axes = recordBytes * axes
+
+abbrev pub afterRegion : ℕ → List ℕ → List ℕ
+afterRegion axes r = drop (regionLong axes) r
+
+-- the bytes from region x on
+abbrev pub regionFrom : ℕ → List ℕ → ℕ → List ℕ
+regionFrom axes job x = drop (x * regionLong axes) job
+
+-- ---- one record
 
 -- the bytes of a job from record i on
 abbrev pub recordAt : List ℕ → ℕ → List ℕ
@@ -59,6 +94,20 @@ peakOf r = be 2 r 6
 
 abbrev pub endOf : List ℕ → ℕ
 endOf r = be 2 r 8
+
+-- where the k-th coordinate of a region stands, from the region's first byte on: start, peak and end of each axis in turn
+abbrev pub coordPlace : ℕ → ℕ
+coordPlace k = recordBytes * (k / 3) + (4 + 2 * (k % 3))
+
+-- where in a job the coordinates of region x start; from there on, where those of axis a do, and how many bytes these are
+abbrev pub coordsStart : ℕ → ℕ → ℕ
+coordsStart axes x = regionLong axes * x + 4
+
+abbrev pub axisCoords : ℕ → ℕ → ℕ
+axisCoords from a = from + recordBytes * a
+
+abbrev pub coordsLong : ℕ
+coordsLong = 6
 
 -- "2 value: region, 0, 0, signed 32-bit value, four zero bytes"
 unfoldable pub valueZeros : List ℕ → Bool

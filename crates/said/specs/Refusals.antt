@@ -5,7 +5,12 @@ use mathlib.Core.Path.{_≡_}
 use Prim.Native.Nat.{ℕ, zero, suc, _+_, _*_, _/_, _%_, _≤_, _<_, min}
 use lib.Dec.{eqb, ltb, leb}
 use Rattle.laws.specs.Pick.{pick}
-use Rattle.said.specs.Records.{recordBytes, mostRecords, mostAxes, kind, axisKind, regionOf, axisOf, axisZeros, valueZeros, endZeros}
+use Rattle.limits.specs.Limits.{maxShapes, maxItems}
+-- the pair records that are lent beside work: fewer is WORK_SHORT
+pub use Rattle.limits.specs.Limits.{pairRecords}
+use Rattle.said.specs.Records.{recordsIn, areRecords, mostRecords, mostAxes, kind, axisKind, regionOf, axisOf, axisZeros, valueZeros, endZeros}
+
+-- ---- their numbers
 
 abbrev pub badAxes : ℕ
 badAxes = 1
@@ -49,6 +54,8 @@ logShort = 13
 abbrev pub outShort : ℕ
 outShort = 14
 
+-- ---- their tests
+
 -- Tests in their order, each with its number: the number of the first that fails, 0 where all hold.
 unfoldable pub firstFailed : List (Bool × ℕ) → ℕ
 firstFailed [] = 0
@@ -56,11 +63,7 @@ firstFailed (t ∷ l) = pick (t .0) (firstFailed l) (t .1)
 
 -- "The work needed is a published number of words that depends on the record count alone"
 unfoldable pub publishedWork : ℕ → ℕ
-publishedWork n = 16 * n + min n 1024 * min n 1024
-
--- and the pair records that are lent beside it: 1,048,576 of them; fewer is WORK_SHORT
-abbrev pub pairRecords : ℕ
-pairRecords = 1048576
+publishedWork n = 16 * n + min n maxShapes * min n maxShapes
 
 -- the published number as it is asked for: 0 above the record limit
 unfoldable pub workWords : ℕ → ℕ
@@ -72,8 +75,8 @@ earlyNo axes mode bytes work pairs =
     firstFailed
     ((ltb 0 axes && leb axes mostAxes, badAxes)
     ∷ (leb mode 1, badMode)
-    ∷ (eqb (bytes % recordBytes) 0 && leb (bytes / recordBytes) mostRecords, badJobLength)
-    ∷ (leb (publishedWork (bytes / recordBytes)) work, workShort)
+    ∷ (areRecords bytes && leb (recordsIn bytes) mostRecords, badJobLength)
+    ∷ (leb (publishedWork (recordsIn bytes)) work, workShort)
     ∷ (leb pairRecords pairs, workShort)
     ∷ [])
 
@@ -93,4 +96,4 @@ valueNo r regions named =
 
 -- An end record after so many others. "SETS_FULL: mode 1, the 65,536th end record"; "5 before 9"
 unfoldable pub endNo : ℕ → List ℕ → ℕ → ℕ
-endNo mode r sets = firstFailed ((endZeros r, badRecord) ∷ (not (eqb mode 1 && eqb sets 65535), setsFull) ∷ [])
+endNo mode r sets = firstFailed ((endZeros r, badRecord) ∷ (not (eqb mode 1 && eqb sets maxItems), setsFull) ∷ [])

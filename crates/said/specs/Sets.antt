@@ -1,13 +1,13 @@
 -- What a job says: its regions, and their indexes; its sets. Document 01, "Rules taken from the source".
 use mathlib.Core.Bool.{Bool, true, false, _&&_, _||_}
 use mathlib.Core.List.{List, [], _∷_, _++_}
-use Prim.Native.Nat.{ℕ, zero, suc, _*_}
-use lib.ListN.{getD, drop, length}
+use Prim.Native.Nat.{ℕ, zero, suc}
+use lib.ListN.{getD, length}
 use lib.Dec.{eqb, ltb}
 use Rattle.laws.specs.Pick.{pick}
 use Rattle.laws.specs.Signed.{zeroWord}
 use Rattle.sets.specs.Set.{Set}
-use Rattle.said.specs.Records.{recordBytes, startOf, peakOf, endOf}
+use Rattle.said.specs.Records.{afterRecord, afterRegion, startOf, peakOf, endOf}
 
 -- ---- regions
 
@@ -18,12 +18,12 @@ Region = List ℕ
 -- of n axis records
 unfoldable pub coordinates : ℕ → List ℕ → Region
 coordinates zero rest = []
-coordinates (suc n) rest = startOf rest ∷ peakOf rest ∷ endOf rest ∷ coordinates n (drop recordBytes rest)
+coordinates (suc n) rest = startOf rest ∷ peakOf rest ∷ endOf rest ∷ coordinates n (afterRecord rest)
 
 -- so many regions, an axis record for each axis
 unfoldable pub regionList : ℕ → ℕ → List ℕ → List Region
 regionList axes zero rest = []
-regionList axes (suc n) rest = coordinates axes rest ∷ regionList axes n (drop (recordBytes * axes) rest)
+regionList axes (suc n) rest = coordinates axes rest ∷ regionList axes n (afterRegion axes rest)
 
 -- "Regions are equal when all coordinates are equal."
 unfoldable pub sameRegion : Region → Region → Bool

@@ -1,2 +1,36 @@
-// What a job says, and where it is refused. The crate is there for its definitions and their laws and has no code: specs/ has what document 01
-// says of a job's bytes, proofs/ what is true of it.
+// What a job says, and where it is refused. The crate is there for its definitions and their laws and has no function: specs/ has what
+// document 01 says of a job's bytes, proofs/ what is true of it. The numbers of refusals are here for code, as specs/Refusals has them.
+pub struct Refusal {}
+
+impl Refusal {
+    // Before the first record.
+    pub const BAD_AXES: usize = 1;
+
+    pub const BAD_MODE: usize = 2;
+
+    pub const BAD_JOB_LENGTH: usize = 3;
+
+    pub const WORK_SHORT: usize = 4;
+
+    // At a record, or at the job's end.
+    pub const BAD_RECORD: usize = 5;
+
+    pub const UNKNOWN_REGION: usize = 6;
+
+    pub const REGION_TWICE: usize = 7;
+
+    pub const UNFINISHED: usize = 8;
+
+    pub const SETS_FULL: usize = 9;
+
+    // Of a job whose records are all right.
+    pub const SHAPES_FULL: usize = 10;
+
+    pub const IDS_SHORT: usize = 11;
+
+    pub const MAP_SHORT: usize = 12;
+
+    pub const LOG_SHORT: usize = 13;
+
+    pub const OUT_SHORT: usize = 14;
+}

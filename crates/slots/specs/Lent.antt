@@ -7,11 +7,12 @@ use Rattle.laws.specs.Range.{Only, seg}
 use Rattle.laws.specs.Bounded.{tabulate}
 use Rattle.shapes.specs.Group.{Group, joined}
 use Rattle.shapes.specs.Lent.{Narrow, Measured}
+use Rattle.limits.specs.Limits.{maxShapes}
 use Rattle.slots.specs.declared.tables.Tables.{Tables}
 
 -- The tables lie one behind the other in n words.
 pub record Laid (t : Tables) (n : ℕ) : Type 0 where
-  pub groups-few : t .groups ≤ 1024
+  pub groups-few : t .groups ≤ maxShapes
   pub regions-few : t .regions ≤ 65536
   pub slots-end : t .slots + t .groups * t .regions ≤ t .order
   pub order-end : t .order + t .groups ≤ t .counts

@@ -4,6 +4,8 @@ use mathlib.Core.Bool.{Bool, true, false}
 use mathlib.Core.List.{List, [], _∷_, _++_, append-assoc, map}
 use mathlib.Core.Logic.{⊎-elim}
 use Prim.Native.Nat.{ℕ, zero, suc, _+_, _-_, _*_, _≤_, _<_, min}
+use Rattle.limits.specs.Limits.{maxRegions}
+use Rattle.said.specs.Records.{axisCoords, coordsLong}
 use native.Mathlib.Nat.{add-zero, suc-mul, zero-mul, mul-comm}
 use native.Mathlib.Omega.{arith}
 use lib.Dec.{eqb}
@@ -201,13 +203,13 @@ unfolding joinAll
 join-length f c [] h = rw zero-mul
 join-length f c (x ∷ l) h = length-append (f x) (joinAll (map f l)) ∙ omega (arith, h .0, join-length f c l (h .1), suc-mul (length l) c)
 
-pieces-length : (src : List ℕ) (from n k : ℕ) → ((a : ℕ) → k ≤ a → a < k + n → from + 12 * a + 6 ≤ length src)
-    → length (joinAll (tabulate k n (λ a. seg (from + 12 * a) 6 src))) ≡ 6 * n
+pieces-length : (src : List ℕ) (from n k : ℕ) → ((a : ℕ) → k ≤ a → a < k + n → axisCoords from a + coordsLong ≤ length src)
+    → length (joinAll (tabulate k n (λ a. seg (axisCoords from a) coordsLong src))) ≡ 6 * n
 unfolding joinAll tabulate
 pieces-length src from zero k h = refl
 pieces-length src from (suc n) k h =
-    length-append (seg (from + 12 * k) 6 src) (joinAll (tabulate (suc k) n (λ a. seg (from + 12 * a) 6 src)))
-    ∙ omega (arith, length-seg (from + 12 * k) 6 src (h k (omega arith) (omega arith)), pieces-length src from n (suc k) (λ a p q. h a (omega arith) (omega arith)))
+    length-append (seg (axisCoords from k) coordsLong src) (joinAll (tabulate (suc k) n (λ a. seg (axisCoords from a) coordsLong src)))
+    ∙ omega (arith, length-seg (axisCoords from k) coordsLong src (h k (omega arith) (omega arith)), pieces-length src from n (suc k) (λ a p q. h a (omega arith) (omega arith)))
 
 coords-length : (src : List ℕ) (axes from : ℕ) → Sourced axes src from → length (coordsAt src axes from) ≡ 6 * axes
 unfolding coordsAt chain
@@ -224,7 +226,7 @@ kept-length src axes w starts regions p s =
 
 -- ---- the whole store
 
-shape-few : (regions : ℕ) (w : List ℕ) (group : ℕ) → regions ≤ 256 → length (finalAt regions w group .shape) ≤ 256
+shape-few : (regions : ℕ) (w : List ℕ) (group : ℕ) → regions ≤ maxRegions → length (finalAt regions w group .shape) ≤ maxRegions
 unfolding finalAt seg
 shape-few regions w group h = omega (arith, length-take regions (drop (getD w group 0) w))
 
@@ -257,7 +259,7 @@ module _ (src : List ℕ) (axes starts : ℕ) (w : List ℕ) (regions groups cou
       let e = ap (λ (n : ℕ). 6 * axes * n) (plan .numbered .all) in
       omega (arith, list-length axes kept (keptBytes src axes w starts (keep (markedIn marks) (upTo regions))))
 
-  pub kept-few : kept ≤ 256
+  pub kept-few : kept ≤ maxRegions
   kept-few = omega (arith, plan .numbered .all, kept-most (markedIn marks) regions, ready .regions-most)
 
   body-is : joinAll (tables (newIndex (finalsAt regions groups count w)) (setAt index w) (λ g. finalAt regions w (groups + 3 * g)) count) ≡ body

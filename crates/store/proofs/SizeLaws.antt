@@ -28,6 +28,7 @@ use Rattle.shapes.proofs.GroupLaws.{cost-measured}
 use Rattle.shapes.proofs.LentLaws.{narrow-small}
 use Rattle.laws.proofs.Products.{product}
 use Rattle.rows.specs.Subtable.{joinAll, runCount}
+use Rattle.limits.specs.Limits.{mostRecords, maxRegions}
 use Rattle.store.specs.Placing.{Final, modelOf, modelled, forecastOf}
 use Rattle.rows.specs.Lent.{Formed}
 use Rattle.store.specs.Lent.{FormOf, Handed, Summed, chain, finalAt, finalsAt, groupSizes, runSizes, tableSize, total}
@@ -43,7 +44,7 @@ unfolding tableSize
 size-some n row items d = rw (ne-eqb items 0 d)
 
 -- few sets, few runs
-pub runs-few : (n : ℕ) → n ≤ 1048576 → runCount n ≤ 17
+pub runs-few : (n : ℕ) → n ≤ mostRecords → runCount n ≤ 17
 runs-few n h = ⊎-elim
     (λ (p : n < 1). omega (arith, run-none n (omega arith)))
     (λ (p : 1 ≤ n). omega (arith, run-some n (omega arith)))
@@ -82,7 +83,7 @@ sized n row count bytes runs e f = record {
 
 -- ---- one group
 
-pub form-is : (regions : ℕ) (w : List ℕ) (group : ℕ) (old new : List ℕ) (word count : ℕ) → regions ≤ 256 → getD w group 0 + regions ≤ length w
+pub form-is : (regions : ℕ) (w : List ℕ) (group : ℕ) (old new : List ℕ) (word count : ℕ) → regions ≤ maxRegions → getD w group 0 + regions ≤ length w
     → Formed (seg (getD w group 0) regions w) old new word count → FormOf (finalAt regions w group) word count
 unfolding finalAt
 form-is regions w group old new word count few inside f =
@@ -157,8 +158,8 @@ module _ (regions : ℕ) (w : List ℕ) (group : ℕ) (inside : getD w (group + 
       let g = finalAt regions w group in
       rw (ne-eqb (length (g .ids)) 0 (λ e. d (sym sets-are ∙ e)), sets-are) (sym (cost-measured (g .shape) row cols (getD w (group + 2) 0) m))
 
-pub cost-most : (row cols sets : ℕ) → row ≤ 262144 → cols ≤ 65536 → sets ≤ 1048576 → costOf row cols sets ≤ 549755813888
-cost-most row cols sets r c s = omega (arith, product 262144 1048576 {a = row} {b = sets} r s)
+pub cost-most : (row cols sets : ℕ) → row ≤ 262144 → cols ≤ 65536 → sets ≤ mostRecords → costOf row cols sets ≤ 549755813888
+cost-most row cols sets r c s = omega (arith, product 262144 mostRecords {a = row} {b = sets} r s)
 
 modelled-is : (f : ℕ → Final) (a n : ℕ) → modelled (tabulate a n f) ≡ total (tabulate a n (λ g. modelOf (f g)))
 unfolding modelled tabulate weigh

@@ -5,6 +5,8 @@ use lib.Dec.{eqb}
 use mathlib.Core.List.{List, [], _∷_, _++_, map}
 use Prim.Native.Nat.{ℕ, _+_, _-_, _*_, _≤_, _<_, min}
 use Rattle.laws.specs.Pick.{pick}
+use Rattle.limits.specs.Limits.{mostRecords, mostAxes, maxRegions, maxShapes}
+use Rattle.said.specs.Records.{axisCoords, coordsLong}
 use Rattle.laws.specs.Bag.{weigh}
 use lib.ListN.{length, getD, set}
 use Rattle.laws.specs.Bytes.{bytesOf}
@@ -66,13 +68,13 @@ pub record Numbered (marks : List ℕ) (regions : ℕ) (numbers : List ℕ) (kep
   pub at : (r : ℕ) → r < regions → getD numbers r 0 ≡ length (keep (markedIn marks) (upTo r))
   pub all : kept ≡ length (keep (markedIn marks) (upTo regions))
 
--- the coordinates of a region's axes, six bytes each, that stand in a source 12 bytes apart from a place on
+-- the coordinates of a region's axes, that stand in a source from a place on, as in the axis records of a job
 unfoldable pub coordsAt : List ℕ → ℕ → ℕ → List ℕ
-coordsAt src axes from = chain (λ a. seg (from + 12 * a) 6 src) axes
+coordsAt src axes from = chain (λ a. seg (axisCoords from a) coordsLong src) axes
 
 -- they lie in the source
 pub record Sourced (axes : ℕ) (src : List ℕ) (from : ℕ) : Type 0 where
-  pub inside : (a : ℕ) → a < axes → from + 12 * a + 6 ≤ length src
+  pub inside : (a : ℕ) → a < axes → axisCoords from a + coordsLong ≤ length src
 
 -- those of some regions, whose places stand in w from starts on
 unfoldable pub keptBytes : List ℕ → ℕ → List ℕ → ℕ → List ℕ → List ℕ
@@ -111,11 +113,11 @@ pub record FormOf (g : Final) (word count : ℕ) : Type 0 where
   pub word-is : word ≡ wordCount (g .shape)
   pub count-is : count ≡ length (columnsOf (g .shape))
   pub word-below : word < 65536
-  pub count-most : count ≤ 256
+  pub count-most : count ≤ maxRegions
 
 -- the group whose words stand at group has no more sets than a job has records
 pub record Small (w : List ℕ) (group : ℕ) : Type 0 where
-  pub few : getD w (group + 2) 0 ≤ 1048576
+  pub few : getD w (group + 2) 0 ≤ mostRecords
 
 -- the offset that is written for a subtable of a size: 0 for a null one
 unfoldable pub spotOf : ℕ → ℕ → ℕ
@@ -142,9 +144,9 @@ headerBytes runs = bytesOf 2 1 ++ (bytesOf 4 (8 + 4 * runs) ++ bytesOf 2 runs)
 
 -- groups, sets and coordinates lie in what is lent, within document 01's bounds
 pub record Ready (src : List ℕ) (axes starts : ℕ) (w : List ℕ) (regions groups count index : ℕ) : Type 0 where
-  pub axes-most : axes ≤ 64
-  pub regions-most : regions ≤ 256
-  pub groups-most : count ≤ 1024
+  pub axes-most : axes ≤ mostAxes
+  pub regions-most : regions ≤ maxRegions
+  pub groups-most : count ≤ maxShapes
   pub rows : groups + 3 * count ≤ length w
   pub starting : starts + regions ≤ length w
   pub handed : (g : ℕ) → g < count → Handed regions index w (groups + 3 * g)

@@ -5,6 +5,7 @@ ghost use Prim.Native.Nat.{_+_, _≤_, _<_};
 ghost use lib.ListN.{length};
 ghost use Rattle.laws.specs.Range.{seg};
 ghost use Rattle.laws.specs.Every.{All};
+ghost use Rattle.limits.specs.Limits.{maxItems};
 ghost use Rattle.store.specs.Placing.{inRun};
 ghost use Rattle.store.specs.Lent.{Named, spotOf, stored, tableSize};
 
@@ -28,7 +29,7 @@ pub fn mark_shape(shape: &[u32], marks: &mut [u32])
 pub fn table_size(n: usize, row: usize, items: usize) -> usize
     requires { ⌜ n < 65536 ⌝ }
     requires { ⌜ row < 262144 ⌝ }
-    requires { ⌜ items ≤ 65535 ⌝ }
+    requires { ⌜ items ≤ maxItems ⌝ }
     ensures { λ r. ⌜ r ≡ tableSize n row items ⌝ }
     ensures { λ r. ⌜ r ≤ 34359738368 ⌝ }
 {
@@ -52,7 +53,7 @@ pub fn offset(at: usize, size: usize) -> u32
 // The rows of one run.
 pub fn map_run(work: &[u32], ids: usize, items: usize, outer: usize, map: &mut [u32])
     requires { ⌜ ids + items ≤ length (now work) ⌝ }
-    requires { ⌜ items ≤ 65535 ⌝ }
+    requires { ⌜ items ≤ maxItems ⌝ }
     requires { ⌜ outer < 65536 ⌝ }
     requires { ⌜ All (λ x. x < length (now map)) (seg ids items (now work)) ⌝ }
     ensures { λ _. ⌜ now (map .exit) ≡ stored (inRun outer 0 (seg ids items (now (work .entry)))) (now (map .entry)) ⌝ }

@@ -12,6 +12,7 @@ use lib.Dec.{eqb}
 use Rattle.said.specs.Records.{regionOf, valueWord}
 use Rattle.said.specs.Refusals.{valueNo}
 use Rattle.said.specs.Job.{Said, afterValue, afterEnd}
+use Rattle.limits.specs.Limits.{mostRecords}
 use Rattle.values.specs.declared.tables.Tables.{Tables}
 use Rattle.said.specs.Sets.{firstLike, has, withUse, indexIn, placed}
 use Rattle.said.specs.Good.{Good}
@@ -70,7 +71,7 @@ pub record ValueFits (w : List ℕ) (t : Tables) (uses start count : ℕ) : Type
   pub stamp-to : t .stamp + t .regions ≤ t .first
   pub first-to : t .first + t .regions ≤ length w
   pub few : uses < 4294967295
-  pub regions-few : t .regions ≤ 1048576
+  pub regions-few : t .regions ≤ mostRecords
 
 -- a value record of the bytes r was refused by `no`, or (no is 0) is held now
 pub record TookValue (r : List ℕ) (t : Tables) (s : Said) (sets uses start count : ℕ) (old new : List ℕ) (no uses′ count′ : ℕ) : Type 0 where

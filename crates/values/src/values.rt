@@ -3,13 +3,15 @@ use crate::tables::Tables;
 use crate::tables::put_entry;
 use crate::tables::use_region;
 use laws::wide;
-use records::byte_wide;
-use records::value_fine;
-use records::value_word;
+use records::fine_at;
+use records::region_at;
+use records::word_at;
+use said::Refusal;
 ghost use mathlib.Core.Path.{_≡_};
 ghost use mathlib.Core.List.{List};
 ghost use Prim.Native.Nat.{ℕ, _+_, _*_, _<_, _≤_};
 ghost use lib.ListN.{length};
+ghost use Rattle.said.specs.Records.{recordStart, recordAt};
 ghost use Rattle.said.specs.Job.{Said};
 ghost use Rattle.values.specs.Lent.{Holds, ValueFits, PutValue, TookValue};
 
@@ -69,9 +71,10 @@ fn put_value(
     }
 }
 
-// The value record of the bytes `rec`: refusals 5, 6 and 7 in their order, or the value in its set.
+// Record i, a value record: refusals 5, 6 and 7 in their order, or the value in its set.
 pub fn take_value(
-    rec: &[u8],
+    job: &[u8],
+    i: usize,
     work: &mut [u32],
     t: Tables,
     mark: u32,
@@ -79,23 +82,35 @@ pub fn take_value(
     start: usize,
     count: usize,
 ) -> Took
-    requires { ⌜ 12 ≤ length (now rec) ⌝ }
+    requires { ⌜ recordStart (i + 1) ≤ length (now job) ⌝ }
     requires { ⌜ ValueFits (now work) t uses start count ⌝ }
     ensures { λ r. ⌜ ((s : Said) (sets : ℕ) → mark ≡ sets + 1 → Holds (now (work .entry)) t s sets uses start count
-        → TookValue (now (rec .entry)) t s sets uses start count (now (work .entry)) (now (work .exit)) (r .no) (r .uses) (r .count)) ⌝ }
+        → TookValue (recordAt (now (job .entry)) i) t s sets uses start count (now (work .entry)) (now (work .exit)) (r .no) (r .uses) (r .count)) ⌝ }
 {
-    if !value_fine(rec) {
-        return Took { no: 5, uses, count };
+    if !fine_at(job, i) {
+        return Took {
+            no: Refusal::BAD_RECORD,
+            uses,
+            count,
+        };
     }
-    let r = byte_wide(rec[1]);
+    let r = region_at(job, i);
     if t.regions <= r {
-        return Took { no: 6, uses, count };
+        return Took {
+            no: Refusal::UNKNOWN_REGION,
+            uses,
+            count,
+        };
     }
     let first = t.first;
     let q = wide(work[first + r]);
     let stamp = t.stamp;
     if work[stamp + q] == mark {
-        return Took { no: 7, uses, count };
+        return Took {
+            no: Refusal::REGION_TWICE,
+            uses,
+            count,
+        };
     }
-    put_value(work, t, q, value_word(rec), mark, uses, start, count)
+    put_value(work, t, q, word_at(job, i), mark, uses, start, count)
 }

@@ -5,13 +5,13 @@ use mathlib.Core.Bool.{Bool, true, false}
 use mathlib.Core.List.{List, [], _∷_, _++_}
 use Prim.Native.Nat.{ℕ, zero, suc, _+_, _-_, _*_, _/_, _≤_, _<_}
 use native.Mathlib.Omega.{arith}
-use lib.ListN.{length, getD, take, drop}
+use lib.ListN.{length}
 use Rattle.laws.specs.Range.{Only}
 use Rattle.laws.proofs.RangeLaws.{only-refl, only-trans}
 use Rattle.sets.specs.Lent.{entries}
 use Rattle.values.specs.declared.tables.Tables.{Tables}
-use Rattle.said.specs.Records.{regionOf, valueWord}
-use Rattle.said.specs.Refusals.{valueNo, endNo}
+use Rattle.said.specs.Records.{recordAt, kind, valueKind, endKind, regionOf, valueWord}
+use Rattle.said.specs.Refusals.{badRecord, unfinished, valueNo, endNo}
 use Rattle.said.specs.Sets.{regionList, firstLike, has}
 use Rattle.said.specs.Job.{Said, State, inSets, Step, stop, on, unless, valueStep, afterValue, afterEnd, regionsOnly, Outcome, refused, fine, ended, endedSets, follow, walk}
 use Rattle.said.specs.Good.{Good}
@@ -85,8 +85,8 @@ module _ (axes mode : ℕ) (job : List ℕ) (records from : ℕ) (t : Tables) (o
 
     module _ (l : i < records) where
       -- a value
-      module _ (k : getD job (12 * i) 0 ≡ 2) (w′ : List ℕ) (nr uses′ count′ : ℕ)
-          (p : TookValue (drop (12 * i) job) t (n .said) sets uses start count w w′ nr uses′ count′) where
+      module _ (k : kind (recordAt job i) ≡ valueKind) (w′ : List ℕ) (nr uses′ count′ : ℕ)
+          (p : TookValue (recordAt job i) t (n .said) sets uses start count w w′ nr uses′ count′) where
         pub value-stops : (nr ≡ 0 → ⊥) → left axes mode job records from (inSets (regionsOnly (regionList axes (from / axes) job))) ≡ refused nr i
         unfolding valueStep follow
         value-stops z =
@@ -96,7 +96,7 @@ module _ (axes mode : ℕ) (job : List ℕ) (records from : ℕ) (t : Tables) (o
         pub value-goes : nr ≡ 0 → Stands axes mode job records from t old w′ (i + 1) sets (values + 1) uses′ start count′ 1
         unfolding valueStep follow afterValue
         value-goes z = record {
-          said = afterValue (n .said) (firstLike (n .said .regions) (regionOf (drop (12 * i) job))) (valueWord (drop (12 * i) job));
+          said = afterValue (n .said) (firstLike (n .said .regions) (regionOf (recordAt job i))) (valueWord (recordAt job i));
           held = p .now-holds z;
           opened = refl;
           closed = λ e. absurd (omega arith);
@@ -112,8 +112,8 @@ module _ (axes mode : ℕ) (job : List ℕ) (records from : ℕ) (t : Tables) (o
         }
 
       -- an end
-      module _ (k : getD job (12 * i) 0 ≡ 3) (nr : ℕ) (e : nr ≡ endNo mode (drop (12 * i) job) sets) where
-        e′ : nr ≡ endNo mode (drop (12 * i) job) (length (n .said .sets))
+      module _ (k : kind (recordAt job i) ≡ endKind) (nr : ℕ) (e : nr ≡ endNo mode (recordAt job i) sets) where
+        e′ : nr ≡ endNo mode (recordAt job i) (length (n .said .sets))
         e′ = e ∙ rw (n .held .sets-count)
 
         pub end-stops : (nr ≡ 0 → ⊥) → left axes mode job records from (inSets (regionsOnly (regionList axes (from / axes) job))) ≡ refused nr i
@@ -136,8 +136,8 @@ module _ (axes mode : ℕ) (job : List ℕ) (records from : ℕ) (t : Tables) (o
           rest = sym (end-on axes mode job records i l (n .said) nr k e′ z) ∙ n .rest;
         }
 
-      pub other-stops : (getD job (12 * i) 0 ≡ 2 → ⊥) → (getD job (12 * i) 0 ≡ 3 → ⊥)
-          → left axes mode job records from (inSets (regionsOnly (regionList axes (from / axes) job))) ≡ refused 5 i
+      pub other-stops : (kind (recordAt job i) ≡ valueKind → ⊥) → (kind (recordAt job i) ≡ endKind → ⊥)
+          → left axes mode job records from (inSets (regionsOnly (regionList axes (from / axes) job))) ≡ refused badRecord i
       other-stops a b = sym (n .rest) ∙ other-stop axes mode job records i l (n .said) a b
 
     -- refused, and nothing past the tables changed
@@ -146,7 +146,7 @@ module _ (axes mode : ℕ) (job : List ℕ) (records from : ℕ) (t : Tables) (o
         → SetsRead axes mode job records from t old w′ nr i 0 0 0
     read-refused w′ nr o z e = record { bad = λ _. e; good = λ y. absurd (z y); only = only-trans (n .only) o }
 
-    ended-open : (m : List ℕ) → (isOpen m ≡ 0 → ⊥) → endedSets i (n .said) m ≡ refused 8 i
+    ended-open : (m : List ℕ) → (isOpen m ≡ 0 → ⊥) → endedSets i (n .said) m ≡ refused unfinished i
     unfolding endedSets
     ended-open [] h = absurd (h refl)
     ended-open (q ∷ m) h = refl
@@ -156,9 +156,9 @@ module _ (axes mode : ℕ) (job : List ℕ) (records from : ℕ) (t : Tables) (o
     ended-shut [] h = refl
     ended-shut (q ∷ m) h = absurd (omega arith)
 
-    pub read-open : records ≤ i → (open′ ≡ 0 → ⊥) → SetsRead axes mode job records from t old w 8 i 0 0 0
+    pub read-open : records ≤ i → (open′ ≡ 0 → ⊥) → SetsRead axes mode job records from t old w unfinished i 0 0 0
     unfolding ended
-    read-open l d = read-refused w 8 (only-refl ((0, t .first) ∷ []) w) (λ e. omega arith)
+    read-open l d = read-refused w unfinished (only-refl ((0, t .first) ∷ []) w) (λ e. omega arith)
         (sym (n .rest) ∙ at-end axes mode job records i (inSets (n .said)) l ∙ ended-open (n .said .named) (λ e. d (n .opened ∙ e)))
 
     pub read-fine : records ≤ i → open′ ≡ 0 → SetsRead axes mode job records from t old w 0 0 sets values uses
@@ -176,15 +176,6 @@ module _ (axes mode : ℕ) (job : List ℕ) (records from : ℕ) (t : Tables) (o
       };
       only = n .only;
     }
-
--- the bytes from a record's first one on, as a part of a slice
-pub tail-value : {t : Tables} {s : Said} {sets uses start count : ℕ} {w w′ : List ℕ} {nr uses′ count′ : ℕ} (job : List ℕ) (a : ℕ)
-    → TookValue (take (length job - a) (drop a job)) t s sets uses start count w w′ nr uses′ count′ → TookValue (drop a job) t s sets uses start count w w′ nr uses′ count′
-tail-value {t} {s} {sets} {uses} {start} {count} {w} {w′} {nr} {uses′} {count′} job a p =
-    subst (λ (r : List ℕ). TookValue r t s sets uses start count w w′ nr uses′ count′) (tail-is job a) p
-
-pub tail-end : (job : List ℕ) (a mode sets nr : ℕ) → nr ≡ endNo mode (take (length job - a) (drop a job)) sets → nr ≡ endNo mode (drop a job) sets
-tail-end job a mode sets nr e = e ∙ ap (λ (r : List ℕ). endNo mode r sets) (tail-is job a)
 
 -- by the answer that `refuse` gives
 pub refused-as : (axes mode : ℕ) (job : List ℕ) (records from : ℕ) (t : Tables) {old w : List ℕ} (r : SetsEnd) (n i : ℕ) → r ≡ refusedEnd n i

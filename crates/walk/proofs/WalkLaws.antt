@@ -9,8 +9,8 @@ use lib.ListN.{length, getD, drop}
 use lib.Seq.{drop-drop, getD-drop}
 use lib.Dec.{eqb}
 use borrow.Author.Tests.{eq-eqb, ne-eqb}
-use Rattle.said.specs.Records.{kind}
-use Rattle.said.specs.Refusals.{axisNo, endNo}
+use Rattle.said.specs.Records.{recordBytes, recordStart, recordAt, afterRecord, kind, axisKind, valueKind, endKind}
+use Rattle.said.specs.Refusals.{badRecord, unfinished, axisNo, endNo}
 use Rattle.said.specs.Sets.{regionList}
 use Rattle.said.specs.Job.{Said, State, inAxes, inSets, Step, stop, on, unless, valueStep, endStep, setStep, regionsOnly, step, Outcome, refused, fine, ended, endedSets, follow, walk, afterEnd}
 use Rattle.walk.specs.Inner.{AxesRead}
@@ -27,79 +27,75 @@ unless-on n s e = rw e
 module _ (axes mode : ℕ) (job : List ℕ) (records i : ℕ) where
   -- what record i and those after it answer, from a state
   abbrev pub left : State → Outcome
-  left s = walk axes mode job (drop (12 * i) job) (records - i) i s
+  left s = walk axes mode job (recordAt job i) (records - i) i s
 
   abbrev pub after : State → Outcome
-  after s = walk axes mode job (drop (12 * (i + 1)) job) (records - (i + 1)) (i + 1) s
+  after s = walk axes mode job (recordAt job (i + 1)) (records - (i + 1)) (i + 1) s
 
-  -- the kind of record i, as the code reads it
-  kind-at : kind (drop (12 * i) job) ≡ getD job (12 * i) 0
-  kind-at = getD-drop (12 * i) job 0 0 ∙ rw add-zero
+  is-kind : (k : ℕ) → kind (recordAt job i) ≡ k → eqb (kind (recordAt job i)) k ≡ true
+  is-kind k e = eq-eqb (kind (recordAt job i)) k e
 
-  is-kind : (k : ℕ) → getD job (12 * i) 0 ≡ k → eqb (kind (drop (12 * i) job)) k ≡ true
-  is-kind k e = eq-eqb (kind (drop (12 * i) job)) k (kind-at ∙ e)
-
-  not-kind : (k : ℕ) → (getD job (12 * i) 0 ≡ k → ⊥) → eqb (kind (drop (12 * i) job)) k ≡ false
-  not-kind k n = ne-eqb (kind (drop (12 * i) job)) k (λ e. n (sym kind-at ∙ e))
+  not-kind : (k : ℕ) → (kind (recordAt job i) ≡ k → ⊥) → eqb (kind (recordAt job i)) k ≡ false
+  not-kind k n = ne-eqb (kind (recordAt job i)) k n
 
   pub at-end : (s : State) → records ≤ i → left s ≡ ended axes job i s
   unfolding walk
   at-end s e = let z : records - i ≡ 0 = omega arith in rw z
 
   module _ (h : i < records) where
-    turn : (s : State) → left s ≡ follow i (step axes mode job (drop (12 * i) job) i s) (λ s′. after s′)
+    turn : (s : State) → left s ≡ follow i (step axes mode job (recordAt job i) i s) (λ s′. after s′)
     unfolding walk
     turn s =
         let z : records - i ≡ suc (records - (i + 1)) = omega arith in
-        let n : 12 * i + 12 ≡ 12 * (i + 1) = omega arith in
-        let d : drop 12 (drop (12 * i) job) ≡ drop (12 * (i + 1)) job = drop-drop 12 (12 * i) job ∙ ap (λ (k : ℕ). drop k job) n in
+        let n : recordStart i + recordBytes ≡ recordStart (i + 1) = omega arith in
+        let d : afterRecord (recordAt job i) ≡ recordAt job (i + 1) = drop-drop recordBytes (recordStart i) job ∙ ap (λ (k : ℕ). drop k job) n in
         rw z
-        (ap (λ (r : List ℕ). follow i (step axes mode job (drop (12 * i) job) i s) (λ s′. walk axes mode job r (records - (i + 1)) (i + 1) s′)) d)
+        (ap (λ (r : List ℕ). follow i (step axes mode job (recordAt job i) i s) (λ s′. walk axes mode job r (records - (i + 1)) (i + 1) s′)) d)
 
-    turn-stop : (s : State) (n : ℕ) → step axes mode job (drop (12 * i) job) i s ≡ stop n → left s ≡ refused n i
+    turn-stop : (s : State) (n : ℕ) → step axes mode job (recordAt job i) i s ≡ stop n → left s ≡ refused n i
     unfolding follow
     turn-stop s n e = turn s ∙ rw e
 
-    turn-on : (s s′ : State) → step axes mode job (drop (12 * i) job) i s ≡ on s′ → left s ≡ after s′
+    turn-on : (s s′ : State) → step axes mode job (recordAt job i) i s ≡ on s′ → left s ≡ after s′
     unfolding follow
     turn-on s s′ e = turn s ∙ rw e
 
     -- in the axes
-    pub axis-on : (n : ℕ) → n ≡ axisNo axes (drop (12 * i) job) i → n ≡ 0 → getD job (12 * i) 0 ≡ 1 → left inAxes ≡ after inAxes
+    pub axis-on : (n : ℕ) → n ≡ axisNo axes (recordAt job i) i → n ≡ 0 → kind (recordAt job i) ≡ axisKind → left inAxes ≡ after inAxes
     unfolding step
-    axis-on n e z k = turn-on inAxes inAxes (rw (is-kind 1 k, ← e) (unless-on n inAxes z))
+    axis-on n e z k = turn-on inAxes inAxes (rw (is-kind axisKind k, ← e) (unless-on n inAxes z))
 
-    pub axis-stop : (n : ℕ) → n ≡ axisNo axes (drop (12 * i) job) i → (n ≡ 0 → ⊥) → getD job (12 * i) 0 ≡ 1 → left inAxes ≡ refused n i
+    pub axis-stop : (n : ℕ) → n ≡ axisNo axes (recordAt job i) i → (n ≡ 0 → ⊥) → kind (recordAt job i) ≡ axisKind → left inAxes ≡ refused n i
     unfolding step
-    axis-stop n e z k = turn-stop inAxes n (rw (is-kind 1 k, ← e) (unless-stop n inAxes z))
+    axis-stop n e z k = turn-stop inAxes n (rw (is-kind axisKind k, ← e) (unless-stop n inAxes z))
 
-    pub part-stop : (getD job (12 * i) 0 ≡ 1 → ⊥) → (i % axes ≡ 0 → ⊥) → left inAxes ≡ refused 5 i
+    pub part-stop : (kind (recordAt job i) ≡ axisKind → ⊥) → (i % axes ≡ 0 → ⊥) → left inAxes ≡ refused badRecord i
     unfolding step
-    part-stop k p = turn-stop inAxes 5 (rw (not-kind 1 k, ne-eqb (i % axes) 0 p))
+    part-stop k p = turn-stop inAxes badRecord (rw (not-kind axisKind k, ne-eqb (i % axes) 0 p))
 
     -- the first record that is no axis record is read as in the sets
-    pub begin : (getD job (12 * i) 0 ≡ 1 → ⊥) → i % axes ≡ 0 → left inAxes ≡ left (inSets (regionsOnly (regionList axes (i / axes) job)))
+    pub begin : (kind (recordAt job i) ≡ axisKind → ⊥) → i % axes ≡ 0 → left inAxes ≡ left (inSets (regionsOnly (regionList axes (i / axes) job)))
     unfolding step
-    begin k p = turn inAxes ∙ rw (not-kind 1 k, eq-eqb (i % axes) 0 p) (sym (turn (inSets (regionsOnly (regionList axes (i / axes) job)))))
+    begin k p = turn inAxes ∙ rw (not-kind axisKind k, eq-eqb (i % axes) 0 p) (sym (turn (inSets (regionsOnly (regionList axes (i / axes) job)))))
 
     -- in the sets
-    pub value-turn : (s : Said) → getD job (12 * i) 0 ≡ 2 → left (inSets s) ≡ follow i (valueStep (drop (12 * i) job) s) (λ s′. after s′)
+    pub value-turn : (s : Said) → kind (recordAt job i) ≡ valueKind → left (inSets s) ≡ follow i (valueStep (recordAt job i) s) (λ s′. after s′)
     unfolding step setStep
-    value-turn s k = turn (inSets s) ∙ rw (is-kind 2 k)
+    value-turn s k = turn (inSets s) ∙ rw (is-kind valueKind k)
 
-    pub end-on : (s : Said) (n : ℕ) → getD job (12 * i) 0 ≡ 3 → n ≡ endNo mode (drop (12 * i) job) (length (s .sets)) → n ≡ 0
+    pub end-on : (s : Said) (n : ℕ) → kind (recordAt job i) ≡ endKind → n ≡ endNo mode (recordAt job i) (length (s .sets)) → n ≡ 0
         → left (inSets s) ≡ after (inSets (afterEnd s))
     unfolding step setStep endStep
-    end-on s n k e z = turn-on (inSets s) (inSets (afterEnd s)) (rw (not-kind 2 (λ q. omega arith), is-kind 3 k, ← e) (unless-on n (inSets (afterEnd s)) z))
+    end-on s n k e z = turn-on (inSets s) (inSets (afterEnd s)) (rw (not-kind valueKind (λ q. omega arith), is-kind endKind k, ← e) (unless-on n (inSets (afterEnd s)) z))
 
-    pub end-stop : (s : Said) (n : ℕ) → getD job (12 * i) 0 ≡ 3 → n ≡ endNo mode (drop (12 * i) job) (length (s .sets)) → (n ≡ 0 → ⊥)
+    pub end-stop : (s : Said) (n : ℕ) → kind (recordAt job i) ≡ endKind → n ≡ endNo mode (recordAt job i) (length (s .sets)) → (n ≡ 0 → ⊥)
         → left (inSets s) ≡ refused n i
     unfolding step setStep endStep
-    end-stop s n k e z = turn-stop (inSets s) n (rw (not-kind 2 (λ q. omega arith), is-kind 3 k, ← e) (unless-stop n (inSets (afterEnd s)) z))
+    end-stop s n k e z = turn-stop (inSets s) n (rw (not-kind valueKind (λ q. omega arith), is-kind endKind k, ← e) (unless-stop n (inSets (afterEnd s)) z))
 
-    pub other-stop : (s : Said) → (getD job (12 * i) 0 ≡ 2 → ⊥) → (getD job (12 * i) 0 ≡ 3 → ⊥) → left (inSets s) ≡ refused 5 i
+    pub other-stop : (s : Said) → (kind (recordAt job i) ≡ valueKind → ⊥) → (kind (recordAt job i) ≡ endKind → ⊥) → left (inSets s) ≡ refused badRecord i
     unfolding step setStep
-    other-stop s a b = turn-stop (inSets s) 5 (rw (not-kind 2 a, not-kind 3 b))
+    other-stop s a b = turn-stop (inSets s) badRecord (rw (not-kind valueKind a, not-kind endKind b))
 
 -- ---- the loop over the axis records: what is left answers for the whole
 
@@ -111,10 +107,10 @@ pub reading-start : (axes : ℕ) (job : List ℕ) (records : ℕ) → Reading ax
 reading-start axes job records = record { within = omega arith; rest = λ mode. rw sub-zero }
 
 module _ {axes : ℕ} {job : List ℕ} {records i : ℕ} (r : Reading axes job records i) where
-  pub reading-more : (n : ℕ) → i < records → n ≡ axisNo axes (drop (12 * i) job) i → n ≡ 0 → getD job (12 * i) 0 ≡ 1 → Reading axes job records (i + 1)
+  pub reading-more : (n : ℕ) → i < records → n ≡ axisNo axes (recordAt job i) i → n ≡ 0 → kind (recordAt job i) ≡ axisKind → Reading axes job records (i + 1)
   reading-more n h e z k = record { within = omega arith; rest = λ mode. sym (axis-on axes mode job records i h n e z k) ∙ r .rest mode }
 
-  pub read-bad : (n : ℕ) → i < records → n ≡ axisNo axes (drop (12 * i) job) i → (n ≡ 0 → ⊥) → getD job (12 * i) 0 ≡ 1 → AxesRead axes job records n i
+  pub read-bad : (n : ℕ) → i < records → n ≡ axisNo axes (recordAt job i) i → (n ≡ 0 → ⊥) → kind (recordAt job i) ≡ axisKind → AxesRead axes job records n i
   read-bad n h e z k = record {
     within = omega arith;
     bad = λ _ mode. sym (r .rest mode) ∙ axis-stop axes mode job records i h n e z k;
@@ -122,7 +118,7 @@ module _ {axes : ℕ} {job : List ℕ} {records i : ℕ} (r : Reading axes job r
     good = λ y. absurd (z y);
   }
 
-  pub read-part : i < records → (getD job (12 * i) 0 ≡ 1 → ⊥) → (i % axes ≡ 0 → ⊥) → AxesRead axes job records 5 i
+  pub read-part : i < records → (kind (recordAt job i) ≡ axisKind → ⊥) → (i % axes ≡ 0 → ⊥) → AxesRead axes job records badRecord i
   read-part h k p = record {
     within = omega arith;
     bad = λ _ mode. sym (r .rest mode) ∙ part-stop axes mode job records i h k p;
@@ -130,7 +126,7 @@ module _ {axes : ℕ} {job : List ℕ} {records i : ℕ} (r : Reading axes job r
     good = λ y. absurd (omega arith);
   }
 
-  pub read-whole : i < records → (getD job (12 * i) 0 ≡ 1 → ⊥) → i % axes ≡ 0 → AxesRead axes job records 0 i
+  pub read-whole : i < records → (kind (recordAt job i) ≡ axisKind → ⊥) → i % axes ≡ 0 → AxesRead axes job records 0 i
   read-whole h k p = record {
     within = omega arith;
     bad = λ y. absurd (y refl);
@@ -138,7 +134,7 @@ module _ {axes : ℕ} {job : List ℕ} {records i : ℕ} (r : Reading axes job r
     good = λ _ mode. sym (r .rest mode) ∙ begin axes mode job records i h k p;
   }
 
-  pub read-open : records ≤ i → (i % axes ≡ 0 → ⊥) → AxesRead axes job records 8 i
+  pub read-open : records ≤ i → (i % axes ≡ 0 → ⊥) → AxesRead axes job records unfinished i
   unfolding ended
   read-open h p = record {
     within = r .within;

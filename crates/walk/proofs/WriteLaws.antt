@@ -19,6 +19,8 @@ use Rattle.sets.specs.Set.{Set, Ascending, Proper, sameSet}
 use Rattle.sets.specs.Ids.{place}
 use Rattle.sets.specs.Lent.{entries, startOf, countOf, setOf, Held, setsIn, IdsFit, Identified}
 use Rattle.sets.proofs.HeldLaws.{sets-length, sets-at}
+use Rattle.limits.specs.Limits.{mostRecords}
+use Rattle.said.specs.Records.{regionLong, regionFrom}
 use Rattle.said.specs.Sets.{Region, coordinates, regionList, sameRegion, like, firstLike}
 use Rattle.walk.specs.Lent.{asSet, RegionAt, RegionsAt, FirstsOf}
 use Rattle.said.proofs.RegionLaws.{coords-length, regions-length, regions-at}
@@ -101,13 +103,13 @@ module _ (at n : ℕ) (c : Region) (old : List ℕ) (room : at + 2 * n ≤ lengt
 
 pub record Regioning (index body axes regions : ℕ) (job old new : List ℕ) (r p start : ℕ) : Type 0 where
   pub within : r ≤ regions
-  pub p-is : p ≡ r * (12 * axes)
+  pub p-is : p ≡ r * regionLong axes
   pub start-is : start ≡ body + r * (6 * axes)
   pub only : Only ((index, 2 * regions) ∷ (body, regions * (6 * axes)) ∷ []) old new
   pub starts : (x : ℕ) → x < r → startOf index x new ≡ body + x * (6 * axes)
   pub counts : (x : ℕ) → x < r → countOf index x new ≡ 3 * axes
-  pub is : (x : ℕ) → x < r → entries (body + x * (6 * axes)) (3 * axes) new ≡ asSet 0 (coordinates axes (drop (x * (12 * axes)) job))
-  pub small : (x : ℕ) → x < r → All (λ y. y < 65536) (coordinates axes (drop (x * (12 * axes)) job))
+  pub is : (x : ℕ) → x < r → entries (body + x * (6 * axes)) (3 * axes) new ≡ asSet 0 (coordinates axes (regionFrom axes job x))
+  pub small : (x : ℕ) → x < r → All (λ y. y < 65536) (coordinates axes (regionFrom axes job x))
 
 module _ (index body axes regions : ℕ) (job old : List ℕ) (room : body + regions * (6 * axes) ≤ length old) (behind : index + 2 * regions ≤ body) where
   pub regioning-start : Regioning index body axes regions job old old 0 0 body
@@ -167,10 +169,10 @@ module _ (index body axes regions : ℕ) (job old : List ℕ) (room : body + reg
         (only-set rs mid (index + 2 * r) start (λ o. omega (arith, o .0 .apart (omega arith))))
         (only-set rs one-word (index + 2 * r + 1) (3 * axes) (λ o. omega (arith, o .0 .apart (omega arith))))))
 
-    pub regioning-more : Regioning index body axes regions job old both-words (r + 1) (p + 12 * axes) (start + 6 * axes)
-    regioning-more = record {
+    pub regioning-more : (q : ℕ) → q ≡ regionLong axes → Regioning index body axes regions job old both-words (r + 1) (p + q) (start + 6 * axes)
+    regioning-more q e = record {
       within = omega arith;
-      p-is = omega (arith, row-next r (12 * axes), g .p-is);
+      p-is = omega (arith, row-next r (regionLong axes), g .p-is);
       start-is = omega (arith, row-next r (6 * axes), g .start-is);
       only = only-here;
       starts = below-more _ _
@@ -200,7 +202,7 @@ module _ (index body axes regions : ℕ) (job old : List ℕ) (room : body + reg
 
 module _ (index body axes regions : ℕ) (job old new : List ℕ) (room : body + regions * (6 * axes) ≤ length old) (behind : index + 2 * regions ≤ body)
     (r : RegionsAt index body axes regions job old new) where
-  set-is : (x : ℕ) → x < regions → setOf index x new ≡ asSet 0 (coordinates axes (drop (x * (12 * axes)) job))
+  set-is : (x : ℕ) → x < regions → setOf index x new ≡ asSet 0 (coordinates axes (regionFrom axes job x))
   unfolding setOf
   set-is x h = rw (r .start x h, r .count x h) (r .is x h)
 
@@ -209,9 +211,9 @@ module _ (index body axes regions : ℕ) (job old new : List ℕ) (room : body +
     room = omega (arith, r .only .long);
     rows = omega arith;
     body = λ x h. omega (arith, r .start x h, r .count x h, row-fits (6 * axes) regions x h);
-    ascending = λ x h. rw (set-is x h) (set-ascending (coordinates axes (drop (x * (12 * axes)) job)) 0 0 (omega arith));
+    ascending = λ x h. rw (set-is x h) (set-ascending (coordinates axes (regionFrom axes job x)) 0 0 (omega arith));
     proper = λ x h. rw (set-is x h)
-        (set-proper (coordinates axes (drop (x * (12 * axes)) job)) 0 (3 * axes) (r .small x h) (omega (arith, coords-length axes (drop (x * (12 * axes)) job))));
+        (set-proper (coordinates axes (regionFrom axes job x)) 0 (3 * axes) (r .small x h) (omega (arith, coords-length axes (regionFrom axes job x))));
   }
 
   sets-are : setsIn index regions new ≡ map (asSet 0) (regionList axes regions job)
@@ -228,9 +230,9 @@ module _ (index body axes regions : ℕ) (job old new : List ℕ) (room : body +
   unfolding firstLike
   first-is k h =
       rw (set-is k h, sets-are, regions-at axes regions job k h)
-      (place-like (coordinates axes (drop (k * (12 * axes)) job)) (regionList axes regions job))
+      (place-like (coordinates axes (regionFrom axes job k)) (regionList axes regions job))
 
-  module _ (few : regions ≤ 1048576) (at : ℕ) (here : at ≡ body + regions * (6 * axes)) (space : at + 3 * regions ≤ length old) where
+  module _ (few : regions ≤ mostRecords) (at : ℕ) (here : at ≡ body + regions * (6 * axes)) (space : at + 3 * regions ≤ length old) where
     pub firsts-fit : IdsFit new index regions at (at + regions) (at + 2 * regions)
     firsts-fit = record {
       regions = 3 * axes;

@@ -1,9 +1,8 @@
 -- What the clauses of private functions cite. Assumes nothing.
 use mathlib.Core.Path.{_≡_}
 use mathlib.Core.List.{List}
-use Prim.Native.Nat.{ℕ, _-_, _*_, _/_, _%_, _≤_}
-use lib.ListN.{drop}
-use Rattle.said.specs.Records.{recordBytes}
+use Prim.Native.Nat.{ℕ, _-_, _/_, _%_, _≤_}
+use Rattle.said.specs.Records.{recordAt}
 use Rattle.said.specs.Sets.{regionList}
 use Rattle.said.specs.Job.{inAxes, inSets, regionsOnly, refused, walk}
 
@@ -13,4 +12,4 @@ pub record AxesRead (axes : ℕ) (job : List ℕ) (records no at : ℕ) : Type 0
   pub bad : (no ≡ 0 → ⊥) → (mode : ℕ) → walk axes mode job job records 0 inAxes ≡ refused no at
   pub whole : no ≡ 0 → at % axes ≡ 0
   pub good : no ≡ 0 → (mode : ℕ) → walk axes mode job job records 0 inAxes
-      ≡ walk axes mode job (drop (recordBytes * at) job) (records - at) at (inSets (regionsOnly (regionList axes (at / axes) job)))
+      ≡ walk axes mode job (recordAt job at) (records - at) at (inSets (regionsOnly (regionList axes (at / axes) job)))

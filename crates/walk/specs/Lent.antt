@@ -2,16 +2,17 @@
 use mathlib.Core.Path.{_≡_}
 use mathlib.Core.List.{List, [], _∷_}
 use Prim.Native.Nat.{ℕ, suc, _+_, _-_, _*_, _/_, _≤_, _<_}
-use lib.ListN.{length, getD, drop}
+use lib.ListN.{length, getD}
 use Rattle.laws.specs.Every.{All}
 use Rattle.laws.specs.Range.{Only}
 use Rattle.sets.specs.Set.{Set}
 use Rattle.sets.specs.Lent.{entries, startOf, countOf}
-use Rattle.said.specs.Records.{recordBytes}
+use Rattle.said.specs.Records.{recordAt, regionFrom}
 use Rattle.said.specs.Job.{Said, inSets, regionsOnly, refused, fine, walk}
 use Rattle.values.specs.declared.tables.Tables.{Tables}
 use Rattle.said.specs.Sets.{Region, coordinates, regionList, firstLike}
 use Rattle.values.specs.Lent.{Holds}
+use Rattle.limits.specs.Limits.{mostRecords}
 use Rattle.walk.specs.declared.reading.SetsEnd.{SetsEnd}
 
 -- a region as a set: its coordinates by their numbers, from k on
@@ -30,8 +31,8 @@ pub record RegionsAt (index body axes regions : ℕ) (job old new : List ℕ) : 
   pub only : Only ((index, 2 * regions) ∷ (body, regions * (6 * axes)) ∷ []) old new
   pub start : (x : ℕ) → x < regions → startOf index x new ≡ body + x * (6 * axes)
   pub count : (x : ℕ) → x < regions → countOf index x new ≡ 3 * axes
-  pub is : (x : ℕ) → x < regions → entries (body + x * (6 * axes)) (3 * axes) new ≡ asSet 0 (coordinates axes (drop (x * (recordBytes * axes)) job))
-  pub small : (x : ℕ) → x < regions → All (λ y. y < 65536) (coordinates axes (drop (x * (recordBytes * axes)) job))
+  pub is : (x : ℕ) → x < regions → entries (body + x * (6 * axes)) (3 * axes) new ≡ asSet 0 (coordinates axes (regionFrom axes job x))
+  pub small : (x : ℕ) → x < regions → All (λ y. y < 65536) (coordinates axes (regionFrom axes job x))
 
 -- for each region the first like it: words from `index` on are scratch, and the firsts stand from `first` on
 pub record FirstsOf (index first axes regions : ℕ) (job old new : List ℕ) : Type 0 where
@@ -46,15 +47,15 @@ pub record Room (t : Tables) (n long : ℕ) : Type 0 where
   pub slot-to : t .slot + t .regions ≤ t .stamp
   pub stamp-to : t .stamp + t .regions ≤ t .first
   pub first-to : t .first + t .regions ≤ long
-  pub few : n ≤ 1048576
-  pub regions-few : t .regions ≤ 1048576
+  pub few : n ≤ mostRecords
+  pub regions-few : t .regions ≤ mostRecords
   pub long-few : t .first + t .regions ≤ 4294967295
 
 -- The records of the sets, from record `from` on, are refused by `no` at `at`, or (no is 0) held: where axis records have said the regions,
 -- what is left of the job answers so.
 pub record SetsHeld (axes mode : ℕ) (job : List ℕ) (records from : ℕ) (t : Tables) (new : List ℕ) (sets values uses : ℕ) : Type 0 where
   pub said : Said
-  pub is : walk axes mode job (drop (recordBytes * from) job) (records - from) from (inSets (regionsOnly (regionList axes (from / axes) job))) ≡ fine said
+  pub is : walk axes mode job (recordAt job from) (records - from) from (inSets (regionsOnly (regionList axes (from / axes) job))) ≡ fine said
   pub values-are : said .values ≡ values
   pub start : ℕ
   pub held : Holds new t said sets uses start 0
@@ -62,7 +63,7 @@ pub record SetsHeld (axes mode : ℕ) (job : List ℕ) (records from : ℕ) (t :
   pub uses-few : uses ≤ records
 
 pub record SetsRead (axes mode : ℕ) (job : List ℕ) (records from : ℕ) (t : Tables) (old new : List ℕ) (no at sets values uses : ℕ) : Type 0 where
-  pub bad : (no ≡ 0 → ⊥) → walk axes mode job (drop (recordBytes * from) job) (records - from) from (inSets (regionsOnly (regionList axes (from / axes) job))) ≡ refused no at
+  pub bad : (no ≡ 0 → ⊥) → walk axes mode job (recordAt job from) (records - from) from (inSets (regionsOnly (regionList axes (from / axes) job))) ≡ refused no at
   pub good : no ≡ 0 → SetsHeld axes mode job records from t new sets values uses
   pub only : Only ((0, t .first) ∷ []) old new
 

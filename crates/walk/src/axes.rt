@@ -1,8 +1,12 @@
 // The axis records that a job begins with.
-use records::axis_no;
+use records::Kind;
+use records::axis_at;
+use records::kind_at;
+use said::Refusal;
 ghost use mathlib.Core.Path.{_≡_};
 ghost use Prim.Native.Nat.{ℕ, _+_, _*_, _<_, _≤_};
 ghost use lib.ListN.{length};
+ghost use Rattle.said.specs.Records.{recordStart};
 ghost use Rattle.walk.specs.Inner.{AxesRead};
 
 // A refusal number with its place; or 0, and the record that the axis records end before.
@@ -13,26 +17,31 @@ pub struct AxesEnd {
 
 // Checks the axis records.
 pub fn axes_end(job: &[u8], axes: usize, records: usize) -> AxesEnd
-    requires { ⌜ (0 < axes) × (12 * records ≤ length (now job)) ⌝ }
+    requires { ⌜ (0 < axes) × (recordStart records ≤ length (now job)) ⌝ }
     ensures { λ r. ⌜ AxesRead axes (now (job .entry)) records (r .no) (r .at) ⌝ }
 {
     let mut i: usize = 0;
     while i < records {
-        let at = 12 * i;
-        if job[at] != 1 {
+        if kind_at(job, i) != Kind::AXIS {
             if i % axes != 0 {
-                return AxesEnd { no: 5, at: i };
+                return AxesEnd {
+                    no: Refusal::BAD_RECORD,
+                    at: i,
+                };
             }
             return AxesEnd { no: 0, at: i };
         }
-        let no = axis_no(&job[at..], axes, i);
+        let no = axis_at(job, axes, i);
         if no != 0 {
             return AxesEnd { no, at: i };
         }
         i += 1;
     }
     if i % axes != 0 {
-        return AxesEnd { no: 8, at: i };
+        return AxesEnd {
+            no: Refusal::UNFINISHED,
+            at: i,
+        };
     }
     AxesEnd { no: 0, at: i }
 }

@@ -1,11 +1,15 @@
 // The records of the sets: each refused at its place, or its set held in work.
-use records::end_no;
+use records::Kind;
+use records::end_at;
+use records::kind_at;
+use said::Refusal;
 use values::Tables;
 use values::take_value;
 ghost use mathlib.Core.Path.{_≡_};
 ghost use mathlib.Core.List.{List};
 ghost use Prim.Native.Nat.{ℕ, _+_, _*_, _/_, _<_, _≤_};
 ghost use lib.ListN.{length};
+ghost use Rattle.said.specs.Records.{recordStart};
 ghost use Rattle.said.specs.Sets.{regionList};
 ghost use Rattle.said.specs.Job.{Said, regionsOnly};
 ghost use Rattle.values.specs.Lent.{Holds, EndedSet};
@@ -54,7 +58,7 @@ pub fn read_sets(
     work: &mut [u32],
     t: Tables,
 ) -> SetsEnd
-    requires { ⌜ (from ≤ records) × (12 * records ≤ length (now job)) ⌝ }
+    requires { ⌜ (from ≤ records) × (recordStart records ≤ length (now job)) ⌝ }
     requires { ⌜ Room t records (length (now work)) ⌝ }
     requires { ⌜ Holds (now work) t (regionsOnly (regionList axes (from / axes) (now job))) 0 0 (t .body) 0 ⌝ }
     ensures { λ r. ⌜ SetsRead axes mode (now (job .entry)) records from t (now (work .entry)) (now (work .exit)) (r .no) (r .at) (r .sets) (r .values) (r .uses) ⌝ }
@@ -67,10 +71,9 @@ pub fn read_sets(
     let mut count: usize = 0;
     let mut begun: usize = 0;
     while i < records {
-        let at = 12 * i;
-        let kind = job[at];
-        if kind == 2 {
-            let k = take_value(&job[at..], work, t, (sets + 1) as u32, uses, start, count);
+        let kind = kind_at(job, i);
+        if kind == Kind::VALUE {
+            let k = take_value(job, i, work, t, (sets + 1) as u32, uses, start, count);
             if k.no != 0 {
                 return refuse(k.no, i);
             }
@@ -79,8 +82,8 @@ pub fn read_sets(
             values += 1;
             begun = 1;
             i += 1;
-        } else if kind == 3 {
-            let no = end_no(&job[at..], mode, sets);
+        } else if kind == Kind::END {
+            let no = end_at(job, i, mode, sets);
             if no != 0 {
                 return refuse(no, i);
             }
@@ -91,11 +94,11 @@ pub fn read_sets(
             begun = 0;
             i += 1;
         } else {
-            return refuse(5, i);
+            return refuse(Refusal::BAD_RECORD, i);
         }
     }
     if begun != 0 {
-        return refuse(8, i);
+        return refuse(Refusal::UNFINISHED, i);
     }
     SetsEnd {
         no: 0,

@@ -1,5 +1,6 @@
 // Writes the subtables of the final groups. A group stands in work as three words: where its shape is, where the ids of its sets are,
 // and how many there are.
+use limits::Limits;
 use rows::columns;
 use rows::place;
 use rows::write_runs;
@@ -11,9 +12,7 @@ ghost use Rattle.laws.specs.Every.{All};
 ghost use Rattle.rows.specs.Subtable.{subtableOf};
 ghost use Rattle.rows.specs.Lent.{Put, Stored, numberIn, runsBytes, setAt};
 ghost use Rattle.store.specs.Lent.{Handed, chain, finalAt, groupBytes};
-
-// The most regions of a store.
-const REGIONS: usize = 256;
+ghost use Rattle.limits.specs.Limits.{maxRegions};
 
 // The subtables of one group.
 fn write_group(
@@ -26,7 +25,7 @@ fn write_group(
     ids: usize,
     count: usize,
 ) -> usize
-    requires { ⌜ length (now shape) ≤ 256 ⌝ }
+    requires { ⌜ length (now shape) ≤ maxRegions ⌝ }
     requires { ⌜ length (now shape) ≤ length (now numbers) ⌝ }
     requires { ⌜ count < 4294967296 ⌝ }
     requires { ⌜ ids + count ≤ length (now work) ⌝ }
@@ -34,10 +33,10 @@ fn write_group(
     requires { ⌜ at + length (runsBytes (subtableOf (numberIn (now numbers)) (setAt index (now work)) (now shape)) (seg ids count (now work))) ≤ length (now out) ⌝ }
     ensures { λ r. ⌜ Put at (runsBytes (subtableOf (numberIn (now (numbers .entry))) (setAt index (now (work .entry))) (now (shape .entry))) (seg ids count (now (work .entry)))) (now (out .entry)) (now (out .exit)) r ⌝ }
 {
-    let mut cols = [0u32; REGIONS];
+    let mut cols = [0u32; Limits::REGIONS];
     let form = columns(shape, &mut cols);
     let n = form.count;
-    let mut places = [0u32; REGIONS];
+    let mut places = [0u32; Limits::REGIONS];
     place(&cols[..n], &mut places);
     write_runs(
         out,
@@ -63,7 +62,7 @@ fn write_one(
     group: usize,
     index: usize,
 ) -> usize
-    requires { ⌜ regions ≤ 256 ⌝ }
+    requires { ⌜ regions ≤ maxRegions ⌝ }
     requires { ⌜ regions ≤ length (now numbers) ⌝ }
     requires { ⌜ Handed regions index (now work) group ⌝ }
     requires { ⌜ at + length (groupBytes (numberIn (now numbers)) (setAt index (now work)) (finalAt regions (now work) group)) ≤ length (now out) ⌝ }
@@ -95,7 +94,7 @@ pub fn write_groups(
     count: usize,
     index: usize,
 ) -> usize
-    requires { ⌜ regions ≤ 256 ⌝ }
+    requires { ⌜ regions ≤ maxRegions ⌝ }
     requires { ⌜ regions ≤ length (now numbers) ⌝ }
     requires { ⌜ groups + 3 * count ≤ length (now work) ⌝ }
     requires { ⌜ ((g : ℕ) → g < count → Handed regions index (now work) (groups + 3 * g)) ⌝ }

@@ -11,11 +11,12 @@ ghost use Rattle.shapes.specs.Shape.{Shape};
 ghost use Rattle.laws.specs.Every.{All};
 ghost use Rattle.store.specs.Placing.{allRuns, idWords, runsOf};
 ghost use Rattle.store.specs.Lent.{Handed, IdsBelow, Mapped, Small, finalAt, finalsAt, stored};
+ghost use Rattle.limits.specs.Limits.{mostRecords, maxShapes};
 
 // The runs of count ids; answers the position of what follows.
 fn map_runs(work: &[u32], ids: usize, count: usize, first: usize, map: &mut [u32]) -> usize
     requires { ⌜ ids + count ≤ length (now work) ⌝ }
-    requires { ⌜ count ≤ 1048576 ⌝ }
+    requires { ⌜ count ≤ mostRecords ⌝ }
     requires { ⌜ first + 17 ≤ 65536 ⌝ }
     requires { ⌜ All (λ x. x < length (now map)) (seg ids count (now work)) ⌝ }
     ensures { λ r. ⌜ ((s : Shape) → Mapped first (runsOf (record { shape = s; ids = seg ids count (now (work .entry)) })) (now (map .entry)) (now (map .exit)) r) ⌝ }
@@ -61,7 +62,7 @@ pub fn write_map(
     index: usize,
     map: &mut [u32],
 )
-    requires { ⌜ count ≤ 1024 ⌝ }
+    requires { ⌜ count ≤ maxShapes ⌝ }
     requires { ⌜ groups + 3 * count ≤ length (now work) ⌝ }
     requires { ⌜ ((g : ℕ) → g < count → Handed regions index (now work) (groups + 3 * g)) ⌝ }
     requires { ⌜ ((g : ℕ) → g < count → Small (now work) (groups + 3 * g)) ⌝ }

@@ -1,4 +1,6 @@
 // Writes the region list: axis count, region count, then the coordinates of each region that is kept, as they stand in a source.
+use records::COORDS_LONG;
+use records::axis_coords;
 use rows::put;
 ghost use mathlib.Core.Path.{_≡_};
 ghost use mathlib.Core.List.{map};
@@ -24,7 +26,7 @@ fn copy(out: &mut [u8], at: usize, src: &[u8], from: usize, n: usize) -> usize
     at + i
 }
 
-// The coordinates of one region: six bytes for each axis, 12 bytes apart in the source.
+// The coordinates of one region, which stand in the source as in the axis records of a job.
 fn write_region(out: &mut [u8], at: usize, src: &[u8], from: usize, axes: usize) -> usize
     requires { ⌜ axes < 65536 ⌝ }
     requires { ⌜ Sourced axes (now src) from ⌝ }
@@ -34,7 +36,7 @@ fn write_region(out: &mut [u8], at: usize, src: &[u8], from: usize, axes: usize)
     let mut p = at;
     let mut a: usize = 0;
     while a < axes {
-        p = copy(out, p, src, from + 12 * a, 6);
+        p = copy(out, p, src, axis_coords(from, a), COORDS_LONG);
         a += 1;
     }
     p

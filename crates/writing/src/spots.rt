@@ -9,6 +9,7 @@ use store::table_size;
 ghost use Prim.Native.Nat.{ℕ, _+_, _*_, _≤_, _<_};
 ghost use lib.ListN.{length};
 ghost use Rattle.store.specs.Lent.{Handed, Small, Spotted, finalAt, groupSizes, runSizes, sizesAt, spotsOf, total};
+ghost use Rattle.limits.specs.Limits.{mostRecords, maxRegions};
 
 // Where the offsets end, and where the next subtable begins.
 pub struct Spot {
@@ -27,7 +28,7 @@ fn write_run_spots(
 ) -> Spot
     requires { ⌜ n < 65536 ⌝ }
     requires { ⌜ row < 262144 ⌝ }
-    requires { ⌜ count ≤ 1048576 ⌝ }
+    requires { ⌜ count ≤ mostRecords ⌝ }
     requires { ⌜ at + length (spotsOf first (runSizes n row count)) ≤ length (now out) ⌝ }
     requires { ⌜ first + total (runSizes n row count) < 4294967296 ⌝ }
     ensures { λ r. ⌜ Spotted at first (runSizes n row count) (now (out .entry)) (now (out .exit)) (r .at) (r .next) ⌝ }
@@ -56,7 +57,7 @@ fn write_group_spots(
     group: usize,
     index: usize,
 ) -> Spot
-    requires { ⌜ regions ≤ 256 ⌝ }
+    requires { ⌜ regions ≤ maxRegions ⌝ }
     requires { ⌜ Handed regions index (now work) group ⌝ }
     requires { ⌜ Small (now work) group ⌝ }
     requires { ⌜ at + length (spotsOf first (groupSizes (finalAt regions (now work) group))) ≤ length (now out) ⌝ }
@@ -81,7 +82,7 @@ pub fn write_spots(
     count: usize,
     index: usize,
 ) -> Spot
-    requires { ⌜ regions ≤ 256 ⌝ }
+    requires { ⌜ regions ≤ maxRegions ⌝ }
     requires { ⌜ groups + 3 * count ≤ length (now work) ⌝ }
     requires { ⌜ ((g : ℕ) → g < count → Handed regions index (now work) (groups + 3 * g)) ⌝ }
     requires { ⌜ ((g : ℕ) → g < count → Small (now work) (groups + 3 * g)) ⌝ }

@@ -1,5 +1,5 @@
 use Prim.Native.Nat.{_-_}
-use Rattle.build.proofs.StartLaws.{Starting, starts-begin, start-fits, starts-more, starts-done}
+use Rattle.build.proofs.StartLaws.{Starting, starts-begin, start-low, starts-more, starts-done}
 use borrow.Author.Needs.{needs}
 use native.Mathlib.Omega.{arith}
 use Rattle.build.proofs.opening.place_starts.Statement.{statement}
@@ -7,6 +7,7 @@ use Rattle.build.proofs.opening.place_starts.Tie as tie
 use Rattle.build.proofs.opening.place_starts.Reads as reads
 use Rattle.build.proofs.opening.place_starts.Lts as lts
 use Rattle.laws.proofs.wide.Reads as wide-reads
+use Rattle.records.proofs.coords_start.Reads as coords-start-reads
 
 abbrev Inv-loop : tie.InvT-loop
 Inv-loop work₀ at n axes i₀ work i = Starting at n axes work₀ work i
@@ -29,23 +30,17 @@ slice-read-wide c = omega arith
 wide-requires : tie.Need-wide-requires Inv-loop μ-loop
 wide-requires c κs = search needs
 
-mul-work : tie.Need-mul-work Inv-loop μ-loop
-mul-work c = omega arith
-
-mul-work-2 : tie.Need-mul-work-2 Inv-loop μ-loop
-mul-work-2 c = omega (arith, start-fits (c .before .before .before .before .before .pre .0) (c .before .before .before .loop .inv) (c .before .before .before .before .before .pre .1 .0) (c .before .before .before .before .before .pre .1 .1) (omega arith) _ (c .wide .ensures))
-
-add-work : tie.Need-add-work Inv-loop μ-loop
-add-work c = omega (arith, start-fits (c .before .before .before .before .before .pre .0) (c .before .before .before .loop .inv) (c .before .before .before .before .before .pre .1 .0) (c .before .before .before .before .before .pre .1 .1) (omega arith) _ (c .wide .ensures))
+coords-start-requires : tie.Need-coords-start-requires Inv-loop μ-loop
+coords-start-requires c κs = (c .before .before .before .before .before .pre .1 .0, start-low (c .before .before .before .before .before .pre .0) (c .before .before .before .loop .inv) (c .before .before .before .before .before .pre .1 .1) (omega arith) _ (c .wide .ensures))
 
 cast-work : tie.Need-cast-work Inv-loop μ-loop
-cast-work c = omega (arith, start-fits (c .before .before .before .before .before .pre .0) (c .before .before .before .loop .inv) (c .before .before .before .before .before .pre .1 .0) (c .before .before .before .before .before .pre .1 .1) (omega arith) _ (c .wide .ensures))
+cast-work c = omega (arith, c .coords-start .ensures .1)
 
-add-work-2 : tie.Need-add-work-2 Inv-loop μ-loop
-add-work-2 c = omega arith
+add-work : tie.Need-add-work Inv-loop μ-loop
+add-work c = omega arith
 
-mul-work-3 : tie.Need-mul-work-3 Inv-loop μ-loop
-mul-work-3 c = omega arith
+mul-work : tie.Need-mul-work Inv-loop μ-loop
+mul-work c = omega arith
 
 slice-write-work : tie.Need-slice-write-work Inv-loop μ-loop
 slice-write-work c = omega arith
@@ -57,7 +52,7 @@ loop-less : tie.Need-loop-less Inv-loop μ-loop
 loop-less c = omega arith
 
 loop-again : tie.Need-loop-again Inv-loop μ-loop
-loop-again c = starts-more (c .before .before .before .before .before .pre .0) (c .before .before .before .loop .inv) (omega arith) _ (c .wide .ensures)
+loop-again c = starts-more (c .before .before .before .before .before .before .pre .0) (c .before .before .before .before .loop .inv) (omega arith) _ (c .before .wide .ensures) _ (c .coords-start .ensures .0)
 
 same-length : tie.Need-same-length Inv-loop μ-loop
 same-length c = omega arith
@@ -76,12 +71,10 @@ place-starts-spec =
     mul-wide
     slice-read-wide
     wide-requires
-    mul-work
-    mul-work-2
-    add-work
+    coords-start-requires
     cast-work
-    add-work-2
-    mul-work-3
+    add-work
+    mul-work
     slice-write-work
     add-i
     loop-less

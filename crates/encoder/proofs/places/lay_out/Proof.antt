@@ -1,4 +1,5 @@
 use Prim.Native.Nat.{_+_, _*_, _≤_, min}
+use Rattle.limits.specs.Limits.{maxRegions, maxShapes}
 use Rattle.encoder.proofs.PlacesLaws.{slots-few, room-most}
 use native.Mathlib.Omega.{arith}
 use borrow.Author.Needs.{needs}
@@ -9,10 +10,10 @@ use Rattle.encoder.proofs.places.lay_out.Lts as lts
 use Rattle.encoder.proofs.places.log_words.Reads as log-words-reads
 use Rattle.encoder.proofs.places.room_for.Reads as room-for-reads
 
-few : (c : tie.After-room-for) → (c .room-for .result + 1) * c .before .args .regions ≤ 262400
+few : (c : tie.After-room-for) → (c .room-for .result + 1) * c .before .args .regions ≤ (maxShapes + 1) * maxRegions
 few c = slots-few (c .before .args .sets) (c .before .args .regions) (c .room-for .result) (c .room-for .ensures) (omega arith)
 
-most : (c : tie.After-room-for) → c .room-for .result ≤ min (c .before .args .sets) 1024
+most : (c : tie.After-room-for) → c .room-for .result ≤ min (c .before .args .sets) maxShapes
 most c = omega (arith, c .room-for .ensures, room-most (c .before .args .sets) (c .before .args .regions))
 
 room-for-requires : tie.Need-room-for-requires

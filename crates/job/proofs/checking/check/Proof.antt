@@ -9,6 +9,7 @@ use Rattle.job.proofs.early.clear.Reads as clear-reads
 use Rattle.job.proofs.early.early_no.Reads as early-no-reads
 use Rattle.job.proofs.whole.read_job.Reads as read-job-reads
 use Rattle.laws.proofs.wide.Reads as wide-reads
+use Rattle.records.proofs.records_in.Reads as records-in-reads
 
 early-no-requires : tie.Need-early-no-requires
 early-no-requires c κs = search needs
@@ -22,10 +23,13 @@ returns c =
 wide-requires : tie.Need-wide-requires
 wide-requires c κs = search needs
 
+records-in-requires : tie.Need-records-in-requires
+records-in-requires c κs = search needs
+
 read-job-requires : tie.Need-read-job-requires
 read-job-requires c κs =
-    let o = c .before .before .before .early-no .ensures .1 (c .before .before .if1 .left) in
-    omega (arith, o .some, o .most, o .few, o .whole, room _ _ _ _ _ o, c .before .wide .ensures)
+    let o = c .before .before .before .before .early-no .ensures .1 (c .before .before .before .if1 .left) in
+    omega (arith, o .some, o .most, o .few, o .whole, room _ _ _ _ _ o, c .before .before .wide .ensures, c .before .records-in .ensures)
 
 clear-requires : tie.Need-clear-requires
 clear-requires c κs = search needs
@@ -35,20 +39,20 @@ same-length c = search needs
 
 returns-2 : tie.Need-returns-2
 returns-2 c =
-    let a = c .before .before .before .before .before .before .before .before .before .before .before .before .before .before .before .args in
-    let n = c .before .before .before .before .before .before .before .before .before .before .before .before .early-no in
-    let z = c .before .before .before .before .before .before .before .before .before .before .before .if1 .left in
-    (refused-record (a .axes) (a .mode) (a .job .now) (a .work .now) (a .pairs) (n .result) (n .ensures .0) z (c .before .before .before .before .before .before .before .before .before .before .wide .ensures) (c .before .before .before .before .before .before .before .before .read-job .ensures) (c .if2 .taken), left-zeros (a .axes) (a .mode) (a .job .now) (a .work .now) (a .pairs) (n .result) (n .ensures .0) z _ _ (c .before .before .before .before .before .before .before .before .read-job .ensures .only .long) (c .before .before .before .before .clear .ensures))
+    let a = c .before .before .before .before .before .before .before .before .before .before .before .before .before .before .before .before .args in
+    let n = c .before .before .before .before .before .before .before .before .before .before .before .before .before .early-no in
+    let z = c .before .before .before .before .before .before .before .before .before .before .before .before .if1 .left in
+    (refused-record (a .axes) (a .mode) (a .job .now) (a .work .now) (a .pairs) (n .result) (n .ensures .0) z (c .before .before .before .before .before .before .before .before .before .before .before .wide .ensures) (c .before .before .before .before .before .before .before .before .before .before .records-in .ensures) (c .before .before .before .before .before .before .before .before .read-job .ensures) (c .if2 .taken), left-zeros (a .axes) (a .mode) (a .job .now) (a .work .now) (a .pairs) (n .result) (n .ensures .0) z _ _ (c .before .before .before .before .before .before .before .before .read-job .ensures .only .long) (c .before .before .before .before .clear .ensures))
 
 same-length-2 : tie.Need-same-length-2
 same-length-2 c = search needs
 
 returns-3 : tie.Need-returns-3
 returns-3 c =
-    let a = c .before .before .before .before .before .before .before .before .before .before .before .before .before .before .before .args in
-    let n = c .before .before .before .before .before .before .before .before .before .before .before .before .early-no in
-    let z = c .before .before .before .before .before .before .before .before .before .before .before .if1 .left in
-    (sound-all (a .axes) (a .mode) (a .job .now) (a .work .now) (a .pairs) (n .result) (n .ensures .0) z (c .before .before .before .before .before .before .before .before .before .before .wide .ensures) (c .before .before .before .before .before .before .before .before .read-job .ensures) (c .if2 .left), left-zeros (a .axes) (a .mode) (a .job .now) (a .work .now) (a .pairs) (n .result) (n .ensures .0) z _ _ (c .before .before .before .before .before .before .before .before .read-job .ensures .only .long) (c .before .before .before .before .clear .ensures))
+    let a = c .before .before .before .before .before .before .before .before .before .before .before .before .before .before .before .before .args in
+    let n = c .before .before .before .before .before .before .before .before .before .before .before .before .before .early-no in
+    let z = c .before .before .before .before .before .before .before .before .before .before .before .before .if1 .left in
+    (sound-all (a .axes) (a .mode) (a .job .now) (a .work .now) (a .pairs) (n .result) (n .ensures .0) z (c .before .before .before .before .before .before .before .before .before .before .before .wide .ensures) (c .before .before .before .before .before .before .before .before .before .before .records-in .ensures) (c .before .before .before .before .before .before .before .before .read-job .ensures) (c .if2 .left), left-zeros (a .axes) (a .mode) (a .job .now) (a .work .now) (a .pairs) (n .result) (n .ensures .0) z _ _ (c .before .before .before .before .before .before .before .before .read-job .ensures .only .long) (c .before .before .before .before .clear .ensures))
 
 pub check-spec : {M : Type 1} → statement M
 check-spec =
@@ -57,6 +61,7 @@ check-spec =
     early-no-requires
     returns
     wide-requires
+    records-in-requires
     read-job-requires
     clear-requires
     same-length

@@ -1,5 +1,6 @@
 use Prim.Native.Nat.{ℕ, _*_, _≤_}
 use native.Mathlib.Nat.{mul-le-mul, min-eq-left, min-eq-right}
+use Rattle.limits.specs.Limits.{maxShapes}
 use Rattle.said.specs.Refusals.{publishedWork}
 use native.Mathlib.Omega.{arith}
 use borrow.Author.Needs.{needs}
@@ -8,7 +9,7 @@ use Rattle.job.proofs.early.needed.Tie as tie
 use Rattle.job.proofs.early.needed.Reads as reads
 use Rattle.job.proofs.early.needed.Lts as lts
 
-small : (r : ℕ) → r ≤ 1024 → r * r ≤ 1024 * 1024
+small : (r : ℕ) → r ≤ maxShapes → r * r ≤ maxShapes * maxShapes
 small r h = mul-le-mul h h
 
 mul-result : tie.Need-mul-result
@@ -22,17 +23,20 @@ add-result c = omega (arith, small (c .before .args .records) (omega arith))
 
 returns : tie.Need-returns
 unfolding publishedWork
-returns c = let h : c .before .args .records ≤ 1024 = omega arith in simp (min-eq-left h)
+returns c = let h : c .before .args .records ≤ maxShapes = omega arith in simp (min-eq-left h)
 
 mul-result-3 : tie.Need-mul-result-3
 mul-result-3 c = search needs
+
+mul-result-4 : tie.Need-mul-result-4
+mul-result-4 c = search needs
 
 add-result-2 : tie.Need-add-result-2
 add-result-2 c = search needs
 
 returns-2 : tie.Need-returns-2
 unfolding publishedWork
-returns-2 c = let h : 1024 ≤ c .before .args .records = omega arith in simp (min-eq-right h)
+returns-2 c = let h : maxShapes ≤ c .before .args .records = omega arith in simp (min-eq-right h)
 
 pub needed-spec : {M : Type 1} → statement M
 needed-spec =
@@ -43,5 +47,6 @@ needed-spec =
     add-result
     returns
     mul-result-3
+    mul-result-4
     add-result-2
     returns-2)

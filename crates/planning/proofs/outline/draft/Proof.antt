@@ -9,6 +9,7 @@ use Rattle.reader.proofs.StoreLaws.{zeros-at}
 use Rattle.store.proofs.RegionLaws.{marks-none, kept-most}
 use native.Mathlib.Omega.{arith}
 use borrow.Author.Needs.{needs}
+use Rattle.limits.specs.Limits.{mostAxes, maxRegions}
 use Rattle.planning.proofs.outline.draft.Statement.{statement}
 use Rattle.planning.proofs.outline.draft.Tie as tie
 use Rattle.planning.proofs.outline.draft.Reads as reads
@@ -19,11 +20,11 @@ use Rattle.planning.proofs.regions.number.Reads as number-reads
 use Rattle.planning.proofs.size.size_groups.Reads as size-groups-reads
 
 -- the regions kept, and the bytes of their coordinates
-few : (c : tie.After-size-groups) → c .before .before .before .number .result ≤ 256
+few : (c : tie.After-size-groups) → c .before .before .before .number .result ≤ maxRegions
 few c = omega (arith, c .before .before .before .number .ensures .all, kept-most (markedIn (c .before .before .before .before .before .before .before .before .mark-groups .last .1 .1 .1 .1 .1 .0)) (c .before .before .before .before .before .before .before .before .before .before .before .before .before .before .before .before .before .args .regions), c .before .before .before .before .before .before .before .before .before .before .before .before .before .before .before .before .before .pre .1 .0)
 
 bytes : (c : tie.After-size-groups) → 6 * c .before .before .before .before .before .before .before .before .before .before .before .before .before .before .before .before .before .args .axes * c .before .before .before .number .result ≤ 98304
-bytes c = product 384 256 {a = 6 * c .before .before .before .before .before .before .before .before .before .before .before .before .before .before .before .before .before .args .axes} {b = c .before .before .before .number .result} (omega (arith, c .before .before .before .before .before .before .before .before .before .before .before .before .before .before .before .before .before .pre .0)) (few c)
+bytes c = product (6 * mostAxes) maxRegions {a = 6 * c .before .before .before .before .before .before .before .before .before .before .before .before .before .before .before .before .before .args .axes} {b = c .before .before .before .number .result} (omega (arith, c .before .before .before .before .before .before .before .before .before .before .before .before .before .before .before .before .before .pre .0)) (few c)
 
 clear-requires : tie.Need-clear-requires
 clear-requires c κs = search needs

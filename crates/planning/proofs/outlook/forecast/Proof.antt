@@ -9,6 +9,7 @@ use Rattle.store.specs.Lent.{finalAt, total}
 use Rattle.store.proofs.SizeLaws.{sum-start, sum-more, sum-done, forecast-is}
 use borrow.Author.Needs.{needs}
 use native.Mathlib.Omega.{arith}
+use Rattle.limits.specs.Limits.{mostAxes, maxRegions}
 use Rattle.planning.proofs.outlook.forecast.Statement.{statement}
 use Rattle.planning.proofs.outlook.forecast.Tie as tie
 use Rattle.planning.proofs.outlook.forecast.Reads as reads
@@ -28,7 +29,7 @@ abbrev piece : List ℕ → ℕ → ℕ → ℕ → ℕ
 piece work regions groups g = modelOf (finalAt regions work (groups + 3 * g))
 
 bytes : (c : tie.After-loop Inv-loop μ-loop) → 6 * c .before .before .before .args .axes * c .before .before .before .args .kept ≤ 98304
-bytes c = product 384 256 {a = 6 * c .before .before .before .args .axes} {b = c .before .before .before .args .kept} (omega (arith, c .before .before .before .pre .0)) (c .before .before .before .pre .1 .0)
+bytes c = product (6 * mostAxes) maxRegions {a = 6 * c .before .before .before .args .axes} {b = c .before .before .before .args .kept} (omega (arith, c .before .before .before .pre .0)) (c .before .before .before .pre .1 .0)
 
 loop-holds : tie.Need-loop-holds Inv-loop μ-loop
 loop-holds c = let a = c .before .args in (omega arith, omega arith, sum-start (piece (now (a .work)) (a .regions) (a .groups)) (a .count))

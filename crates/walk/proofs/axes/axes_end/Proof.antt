@@ -2,7 +2,7 @@ use mathlib.Core.List.{List}
 use Rattle.said.specs.Refusals.{axisNo}
 use Rattle.laws.proofs.ListLaws.{tail-is}
 use mathlib.Core.Path.{_≡_, sym, ap, _∙_}
-use Prim.Native.Nat.{ℕ, _-_, _*_}
+use Prim.Native.Nat.{ℕ, _-_}
 use Rattle.walk.proofs.WalkLaws.{Reading, reading-start, reading-more, read-bad, read-part, read-whole, read-open, read-all}
 use borrow.Author.Needs.{needs}
 use native.Mathlib.Omega.{arith}
@@ -10,7 +10,8 @@ use Rattle.walk.proofs.axes.axes_end.Statement.{statement}
 use Rattle.walk.proofs.axes.axes_end.Tie as tie
 use Rattle.walk.proofs.axes.axes_end.Reads as reads
 use Rattle.walk.proofs.axes.axes_end.Lts as lts
-use Rattle.records.proofs.axis_no.Reads as axis-no-reads
+use Rattle.records.proofs.axis_at.Reads as axis-at-reads
+use Rattle.records.proofs.kind_at.Reads as kind-at-reads
 
 abbrev Inv-loop : tie.InvT-loop
 Inv-loop job axes records i₀ i = Reading axes job records i
@@ -21,35 +22,23 @@ abbrev μ-loop : tie.MeasureT-loop
 loop-holds : tie.Need-loop-holds Inv-loop μ-loop
 loop-holds c = reading-start _ _ _
 
-mul-at : tie.Need-mul-at Inv-loop μ-loop
-mul-at c = omega arith
-
-shared-slice-read-if1 : tie.Need-shared-slice-read-if1 Inv-loop μ-loop
-shared-slice-read-if1 c = omega arith
+kind-at-requires : tie.Need-kind-at-requires Inv-loop μ-loop
+kind-at-requires c κs = omega (arith, c .before .before .before .pre)
 
 rem-if2 : tie.Need-rem-if2 Inv-loop μ-loop
 rem-if2 c = omega arith
 
 returns : tie.Need-returns Inv-loop μ-loop
-returns c = read-part (c .before .before .before .before .loop .inv) (omega arith) (c .before .if1 .taken) (c .if2 .taken)
+returns c = read-part (c .before .before .before .before .loop .inv) (omega arith) (λ e. c .before .if1 .taken (c .before .before .kind-at .ensures ∙ e)) (c .if2 .taken)
 
 returns-2 : tie.Need-returns-2 Inv-loop μ-loop
-returns-2 c = read-whole (c .before .before .before .before .loop .inv) (omega arith) (c .before .if1 .taken) (c .if2 .left)
+returns-2 c = read-whole (c .before .before .before .before .loop .inv) (omega arith) (λ e. c .before .if1 .taken (c .before .before .kind-at .ensures ∙ e)) (c .if2 .left)
 
-sub-axis-no : tie.Need-sub-axis-no Inv-loop μ-loop
-sub-axis-no c = omega arith
-
-part-axis-no-start : tie.Need-part-axis-no-start Inv-loop μ-loop
-part-axis-no-start c = omega arith
-
-part-axis-no-end : tie.Need-part-axis-no-end Inv-loop μ-loop
-part-axis-no-end c = omega arith
-
-axis-no-requires : tie.Need-axis-no-requires Inv-loop μ-loop
-axis-no-requires c κs = search needs
+axis-at-requires : tie.Need-axis-at-requires Inv-loop μ-loop
+axis-at-requires c κs = (c .before .before .before .before .before .pre .0, omega (arith, c .before .before .before .before .before .pre))
 
 returns-3 : tie.Need-returns-3 Inv-loop μ-loop
-returns-3 c = read-bad (c .before .before .before .before .before .before .loop .inv) (c .before .axis-no .result) (omega arith) (c .before .axis-no .ensures ∙ ap (λ (x : List ℕ). axisNo (c .before .before .before .before .before .before .before .before .args .axes) x (c .before .before .before .before .before .before .loop .i)) (tail-is (c .before .before .before .before .before .before .before .before .args .job .now) (12 * c .before .before .before .before .before .before .loop .i))) (c .if3 .taken) (c .before .before .before .if1 .left)
+returns-3 c = read-bad (c .before .before .before .before .before .loop .inv) (c .before .axis-at .result) (omega arith) (c .before .axis-at .ensures) (c .if3 .taken) (sym (c .before .before .before .kind-at .ensures) ∙ c .before .before .if1 .left)
 
 add-i : tie.Need-add-i Inv-loop μ-loop
 add-i c = omega arith
@@ -58,7 +47,7 @@ loop-less : tie.Need-loop-less Inv-loop μ-loop
 loop-less c = omega arith
 
 loop-again : tie.Need-loop-again Inv-loop μ-loop
-loop-again c = reading-more (c .before .before .before .before .before .before .loop .inv) (c .before .axis-no .result) (omega arith) (c .before .axis-no .ensures ∙ ap (λ (x : List ℕ). axisNo (c .before .before .before .before .before .before .before .before .args .axes) x (c .before .before .before .before .before .before .loop .i)) (tail-is (c .before .before .before .before .before .before .before .before .args .job .now) (12 * c .before .before .before .before .before .before .loop .i))) (c .if3 .left) (c .before .before .before .if1 .left)
+loop-again c = reading-more (c .before .before .before .before .before .loop .inv) (c .before .axis-at .result) (omega arith) (c .before .axis-at .ensures) (c .if3 .left) (sym (c .before .before .before .kind-at .ensures) ∙ c .before .before .if1 .left)
 
 rem-if4 : tie.Need-rem-if4 Inv-loop μ-loop
 rem-if4 c = omega arith
@@ -76,15 +65,11 @@ axes-end-spec =
     Inv-loop
     μ-loop
     loop-holds
-    mul-at
-    shared-slice-read-if1
+    kind-at-requires
     rem-if2
     returns
     returns-2
-    sub-axis-no
-    part-axis-no-start
-    part-axis-no-end
-    axis-no-requires
+    axis-at-requires
     returns-3
     add-i
     loop-less

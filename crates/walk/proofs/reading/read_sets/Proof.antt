@@ -1,16 +1,18 @@
 use mathlib.Core.Path.{_≡_, refl, sym, ap, _∙_}
 use mathlib.Core.List.{List, [], _∷_}
 use Prim.Native.Nat.{ℕ, _+_, _-_, _*_, _<_}
-use lib.ListN.{length, getD, length-take, length-drop}
+use lib.ListN.{length}
 use Rattle.laws.proofs.RangeLaws.{only-refl}
-use Rattle.walk.proofs.ReadingLaws.{Stands, stands-start, value-fits, end-fits, value-stops, value-goes, end-stops, end-goes, other-stops, read-refused, read-open, read-fine, refused-as, tail-value, tail-end}
+use Rattle.said.specs.Refusals.{badRecord}
+use Rattle.walk.proofs.ReadingLaws.{Stands, stands-start, value-fits, end-fits, value-stops, value-goes, end-stops, end-goes, other-stops, read-refused, read-open, read-fine, refused-as}
 use native.Mathlib.Omega.{arith}
 use borrow.Author.Needs.{needs}
 use Rattle.walk.proofs.reading.read_sets.Statement.{statement}
 use Rattle.walk.proofs.reading.read_sets.Tie as tie
 use Rattle.walk.proofs.reading.read_sets.Reads as reads
 use Rattle.walk.proofs.reading.read_sets.Lts as lts
-use Rattle.records.proofs.end_no.Reads as end-no-reads
+use Rattle.records.proofs.end_at.Reads as end-at-reads
+use Rattle.records.proofs.kind_at.Reads as kind-at-reads
 use Rattle.values.proofs.take_value.Reads as take-value-reads
 use Rattle.walk.proofs.reading.end_set.Reads as end-set-reads
 use Rattle.walk.proofs.reading.refuse.Reads as refuse-reads
@@ -25,131 +27,110 @@ loop-holds : tie.Need-loop-holds Inv-loop μ-loop
 loop-holds c = let a = c .before .before .args in
     stands-start (a .axes) (a .mode) (a .job .now) (a .records) (a .from) (a .t) (a .work .now) (c .before .before .pre .1 .0) (c .before .before .pre .0 .0) (c .before .before .pre .1 .1)
 
-mul-at : tie.Need-mul-at Inv-loop μ-loop
-mul-at c = omega (arith, c .before .before .before .before .pre .0, c .before .loop .inv .few, c .before .loop .inv .within, c .before .before .before .before .pre .1 .0 .few)
-
-shared-slice-read-kind : tie.Need-shared-slice-read-kind Inv-loop μ-loop
-shared-slice-read-kind c = omega (arith, c .before .before .before .before .before .pre .0, c .before .before .loop .inv .few, c .before .before .loop .inv .within, c .before .before .before .before .before .pre .1 .0 .few)
-
-sub-take-value : tie.Need-sub-take-value Inv-loop μ-loop
-sub-take-value c = omega (arith, c .before .before .before .before .before .before .pre .0, c .before .before .before .loop .inv .few, c .before .before .before .loop .inv .within, c .before .before .before .before .before .before .pre .1 .0 .few)
-
-part-take-value-start : tie.Need-part-take-value-start Inv-loop μ-loop
-part-take-value-start c = omega (arith, c .before .before .before .before .before .before .pre .0, c .before .before .before .loop .inv .few, c .before .before .before .loop .inv .within, c .before .before .before .before .before .before .pre .1 .0 .few)
-
-part-take-value-end : tie.Need-part-take-value-end Inv-loop μ-loop
-part-take-value-end c = omega (arith, c .before .before .before .before .before .before .pre .0, c .before .before .before .loop .inv .few, c .before .before .before .loop .inv .within, c .before .before .before .before .before .before .pre .1 .0 .few)
+kind-at-requires : tie.Need-kind-at-requires Inv-loop μ-loop
+kind-at-requires c κs = omega (arith, c .before .before .before .before .pre .0)
 
 add-take-value : tie.Need-add-take-value Inv-loop μ-loop
-add-take-value c = omega (arith, c .before .before .before .before .before .before .before .before .pre .0, c .before .before .before .before .before .loop .inv .few, c .before .before .before .before .before .loop .inv .within, c .before .before .before .before .before .before .before .before .pre .1 .0 .few)
+add-take-value c = omega (arith, c .before .before .before .before .before .before .before .pre .0, c .before .before .before .before .loop .inv .few, c .before .before .before .before .loop .inv .within, c .before .before .before .before .before .before .before .pre .1 .0 .few)
 
 cast-take-value : tie.Need-cast-take-value Inv-loop μ-loop
-cast-take-value c = omega (arith, c .before .before .before .before .before .before .before .before .pre .0, c .before .before .before .before .before .loop .inv .few, c .before .before .before .before .before .loop .inv .within, c .before .before .before .before .before .before .before .before .pre .1 .0 .few)
+cast-take-value c = omega (arith, c .before .before .before .before .before .before .before .pre .0, c .before .before .before .before .loop .inv .few, c .before .before .before .before .loop .inv .within, c .before .before .before .before .before .before .before .pre .1 .0 .few)
 
 take-value-requires : tie.Need-take-value-requires Inv-loop μ-loop
-take-value-requires c κs = let a = c .before .before .before .before .before .before .before .before .args in
-    let l = c .before .before .before .before .before .loop in
+take-value-requires c κs = let a = c .before .before .before .before .before .before .before .args in
+    let l = c .before .before .before .before .loop in
     let n = l .inv in
-    let room = c .before .before .before .before .before .before .before .before .pre .1 .0 in
-    (simp (length-take, length-drop) (omega (arith, c .before .before .before .before .before .before .before .before .pre .0)), value-fits (a .axes) (a .mode) (a .job .now) (a .records) (a .from) (a .t) (a .work .now) room n (omega arith))
+    let room = c .before .before .before .before .before .before .before .pre .1 .0 in
+    (omega (arith, c .before .before .before .before .before .before .before .pre .0), value-fits (a .axes) (a .mode) (a .job .now) (a .records) (a .from) (a .t) (a .work .now) room n (omega arith))
 
 refuse-requires : tie.Need-refuse-requires Inv-loop μ-loop
 refuse-requires c κs = search needs
 
 same-length : tie.Need-same-length Inv-loop μ-loop
-same-length c = let a = c .before .before .before .before .before .before .before .before .before .before .before .before .before .before .args in
-    let l = c .before .before .before .before .before .before .before .before .before .before .before .loop in
+same-length c = let a = c .before .before .before .before .before .before .before .before .before .before .before .before .before .args in
+    let l = c .before .before .before .before .before .before .before .before .before .before .loop in
     let n = l .inv in
-    let room = c .before .before .before .before .before .before .before .before .before .before .before .before .before .before .pre .1 .0 in
-    (tail-value (a .job .now) (12 * l .i) (c .before .before .before .before .before .take-value .ensures (n .said) (l .sets) refl (n .held))) .only .long ∙ n .only .long
+    let room = c .before .before .before .before .before .before .before .before .before .before .before .before .before .pre .1 .0 in
+    (c .before .before .before .before .before .take-value .ensures (n .said) (l .sets) refl (n .held)) .only .long ∙ n .only .long
 
 returns : tie.Need-returns Inv-loop μ-loop
-returns c = let a = c .before .before .before .before .before .before .before .before .before .before .before .before .before .before .args in
-    let l = c .before .before .before .before .before .before .before .before .before .before .before .loop in
+returns c = let a = c .before .before .before .before .before .before .before .before .before .before .before .before .before .args in
+    let l = c .before .before .before .before .before .before .before .before .before .before .loop in
     let n = l .inv in
-    let room = c .before .before .before .before .before .before .before .before .before .before .before .before .before .before .pre .1 .0 in
-    let p = (tail-value (a .job .now) (12 * l .i) (c .before .before .before .before .before .take-value .ensures (n .said) (l .sets) refl (n .held))) in
-    refused-as (a .axes) (a .mode) (a .job .now) (a .records) (a .from) (a .t) _ _ _ (c .refuse .ensures) (read-refused (a .axes) (a .mode) (a .job .now) (a .records) (a .from) (a .t) (a .work .now) room n _ (c .before .before .before .before .before .take-value .result .no) (p .only) (c .before .if2 .taken) (value-stops (a .axes) (a .mode) (a .job .now) (a .records) (a .from) (a .t) (a .work .now) room n (omega arith) (c .before .before .before .before .before .before .before .before .if1 .taken) _ _ _ _ p (c .before .if2 .taken)))
+    let room = c .before .before .before .before .before .before .before .before .before .before .before .before .before .pre .1 .0 in
+    let p = (c .before .before .before .before .before .take-value .ensures (n .said) (l .sets) refl (n .held)) in
+    refused-as (a .axes) (a .mode) (a .job .now) (a .records) (a .from) (a .t) _ _ _ (c .refuse .ensures) (read-refused (a .axes) (a .mode) (a .job .now) (a .records) (a .from) (a .t) (a .work .now) room n _ (c .before .before .before .before .before .take-value .result .no) (p .only) (c .before .if2 .taken) (value-stops (a .axes) (a .mode) (a .job .now) (a .records) (a .from) (a .t) (a .work .now) room n (omega arith) (sym (c .before .before .before .before .before .before .before .before .kind-at .ensures) ∙ c .before .before .before .before .before .before .before .if1 .taken) _ _ _ _ p (c .before .if2 .taken)))
 
 add-values : tie.Need-add-values Inv-loop μ-loop
-add-values c = omega (arith, c .before .before .before .before .before .before .before .before .before .before .before .before .before .pre .0, c .before .before .before .before .before .before .before .before .before .before .loop .inv .few, c .before .before .before .before .before .before .before .before .before .before .loop .inv .within, c .before .before .before .before .before .before .before .before .before .before .before .before .before .pre .1 .0 .few)
+add-values c = omega (arith, c .before .before .before .before .before .before .before .before .before .before .before .before .pre .0, c .before .before .before .before .before .before .before .before .before .loop .inv .few, c .before .before .before .before .before .before .before .before .before .loop .inv .within, c .before .before .before .before .before .before .before .before .before .before .before .before .pre .1 .0 .few)
 
 add-i : tie.Need-add-i Inv-loop μ-loop
-add-i c = omega (arith, c .before .before .before .before .before .before .before .before .before .before .before .before .before .pre .0, c .before .before .before .before .before .before .before .before .before .before .loop .inv .few, c .before .before .before .before .before .before .before .before .before .before .loop .inv .within, c .before .before .before .before .before .before .before .before .before .before .before .before .before .pre .1 .0 .few)
+add-i c = omega (arith, c .before .before .before .before .before .before .before .before .before .before .before .before .pre .0, c .before .before .before .before .before .before .before .before .before .loop .inv .few, c .before .before .before .before .before .before .before .before .before .loop .inv .within, c .before .before .before .before .before .before .before .before .before .before .before .before .pre .1 .0 .few)
 
 loop-less : tie.Need-loop-less Inv-loop μ-loop
 loop-less c = omega arith
 
 loop-again : tie.Need-loop-again Inv-loop μ-loop
-loop-again c = let a = c .before .before .before .before .before .before .before .before .before .before .before .before .before .args in
-    let l = c .before .before .before .before .before .before .before .before .before .before .loop in
+loop-again c = let a = c .before .before .before .before .before .before .before .before .before .before .before .before .args in
+    let l = c .before .before .before .before .before .before .before .before .before .loop in
     let n = l .inv in
-    let room = c .before .before .before .before .before .before .before .before .before .before .before .before .before .pre .1 .0 in
-    value-goes (a .axes) (a .mode) (a .job .now) (a .records) (a .from) (a .t) (a .work .now) room n (omega arith) (c .before .before .before .before .before .before .before .if1 .taken) _ _ _ _ (tail-value (a .job .now) (12 * l .i) (c .before .before .before .before .take-value .ensures (n .said) (l .sets) refl (n .held))) (c .if2 .left)
+    let room = c .before .before .before .before .before .before .before .before .before .before .before .before .pre .1 .0 in
+    value-goes (a .axes) (a .mode) (a .job .now) (a .records) (a .from) (a .t) (a .work .now) room n (omega arith) (sym (c .before .before .before .before .before .before .before .kind-at .ensures) ∙ c .before .before .before .before .before .before .if1 .taken) _ _ _ _ (c .before .before .before .before .take-value .ensures (n .said) (l .sets) refl (n .held)) (c .if2 .left)
 
-sub-end-no : tie.Need-sub-end-no Inv-loop μ-loop
-sub-end-no c = omega (arith, c .before .before .before .before .before .before .before .pre .0, c .before .before .before .before .loop .inv .few, c .before .before .before .before .loop .inv .within, c .before .before .before .before .before .before .before .pre .1 .0 .few)
-
-part-end-no-start : tie.Need-part-end-no-start Inv-loop μ-loop
-part-end-no-start c = omega (arith, c .before .before .before .before .before .before .before .pre .0, c .before .before .before .before .loop .inv .few, c .before .before .before .before .loop .inv .within, c .before .before .before .before .before .before .before .pre .1 .0 .few)
-
-part-end-no-end : tie.Need-part-end-no-end Inv-loop μ-loop
-part-end-no-end c = omega (arith, c .before .before .before .before .before .before .before .pre .0, c .before .before .before .before .loop .inv .few, c .before .before .before .before .loop .inv .within, c .before .before .before .before .before .before .before .pre .1 .0 .few)
-
-end-no-requires : tie.Need-end-no-requires Inv-loop μ-loop
-end-no-requires c κs = simp (length-take, length-drop) (omega (arith, c .before .before .before .before .before .before .before .before .pre .0))
+end-at-requires : tie.Need-end-at-requires Inv-loop μ-loop
+end-at-requires c κs = omega (arith, c .before .before .before .before .before .before .before .pre .0)
 
 refuse-requires-2 : tie.Need-refuse-requires-2 Inv-loop μ-loop
 refuse-requires-2 c κs = search needs
 
 same-length-2 : tie.Need-same-length-2 Inv-loop μ-loop
-same-length-2 c = c .before .before .before .before .before .before .before .before .loop .inv .only .long
+same-length-2 c = c .before .before .before .before .before .before .before .loop .inv .only .long
 
 returns-2 : tie.Need-returns-2 Inv-loop μ-loop
-returns-2 c = let a = c .before .before .before .before .before .before .before .before .before .before .before .args in
-    let l = c .before .before .before .before .before .before .before .before .loop in
+returns-2 c = let a = c .before .before .before .before .before .before .before .before .before .before .args in
+    let l = c .before .before .before .before .before .before .before .loop in
     let n = l .inv in
-    let room = c .before .before .before .before .before .before .before .before .before .before .before .pre .1 .0 in
-    refused-as (a .axes) (a .mode) (a .job .now) (a .records) (a .from) (a .t) _ _ _ (c .refuse2 .ensures) (read-refused (a .axes) (a .mode) (a .job .now) (a .records) (a .from) (a .t) (a .work .now) room n (l .work) (c .before .before .end-no .result) (only-refl ((0, a .t .first) ∷ []) (l .work)) (c .before .if4 .taken) (end-stops (a .axes) (a .mode) (a .job .now) (a .records) (a .from) (a .t) (a .work .now) room n (omega arith) (c .before .before .before .before .if3 .taken) (c .before .before .end-no .result) (tail-end (a .job .now) (12 * l .i) (a .mode) (l .sets) (c .before .before .end-no .result) (c .before .before .end-no .ensures)) (c .before .if4 .taken)))
+    let room = c .before .before .before .before .before .before .before .before .before .before .pre .1 .0 in
+    refused-as (a .axes) (a .mode) (a .job .now) (a .records) (a .from) (a .t) _ _ _ (c .refuse2 .ensures) (read-refused (a .axes) (a .mode) (a .job .now) (a .records) (a .from) (a .t) (a .work .now) room n (l .work) (c .before .before .end-at .result) (only-refl ((0, a .t .first) ∷ []) (l .work)) (c .before .if4 .taken) (end-stops (a .axes) (a .mode) (a .job .now) (a .records) (a .from) (a .t) (a .work .now) room n (omega arith) (sym (c .before .before .before .before .before .kind-at .ensures) ∙ c .before .before .before .if3 .taken) (c .before .before .end-at .result) (c .before .before .end-at .ensures) (c .before .if4 .taken)))
 
 end-set-requires : tie.Need-end-set-requires Inv-loop μ-loop
-end-set-requires c κs = let a = c .before .before .before .before .before .before .before .before .before .before .before .args in
-    let l = c .before .before .before .before .before .before .before .before .loop in
+end-set-requires c κs = let a = c .before .before .before .before .before .before .before .before .before .before .args in
+    let l = c .before .before .before .before .before .before .before .loop in
     let n = l .inv in
-    let room = c .before .before .before .before .before .before .before .before .before .before .before .pre .1 .0 in
+    let room = c .before .before .before .before .before .before .before .before .before .before .pre .1 .0 in
     end-fits (a .axes) (a .mode) (a .job .now) (a .records) (a .from) (a .t) (a .work .now) room n (omega arith)
 
 mul-start : tie.Need-mul-start Inv-loop μ-loop
-mul-start c = let a = c .before .before .before .before .before .before .before .before .before .before .before .before .before .before .args in
-    let l = c .before .before .before .before .before .before .before .before .before .before .before .loop in
+mul-start c = let a = c .before .before .before .before .before .before .before .before .before .before .before .before .before .args in
+    let l = c .before .before .before .before .before .before .before .before .before .before .loop in
     let n = l .inv in
-    let room = c .before .before .before .before .before .before .before .before .before .before .before .before .before .before .pre .1 .0 in
+    let room = c .before .before .before .before .before .before .before .before .before .before .before .before .before .pre .1 .0 in
     let f = end-fits (a .axes) (a .mode) (a .job .now) (a .records) (a .from) (a .t) (a .work .now) room n (omega arith) in
     omega (arith, f .body-in, f .used-to, f .slot-to, f .stamp-to, f .first-to, f .long-few)
 
 add-start : tie.Need-add-start Inv-loop μ-loop
-add-start c = let a = c .before .before .before .before .before .before .before .before .before .before .before .before .before .before .args in
-    let l = c .before .before .before .before .before .before .before .before .before .before .before .loop in
+add-start c = let a = c .before .before .before .before .before .before .before .before .before .before .before .before .before .args in
+    let l = c .before .before .before .before .before .before .before .before .before .before .loop in
     let n = l .inv in
-    let room = c .before .before .before .before .before .before .before .before .before .before .before .before .before .before .pre .1 .0 in
+    let room = c .before .before .before .before .before .before .before .before .before .before .before .before .before .pre .1 .0 in
     let f = end-fits (a .axes) (a .mode) (a .job .now) (a .records) (a .from) (a .t) (a .work .now) room n (omega arith) in
     omega (arith, f .body-in, f .used-to, f .slot-to, f .stamp-to, f .first-to, f .long-few)
 
 add-sets : tie.Need-add-sets Inv-loop μ-loop
-add-sets c = omega (arith, c .before .before .before .before .before .before .before .before .before .before .before .before .before .before .pre .0, c .before .before .before .before .before .before .before .before .before .before .before .loop .inv .few, c .before .before .before .before .before .before .before .before .before .before .before .loop .inv .within, c .before .before .before .before .before .before .before .before .before .before .before .before .before .before .pre .1 .0 .few)
+add-sets c = omega (arith, c .before .before .before .before .before .before .before .before .before .before .before .before .before .pre .0, c .before .before .before .before .before .before .before .before .before .before .loop .inv .few, c .before .before .before .before .before .before .before .before .before .before .loop .inv .within, c .before .before .before .before .before .before .before .before .before .before .before .before .before .pre .1 .0 .few)
 
 add-i-2 : tie.Need-add-i-2 Inv-loop μ-loop
-add-i-2 c = omega (arith, c .before .before .before .before .before .before .before .before .before .before .before .before .before .before .pre .0, c .before .before .before .before .before .before .before .before .before .before .before .loop .inv .few, c .before .before .before .before .before .before .before .before .before .before .before .loop .inv .within, c .before .before .before .before .before .before .before .before .before .before .before .before .before .before .pre .1 .0 .few)
+add-i-2 c = omega (arith, c .before .before .before .before .before .before .before .before .before .before .before .before .before .pre .0, c .before .before .before .before .before .before .before .before .before .before .loop .inv .few, c .before .before .before .before .before .before .before .before .before .before .loop .inv .within, c .before .before .before .before .before .before .before .before .before .before .before .before .before .pre .1 .0 .few)
 
 loop-less-2 : tie.Need-loop-less-2 Inv-loop μ-loop
 loop-less-2 c = omega arith
 
 loop-again-2 : tie.Need-loop-again-2 Inv-loop μ-loop
-loop-again-2 c = let a = c .before .before .before .before .before .before .before .before .before .before .before .before .before .before .args in
-    let l = c .before .before .before .before .before .before .before .before .before .before .before .loop in
+loop-again-2 c = let a = c .before .before .before .before .before .before .before .before .before .before .before .before .before .args in
+    let l = c .before .before .before .before .before .before .before .before .before .before .loop in
     let n = l .inv in
-    let room = c .before .before .before .before .before .before .before .before .before .before .before .before .before .before .pre .1 .0 in
-    end-goes (a .axes) (a .mode) (a .job .now) (a .records) (a .from) (a .t) (a .work .now) room n (omega arith) (c .before .before .before .before .before .before .before .if3 .taken) (c .before .before .before .before .before .end-no .result) (tail-end (a .job .now) (12 * l .i) (a .mode) (l .sets) (c .before .before .before .before .before .end-no .result) (c .before .before .before .before .before .end-no .ensures)) _ (c .before .before .end-set .ensures (n .said) (l .uses) (omega (arith, n .uses-few, n .few, n .within, room .used-to)) (n .held)) (c .before .before .before .before .if4 .left)
+    let room = c .before .before .before .before .before .before .before .before .before .before .before .before .before .pre .1 .0 in
+    end-goes (a .axes) (a .mode) (a .job .now) (a .records) (a .from) (a .t) (a .work .now) room n (omega arith) (sym (c .before .before .before .before .before .before .before .before .kind-at .ensures) ∙ c .before .before .before .before .before .before .if3 .taken) (c .before .before .before .before .before .end-at .result) (c .before .before .before .before .before .end-at .ensures) _ (c .before .before .end-set .ensures (n .said) (l .uses) (omega (arith, n .uses-few, n .few, n .within, room .used-to)) (n .held)) (c .before .before .before .before .if4 .left)
 
 refuse-requires-3 : tie.Need-refuse-requires-3 Inv-loop μ-loop
 refuse-requires-3 c κs = search needs
@@ -162,7 +143,7 @@ returns-3 c = let a = c .before .before .before .before .before .before .before 
     let l = c .before .before .before .before .before .loop in
     let n = l .inv in
     let room = c .before .before .before .before .before .before .before .before .pre .1 .0 in
-    refused-as (a .axes) (a .mode) (a .job .now) (a .records) (a .from) (a .t) _ _ _ (c .refuse3 .ensures) (read-refused (a .axes) (a .mode) (a .job .now) (a .records) (a .from) (a .t) (a .work .now) room n (l .work) 5 (only-refl ((0, a .t .first) ∷ []) (l .work)) (λ e. omega arith) (other-stops (a .axes) (a .mode) (a .job .now) (a .records) (a .from) (a .t) (a .work .now) room n (omega arith) (c .before .before .if1 .left) (c .before .if3 .left)))
+    refused-as (a .axes) (a .mode) (a .job .now) (a .records) (a .from) (a .t) _ _ _ (c .refuse3 .ensures) (read-refused (a .axes) (a .mode) (a .job .now) (a .records) (a .from) (a .t) (a .work .now) room n (l .work) badRecord (only-refl ((0, a .t .first) ∷ []) (l .work)) (λ e. omega arith) (other-stops (a .axes) (a .mode) (a .job .now) (a .records) (a .from) (a .t) (a .work .now) room n (omega arith) (λ e. c .before .before .if1 .left (c .before .before .before .kind-at .ensures ∙ e)) (λ e. c .before .if3 .left (c .before .before .before .kind-at .ensures ∙ e))))
 
 refuse-requires-4 : tie.Need-refuse-requires-4 Inv-loop μ-loop
 refuse-requires-4 c κs = search needs
@@ -194,11 +175,7 @@ read-sets-spec =
     Inv-loop
     μ-loop
     loop-holds
-    mul-at
-    shared-slice-read-kind
-    sub-take-value
-    part-take-value-start
-    part-take-value-end
+    kind-at-requires
     add-take-value
     cast-take-value
     take-value-requires
@@ -209,10 +186,7 @@ read-sets-spec =
     add-i
     loop-less
     loop-again
-    sub-end-no
-    part-end-no-start
-    part-end-no-end
-    end-no-requires
+    end-at-requires
     refuse-requires-2
     same-length-2
     returns-2

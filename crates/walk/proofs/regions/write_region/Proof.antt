@@ -1,8 +1,9 @@
 use mathlib.Core.Path.{_≡_, sym, ap, _∙_}
-use Prim.Native.Nat.{ℕ, _+_, _-_, _*_, _/_, _%_}
+use Prim.Native.Nat.{ℕ, _+_, _-_, _*_}
 use lib.ListN.{length, drop}
 use Rattle.laws.specs.Bytes.{be}
 use Rattle.laws.proofs.BytesLaws.{be-drop}
+use Rattle.said.specs.Records.{coordPlace}
 use Rattle.said.specs.Sets.{coordinates}
 use Rattle.walk.proofs.WriteLaws.{Writing, writing-start, writing-more, writing-done}
 use Rattle.said.proofs.RegionLaws.{coords-length, coords-at}
@@ -13,7 +14,7 @@ use Rattle.walk.proofs.regions.write_region.Statement.{statement}
 use Rattle.walk.proofs.regions.write_region.Tie as tie
 use Rattle.walk.proofs.regions.write_region.Reads as reads
 use Rattle.walk.proofs.regions.write_region.Lts as lts
-use Rattle.records.proofs.two_bytes.Reads as two-bytes-reads
+use Rattle.records.proofs.coordinate.Reads as coordinate-reads
 
 abbrev Inv-loop : tie.InvT-loop
 Inv-loop job p axes work₀ at k₀ work k = Writing at (3 * axes) (coordinates axes (drop p job)) work₀ work k
@@ -27,23 +28,8 @@ loop-holds c = writing-start _ _ _ _ (omega arith) (coords-length (c .before .be
 mul-loop : tie.Need-mul-loop Inv-loop μ-loop
 mul-loop c = omega arith
 
-mul-two-bytes : tie.Need-mul-two-bytes Inv-loop μ-loop
-mul-two-bytes c = omega arith
-
-mul-two-bytes-2 : tie.Need-mul-two-bytes-2 Inv-loop μ-loop
-mul-two-bytes-2 c = omega arith
-
-add-two-bytes : tie.Need-add-two-bytes Inv-loop μ-loop
-add-two-bytes c = omega arith
-
-add-two-bytes-2 : tie.Need-add-two-bytes-2 Inv-loop μ-loop
-add-two-bytes-2 c = omega arith
-
-add-two-bytes-3 : tie.Need-add-two-bytes-3 Inv-loop μ-loop
-add-two-bytes-3 c = omega arith
-
-two-bytes-requires : tie.Need-two-bytes-requires Inv-loop μ-loop
-two-bytes-requires c κs = search needs
+coordinate-requires : tie.Need-coordinate-requires Inv-loop μ-loop
+coordinate-requires c κs = omega arith
 
 cast-work : tie.Need-cast-work Inv-loop μ-loop
 cast-work c = omega arith
@@ -84,11 +70,11 @@ loop-less c = omega arith
 loop-again : tie.Need-loop-again Inv-loop μ-loop
 loop-again c = let a = c .before .before .before .before .before .args in
     let l = c .before .before .loop in
-    let b = c .two-bytes in
+    let b = c .coordinate in
     writing-more (a .at) (3 * a .axes) (coordinates (a .axes) (drop (a .p) (a .job .now))) (a .work .now) (omega arith) (coords-length (a .axes) (drop (a .p) (a .job .now)))
     (l .work) (l .k) (b .result) (l .inv) (omega arith)
     (b .ensures .0
-    ∙ sym (be-drop 2 (a .p) (a .job .now) (12 * (l .k / 3) + (4 + 2 * (l .k % 3))))
+    ∙ sym (be-drop 2 (a .p) (a .job .now) (coordPlace (l .k)))
     ∙ sym (coords-at (a .axes) (drop (a .p) (a .job .now)) (l .k) (omega arith)))
     (b .ensures .1)
 
@@ -108,12 +94,7 @@ write-region-spec =
     μ-loop
     loop-holds
     mul-loop
-    mul-two-bytes
-    mul-two-bytes-2
-    add-two-bytes
-    add-two-bytes-2
-    add-two-bytes-3
-    two-bytes-requires
+    coordinate-requires
     cast-work
     mul-work
     add-work

@@ -2,6 +2,7 @@ use mathlib.Core.Path.{_≡_, sym, ap, _∙_}
 use Prim.Native.Nat.{ℕ, _+_, _-_, _*_}
 use lib.ListN.{length, length-set}
 use Rattle.laws.proofs.Products.{row-fits}
+use Rattle.said.specs.Records.{regionLong}
 use Rattle.walk.proofs.WriteLaws.{Regioning, regioning-start, regioning-more, regioning-done}
 use borrow.Author.Needs.{needs}
 use native.Mathlib.Omega.{arith}
@@ -9,6 +10,7 @@ use Rattle.walk.proofs.regions.write_regions.Statement.{statement}
 use Rattle.walk.proofs.regions.write_regions.Tie as tie
 use Rattle.walk.proofs.regions.write_regions.Reads as reads
 use Rattle.walk.proofs.regions.write_regions.Lts as lts
+use Rattle.records.proofs.region_long.Reads as region-long-reads
 use Rattle.walk.proofs.regions.write_region.Reads as write-region-reads
 
 abbrev Inv-loop : tie.InvT-loop
@@ -25,7 +27,7 @@ write-region-requires : tie.Need-write-region-requires Inv-loop μ-loop
 write-region-requires c κs = let a = c .before .before .before .before .before .args in
     let l = c .before .before .loop in
     let g = l .inv in
-    omega (arith, row-fits (12 * a .axes) (a .regions) (l .r) (omega arith), row-fits (6 * a .axes) (a .regions) (l .r) (omega arith), g .p-is, g .start-is, g .only .long)
+    omega (arith, row-fits (regionLong (a .axes)) (a .regions) (l .r) (omega arith), row-fits (6 * a .axes) (a .regions) (l .r) (omega arith), g .p-is, g .start-is, g .only .long)
 
 cast-work : tie.Need-cast-work Inv-loop μ-loop
 cast-work c = let a = c .before .before .before .before .before .before .before .before .args in
@@ -73,30 +75,30 @@ slice-write-work-2 c = let a = c .before .before .before .before .before .before
 add-r : tie.Need-add-r Inv-loop μ-loop
 add-r c = omega arith
 
-mul-p : tie.Need-mul-p Inv-loop μ-loop
-mul-p c = omega arith
+region-long-requires : tie.Need-region-long-requires Inv-loop μ-loop
+region-long-requires c κs = omega (arith, c .before .before .before .before .before .before .before .before .pre)
 
 add-p : tie.Need-add-p Inv-loop μ-loop
-add-p c = let a = c .before .before .before .before .before .before .before .before .args in
-    let l = c .before .before .before .before .before .loop in
-    omega (arith, row-fits (12 * a .axes) (a .regions) (l .r) (omega arith), l .inv .p-is, c .before .before .before .before .before .before .before .before .pre)
+add-p c = let a = c .before .before .before .before .before .before .before .before .before .args in
+    let l = c .before .before .before .before .before .before .loop in
+    omega (arith, row-fits (regionLong (a .axes)) (a .regions) (l .r) (omega arith), l .inv .p-is, c .before .before .before .before .before .before .before .before .before .pre)
 
 mul-start : tie.Need-mul-start Inv-loop μ-loop
 mul-start c = omega arith
 
 add-start : tie.Need-add-start Inv-loop μ-loop
-add-start c = let a = c .before .before .before .before .before .before .before .before .args in
-    let l = c .before .before .before .before .before .loop in
-    omega (arith, row-fits (6 * a .axes) (a .regions) (l .r) (omega arith), l .inv .start-is, c .before .before .before .before .before .before .before .before .pre)
+add-start c = let a = c .before .before .before .before .before .before .before .before .before .args in
+    let l = c .before .before .before .before .before .before .loop in
+    omega (arith, row-fits (6 * a .axes) (a .regions) (l .r) (omega arith), l .inv .start-is, c .before .before .before .before .before .before .before .before .before .pre)
 
 loop-less : tie.Need-loop-less Inv-loop μ-loop
 loop-less c = omega arith
 
 loop-again : tie.Need-loop-again Inv-loop μ-loop
-loop-again c = let a = c .before .before .before .before .before .before .before .before .args in
-    let l = c .before .before .before .before .before .loop in
-    regioning-more (a .index) (a .body) (a .axes) (a .regions) (a .job .now) (a .work .now) (omega (arith, c .before .before .before .before .before .before .before .before .pre)) (omega (arith, c .before .before .before .before .before .before .before .before .pre))
-    (l .work) _ (l .r) (l .p) (l .start) (l .inv) (omega arith) (c .before .before .write-region .ensures)
+loop-again c = let a = c .before .before .before .before .before .before .before .before .before .args in
+    let l = c .before .before .before .before .before .before .loop in
+    regioning-more (a .index) (a .body) (a .axes) (a .regions) (a .job .now) (a .work .now) (omega (arith, c .before .before .before .before .before .before .before .before .before .pre)) (omega (arith, c .before .before .before .before .before .before .before .before .before .pre))
+    (l .work) _ (l .r) (l .p) (l .start) (l .inv) (omega arith) (c .before .before .before .write-region .ensures) (c .region-long .result) (c .region-long .ensures)
 
 same-length : tie.Need-same-length Inv-loop μ-loop
 same-length c = c .before .loop .inv .only .long
@@ -128,7 +130,7 @@ write-regions-spec =
     mul-work-5
     slice-write-work-2
     add-r
-    mul-p
+    region-long-requires
     add-p
     mul-start
     add-start

@@ -6,6 +6,7 @@ use Rattle.rows.specs.Lent.{numberIn, setAt}
 use Rattle.store.proofs.GroupLaws.{formed-few, formed-room, formed-long, formed-ok, formed-word, group-is}
 use native.Mathlib.Omega.{arith}
 use borrow.Author.Needs.{needs}
+use Rattle.limits.specs.Limits.{maxRegions}
 use Rattle.writing.proofs.groups.write_group.Statement.{statement}
 use Rattle.writing.proofs.groups.write_group.Tie as tie
 use Rattle.writing.proofs.groups.write_group.Reads as reads
@@ -30,7 +31,7 @@ slice-aggregate-place-2 : tie.Need-slice-aggregate-place-2
 slice-aggregate-place-2 c = search needs
 
 place-requires : tie.Need-place-requires
-place-requires c κs = (omega (arith, formed-long _ _ _ _ _ (c .before .before .before .columns .ensures), formed-few _ _ _ _ _ (c .before .before .before .columns .ensures), c .before .before .before .before .before .before .before .before .before .pre .0), formed-ok _ _ _ _ _ (c .before .before .before .columns .ensures) 256 (c .before .before .before .before .before .before .before .before .before .pre .0))
+place-requires c κs = (omega (arith, formed-long _ _ _ _ _ (c .before .before .before .columns .ensures), formed-few _ _ _ _ _ (c .before .before .before .columns .ensures), c .before .before .before .before .before .before .before .before .before .pre .0), formed-ok _ _ _ _ _ (c .before .before .before .columns .ensures) maxRegions (c .before .before .before .before .before .before .before .before .before .pre .0))
 
 array-share-prefix-cols-2 : tie.Need-array-share-prefix-cols-2
 array-share-prefix-cols-2 c = formed-room _ _ _ _ _ (c .before .before .before .before .before .before .columns .ensures)

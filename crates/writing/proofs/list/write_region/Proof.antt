@@ -5,6 +5,7 @@ use Rattle.laws.specs.Bounded.{tabulate}
 use Rattle.laws.specs.Range.{seg}
 use Rattle.laws.proofs.RangeLaws.{length-seg}
 use Rattle.rows.specs.Subtable.{joinAll}
+use Rattle.said.specs.Records.{axisCoords, coordsLong}
 use Rattle.store.specs.Lent.{chain, coordsAt}
 use Rattle.rows.proofs.PutLaws.{Putting}
 use Rattle.store.proofs.GroupLaws.{chain-start, chain-room, chain-more, chain-done}
@@ -14,33 +15,31 @@ use Rattle.writing.proofs.list.write_region.Statement.{statement}
 use Rattle.writing.proofs.list.write_region.Tie as tie
 use Rattle.writing.proofs.list.write_region.Reads as reads
 use Rattle.writing.proofs.list.write_region.Lts as lts
+use Rattle.records.proofs.axis_coords.Reads as axis-coords-reads
 use Rattle.writing.proofs.list.copy.Reads as copy-reads
 
 abbrev Inv-loop : tie.InvT-loop
-Inv-loop out₀ at src from axes p₀ a₀ out p a = Putting at (chain (λ a. seg (from + 12 * a) 6 src) axes) out₀ out p (joinAll (tabulate a (axes - a) (λ a. seg (from + 12 * a) 6 src)))
+Inv-loop out₀ at src from axes p₀ a₀ out p a = Putting at (chain (λ a. seg (axisCoords from a) coordsLong src) axes) out₀ out p (joinAll (tabulate a (axes - a) (λ a. seg (axisCoords from a) coordsLong src)))
 
 abbrev μ-loop : tie.MeasureT-loop
 μ-loop out₀ at src from axes p₀ a₀ out p a = axes - a
 
 abbrev piece : List ℕ → ℕ → ℕ → List ℕ
-piece src from a = seg (from + 12 * a) 6 src
+piece src from a = seg (axisCoords from a) coordsLong src
 
 loop-holds : tie.Need-loop-holds Inv-loop μ-loop
 unfolding coordsAt
 loop-holds c = chain-start (piece (now (c .before .before .args .src)) (c .before .before .args .from)) _ _ _ (c .before .before .pre .1 .1)
 
-mul-copy : tie.Need-mul-copy Inv-loop μ-loop
-mul-copy c = omega arith
-
-add-copy : tie.Need-add-copy Inv-loop μ-loop
-add-copy c = omega (arith, c .before .before .before .before .before .pre .1 .0 .inside (c .before .before .loop .a) (c .before .loop-test .taken))
+axis-coords-requires : tie.Need-axis-coords-requires Inv-loop μ-loop
+axis-coords-requires c κs = omega (arith, c .before .before .before .before .before .pre .1 .0 .inside (c .before .before .loop .a) (c .before .loop-test .taken))
 
 copy-requires : tie.Need-copy-requires Inv-loop μ-loop
 unfolding coordsAt
 copy-requires c κs =
-    let a = c .before .before .before .before .before .args in
-    let i = c .before .before .before .before .before .pre .1 .0 .inside (c .before .before .loop .a) (c .before .loop-test .taken) in
-    (omega (arith, chain-room (piece (now (a .src)) (a .from)) (a .axes) (a .at) (now (a .out)) (c .before .before .before .before .before .pre .1 .1) _ _ _ (c .before .before .loop .inv) (c .before .loop-test .taken), length-seg (a .from + 12 * c .before .before .loop .a) 6 (now (a .src)) i), i)
+    let a = c .before .before .before .before .before .before .args in
+    let i = c .before .before .before .before .before .before .pre .1 .0 .inside (c .before .before .before .loop .a) (c .before .before .loop-test .taken) in
+    (omega (arith, chain-room (piece (now (a .src)) (a .from)) (a .axes) (a .at) (now (a .out)) (c .before .before .before .before .before .before .pre .1 .1) _ _ _ (c .before .before .before .loop .inv) (c .before .before .loop-test .taken), length-seg (axisCoords (a .from) (c .before .before .before .loop .a)) coordsLong (now (a .src)) i), omega (arith, i, c .axis-coords .ensures))
 
 add-a : tie.Need-add-a Inv-loop μ-loop
 add-a c = omega arith
@@ -51,8 +50,8 @@ loop-less c = omega arith
 loop-again : tie.Need-loop-again Inv-loop μ-loop
 unfolding coordsAt
 loop-again c =
-    let a = c .before .before .before .before .before .before .before .before .args in
-    chain-more (piece (now (a .src)) (a .from)) (a .axes) (a .at) (now (a .out)) (c .before .before .before .before .before .before .before .before .pre .1 .1) _ _ _ (c .before .before .before .before .before .loop .inv) (c .before .before .before .before .loop-test .taken) _ _ (c .before .before .copy .ensures)
+    let a = c .before .before .before .before .before .before .before .before .before .args in
+    chain-more (piece (now (a .src)) (a .from)) (a .axes) (a .at) (now (a .out)) (c .before .before .before .before .before .before .before .before .before .pre .1 .1) _ _ _ (c .before .before .before .before .before .before .loop .inv) (c .before .before .before .before .before .loop-test .taken) _ _ (rw (c .before .before .before .axis-coords .ensures) at (c .before .before .copy .ensures))
 
 same-length : tie.Need-same-length Inv-loop μ-loop
 same-length c = c .before .loop .inv .long
@@ -70,8 +69,7 @@ write-region-spec =
     Inv-loop
     μ-loop
     loop-holds
-    mul-copy
-    add-copy
+    axis-coords-requires
     copy-requires
     add-a
     loop-less
