@@ -14,7 +14,7 @@ use Rattle.laws.proofs.EveryLaws.{all-append, all-imp}
 use Rattle.laws.proofs.SortMap.{keep-in, keep-out}
 use Rattle.laws.proofs.UpLaws.{up-long, up-at}
 use Rattle.encoder.proofs.NumberLaws.{at-mem}
-use Rattle.rows.specs.Subtable.{joinAll}
+use Rattle.laws.specs.Joining.{joinAll}
 
 module _ {A : Type 0} where
   -- what is in one of the lists is in all of them together

@@ -40,7 +40,7 @@ use Rattle.rule.specs.Model.{Living, start, run, merged}
 use Rattle.rule.proofs.Theorems as theorems
 use Rattle.rule.proofs.Origins.{times, homes, one-home, no-home, joinOf, Made, made, Home, home}
 use Rattle.rows.specs.Row.{wordIn, Widths, Covers}
-use Rattle.rows.specs.Subtable.{joinAll}
+use Rattle.laws.specs.Joining.{joinAll}
 use Rattle.store.specs.Placing.{Final}
 use Rattle.encoder.specs.Packed.{Packed, noLater, dense, numberOf, belongs, finalOf, isAhead, finalsOf, shared, own}
 use Rattle.encoder.proofs.NumberLaws.{number-at, among-mem, among, mem-sorted}

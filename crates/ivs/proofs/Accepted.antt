@@ -32,6 +32,7 @@ use Rattle.finishing.specs.declared.answers.Built.{Built}
 use Rattle.finishing.specs.declared.answers.Built.the-variants.{Refused, Done}
 use Rattle.finishing.specs.Late.{Lengths, storeFor, lateNo, reportOf, lateAnswer, ifDone, outLeft, idsLeft, mapLeft, logLeft}
 use Rattle.build.specs.Build.{regionBytes, coordsOf, packedOf, answerFrom, answerOf, leftFrom, outAfter, idsAfter, mapAfter, logAfter}
+use Rattle.build.proofs.CoordLaws.{coords-bytes}
 use Rattle.build.proofs.ReadBack.{Sized}
 
 -- ---- the sizes of what a sound job says
@@ -101,6 +102,7 @@ module _ (axes mode : ℕ) (job : List ℕ) (records : ℕ) (s : Said) (e : walk
         words = well .words-low;
         coords-are = coords-long;
         coords-whole = coords-whole;
+        coords-bytes = coords-bytes s;
         axes-few = a;
         regions-few = room .2;
         sets-few = omega (arith, room .0);

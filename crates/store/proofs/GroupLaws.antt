@@ -14,15 +14,16 @@ use Rattle.shapes.specs.Shape.{Shape}
 use Rattle.reader.specs.Store.{columnsOk}
 use Rattle.rows.specs.Columns.{columnsOf, wordCount}
 use Rattle.rows.specs.Row.{Set}
-use Rattle.rows.specs.Subtable.{joinAll, runCount, subtableOf}
+use Rattle.rows.specs.Subtable.{runCount}
+use Rattle.laws.specs.Joining.{joinAll}
 use Rattle.store.specs.Placing.{Final}
 use Rattle.rows.specs.Lent.{Put, Formed, tableBytes, runAt, runsBytes}
-use Rattle.store.specs.Lent.{chain}
+use Rattle.store.specs.Lent.{chain, subtableOf}
 use Rattle.reader.proofs.StoreLaws.{ok-intro, ok-below, ok-once}
 use Rattle.rows.proofs.ColumnsLaws.{columns-ok, word-below}
 use Rattle.rows.proofs.CollectLaws.{columns-count, columns-most}
 use Rattle.rows.proofs.PutLaws.{Putting, put-start, put-more, put-done}
-use Rattle.rows.proofs.RunLaws.{table-is}
+use Rattle.store.proofs.TableLaws.{table-is}
 
 -- ---- one group
 

@@ -1,4 +1,5 @@
 pub mod HeaderLaws
+pub mod TableLaws
 pub mod GroupLaws
 pub mod RegionLaws
 pub mod ListLaws

@@ -15,7 +15,7 @@ use Rattle.laws.specs.Range.{seg}
 use Rattle.laws.specs.Sorting.{keep}
 use Rattle.laws.proofs.BytesLaws.{bytes-length}
 use Rattle.laws.proofs.RangeLaws.{seg-cons, seg-none, length-seg}
-use Rattle.rows.specs.Subtable.{joinAll}
+use Rattle.laws.specs.Joining.{joinAll}
 use Rattle.rows.specs.Lent.{Put}
 use Rattle.store.specs.Lent.{chain, coordsAt, keptBytes, listBytes, markedIn}
 use Rattle.rows.proofs.OverLaws.{set-over}

@@ -11,7 +11,8 @@ use Rattle.laws.specs.Range.{seg}
 use Rattle.laws.proofs.BoundedLaws.{length-tabulate}
 use Rattle.laws.proofs.RangeLaws.{seg-cons, seg-none}
 use Rattle.shapes.specs.Shape.{Shape}
-use Rattle.rows.specs.Subtable.{joinAll, runCount}
+use Rattle.rows.specs.Subtable.{runCount}
+use Rattle.laws.specs.Joining.{joinAll}
 use Rattle.store.specs.Placing.{Final, runsOf, allRuns, inRun, idWords}
 use Rattle.rows.specs.Lent.{runAt}
 use Rattle.store.specs.Lent.{Mapped, stored}

@@ -19,15 +19,15 @@ use Rattle.laws.proofs.BoundedLaws.{length-tabulate}
 use Rattle.laws.proofs.RangeLaws.{length-seg}
 use Rattle.laws.proofs.Cases.{lt-or-ge}
 use Rattle.shapes.specs.Shape.{Shape}
-use Rattle.shapes.specs.Group.{maxItems}
+use Rattle.shapes.specs.Group.{maxItems, groupCost}
 use Rattle.reader.specs.Store.{columnAt}
 use Rattle.rows.specs.Columns.{columnsOf, wordCount}
-use Rattle.shapes.specs.Group.{groupCost}
 use Rattle.shapes.specs.Lent.{Narrow, Measured, costOf}
 use Rattle.shapes.proofs.GroupLaws.{cost-measured}
 use Rattle.shapes.proofs.LentLaws.{narrow-small}
 use Rattle.laws.proofs.Products.{product}
-use Rattle.rows.specs.Subtable.{joinAll, runCount}
+use Rattle.rows.specs.Subtable.{runCount}
+use Rattle.laws.specs.Joining.{joinAll}
 use Rattle.store.specs.Placing.{Final, modelOf, modelled, forecastOf}
 use Rattle.rows.specs.Lent.{Formed}
 use Rattle.store.specs.Lent.{FormOf, Handed, Summed, chain, finalAt, finalsAt, groupSizes, runSizes, tableSize, total}
