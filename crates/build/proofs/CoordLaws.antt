@@ -10,11 +10,11 @@ use Rattle.laws.specs.Every.{All}
 use Rattle.laws.specs.Bytes.{be, bytesOf}
 use Rattle.laws.specs.Bounded.{tabulate}
 use Rattle.laws.specs.Range.{seg}
+use Rattle.laws.specs.Joining.{joinAll}
 use Rattle.laws.proofs.BytesLaws.{be-drop, bytes-low}
 use Rattle.laws.proofs.EveryLaws.{all, all-map, all-append, all-getD}
 use Rattle.laws.proofs.Products.{row-fits}
 use Rattle.laws.proofs.RangeLaws.{seg-add, seg-cons, seg-none}
-use Rattle.laws.specs.Joining.{joinAll}
 use Rattle.store.specs.Lent.{chain, coordsAt, coordsOf}
 use Rattle.stores.specs.Stores.{Bytes}
 use Rattle.said.specs.Sets.{Region, coordinates, regionList}

@@ -12,7 +12,7 @@ use Rattle.laws.specs.Every.{All}
 use Rattle.laws.specs.Bounded.{tabulate, upTo}
 use Rattle.laws.specs.Range.{Only, seg}
 use Rattle.laws.proofs.Cases.{lt-or-ge}
-use Rattle.laws.proofs.EveryLaws.{all-imp}
+use Rattle.laws.proofs.EveryLaws.{all-imp, map-self}
 use Rattle.laws.proofs.Products.{row-fits}
 use Rattle.laws.proofs.RangeLaws.{only-trans, only-set, only-weaken, only-widen, only-seg, seg-none, seg-ext}
 use Rattle.laws.proofs.UpLaws.{up-at, up-all}
@@ -115,12 +115,8 @@ unfolding oneCost
 one-cost regions l n e h = rw (ne-eqb (length l) 0 (λ z. omega arith), e)
 
 -- a number that stands for itself
-map-same : (f : ℕ → ℕ) (l : List ℕ) → All (λ x. f x ≡ x) l → map f l ≡ l
-map-same f [] h = refl
-map-same f (x ∷ l) h = ap₂ _∷_ (h .0) (map-same f l (h .1))
-
 up-map : (n : ℕ) → map (λ x. getD (upTo n) x 0) (upTo n) ≡ upTo n
-up-map n = map-same (λ x. getD (upTo n) x 0) (upTo n) (all-imp (λ x h. up-at n x h) (upTo n) (up-all n))
+up-map n = map-self (λ x. getD (upTo n) x 0) (upTo n) (all-imp (λ x h. up-at n x h) (upTo n) (up-all n))
 
 -- a group's three words say its shape and its rows
 final-is : (regions at shape rows n : ℕ) (w : List ℕ) → getD w at 0 ≡ shape → getD w (at + 1) 0 ≡ rows → getD w (at + 2) 0 ≡ n

@@ -17,10 +17,11 @@ use Rattle.laws.specs.Pick.{pick}
 use Rattle.laws.specs.Every.{All}
 use Rattle.laws.specs.Bounded.{tabulate, upTo}
 use Rattle.laws.specs.Range.{seg}
-use Rattle.laws.proofs.EveryLaws.{all, all-append}
+use Rattle.laws.specs.Joining.{joinAll}
+use Rattle.laws.proofs.EveryLaws.{all, all-append, map-same}
 use Rattle.laws.proofs.ListLaws.{map-append, getD-map-in}
 use Rattle.laws.proofs.JoinLaws.{join-snoc}
-use Rattle.laws.proofs.BoundedLaws.{tabulate-same, tabulate-snoc, length-tabulate}
+use Rattle.laws.proofs.BoundedLaws.{tabulate-same, tabulate-snoc, length-tabulate, map-tabulate}
 use Rattle.laws.proofs.BagLaws.{weigh-append}
 use Rattle.laws.proofs.SortLaws.{keep-same}
 use Rattle.laws.proofs.Cases.{same-or-not}
@@ -34,15 +35,12 @@ use Rattle.stores.specs.Stores.{Table, place}
 use Rattle.rows.specs.Columns.{columnsOf, wordCount}
 use Rattle.rows.specs.Row.{Set, rowOf}
 use Rattle.rows.specs.Subtable.{runCount}
-use Rattle.laws.specs.Joining.{joinAll}
 use Rattle.store.specs.Placing.{Final, runsOf, allRuns, names, keptOf, newIndex, slotOf, madeOf, storeOf, modelOf, modelled, forecastOf}
 use Rattle.rows.specs.Lent.{entriesAt, setAt}
-use Rattle.store.specs.Lent.{chain, finalAt, finalsAt, groupSizes, runSizes, sizesAt, tableSize, total, Drafted, Planned}
+use Rattle.store.specs.Lent.{chain, finalAt, finalsAt, groupSizes, runSizes, sizesAt, tableSize, total}
 use Rattle.rows.proofs.CollectLaws.{columns-count, columns-most}
 use Rattle.reader.proofs.ColumnLaws.{at-zero, at-step, bytes-range}
 use Rattle.store.proofs.SizeLaws.{size-none, size-some, runs-few}
-use Rattle.store.proofs.PlacedLaws.{map-tabulate}
-use Rattle.store.proofs.TableLaws.{map-same}
 use Rattle.encoder.specs.declared.places.Places.{Places}
 use Rattle.encoder.specs.declared.encoded.Encoded.{Encoded}
 use Rattle.encoder.specs.Packed.{Packed}
@@ -321,19 +319,3 @@ module _ (k : Packed) (p : Places) (e : Encoded) (w : List ℕ) (packed : Packed
       let few = chain-few (λ g. groupSizes (the-group g)) sets-of (e .count) group-few in
       let list = product 384 256 {a = 6 * axes} {b = kept} (omega arith) b in
       omega (arith, packed .rows-few, packed .sets-few, packed .finals-few)
-
--- ---- what was drafted can be written
-
-pub planned-of : (axes : ℕ) (w : List ℕ) (regions groups count : ℕ) (marks numbers : List ℕ) (bytes runs kept : ℕ)
-    → Drafted axes w regions groups count marks numbers bytes runs kept
-    → 8 + 4 * runs + (4 + 6 * axes * kept) + total (sizesAt regions groups count w) < 4294967296
-    → Planned axes w regions groups count marks numbers runs kept
-planned-of axes w regions groups count marks numbers bytes runs kept d h = record {
-  marks-room = d .marks-room;
-  numbers-room = d .numbers-room;
-  marked = d .marked;
-  numbered = d .numbered;
-  runs-is = d .runs-is;
-  runs-few = d .runs-few;
-  short = h;
-}

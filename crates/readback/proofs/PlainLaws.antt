@@ -10,13 +10,13 @@ use lib.ListN.{length}
 use lib.Seq.{take-all}
 use Rattle.laws.specs.Bytes.{bytesOf}
 use Rattle.laws.specs.Bounded.{tabulate, upTo}
+use Rattle.laws.specs.Joining.{joinAll}
 use Rattle.laws.proofs.UpLaws.{up-long}
 use Rattle.laws.proofs.Cases.{lt-or-ge}
 use Rattle.shapes.specs.Shape.{Shape}
 use Rattle.shapes.specs.Group.{maxItems}
 use Rattle.rows.specs.Row.{Set}
 use Rattle.rows.specs.Subtable.{runCount}
-use Rattle.laws.specs.Joining.{joinAll}
 use Rattle.stores.specs.Stores.{offsets}
 use Rattle.store.specs.Placing.{Final, runsOf, allRuns, inRun, idWords, slotOf, madeOf}
 use Rattle.rows.proofs.RunLaws.{run-none, run-some}

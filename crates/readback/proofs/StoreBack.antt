@@ -1,12 +1,11 @@
 -- What is written reads back: each row and region of the store of final groups, by the value that it parses to. Assumes nothing.
-use mathlib.Core.Path.{_≡_, refl, sym, ap, _∙_}
+use mathlib.Core.Path.{_≡_, sym, ap, _∙_}
 use mathlib.Core.Bool.{Bool, true}
 use mathlib.Core.List.{List, [], _∷_, map}
 use mathlib.Core.Logic.{⊎-elim}
 use mathlib.Core.Option.{none}
-use Prim.Native.Nat.{ℕ, suc, _≤_, _<_}
+use Prim.Native.Nat.{ℕ, suc, _<_}
 use native.Mathlib.Omega.{arith}
-use lib.Dec.{leb}
 use lib.IntN.{ℤ, pos, negsuc}
 use lib.ListN.{length, getD, length-map, List·getD-eq-default}
 use borrow.Author.Tests.{lt-leb, eqb-true}
@@ -19,7 +18,7 @@ use Rattle.shapes.proofs.WidthLaws.{cost-none}
 use Rattle.reader.specs.declared.column.Column.{Column}
 use Rattle.reader.specs.declared.column.Column.the-variants.{At, Missing}
 use Rattle.reader.specs.declared.reader.Reading.the-variants.{Written, NoColumn}
-use Rattle.reader.specs.Store.{find, columnsOk, readStore, valueOf}
+use Rattle.reader.specs.Store.{find, readStore, valueOf}
 use Rattle.stores.specs.Stores.{Parsed, readRow, readTable, readParsed}
 use Rattle.stores.proofs.Picking.{rank-less, rank-same}
 use Rattle.stores.proofs.Kept.{find-map}

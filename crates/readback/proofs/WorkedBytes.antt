@@ -7,13 +7,13 @@ use Rattle.laws.specs.Bytes.{bytesOf}
 use Rattle.laws.specs.Signed.{twos, value}
 use Rattle.laws.specs.Bounded.{tabulate}
 use Rattle.laws.specs.Sorting.{keep}
+use Rattle.laws.specs.Joining.{joinAll}
 use Rattle.shapes.specs.Shape.{Shape, rowCost, columns, overhead}
 use Rattle.shapes.specs.Group.{groupCost}
 use Rattle.stores.specs.Stores.{tableBytes, slotBytes, offsets, listBytes, place}
 use Rattle.rows.specs.Columns.{addIf, ofWidth, columnsOf, wordCount, bytesFor}
 use Rattle.rows.specs.Row.{Set, wordIn, cellsOf, rowOf}
 use Rattle.rows.specs.Subtable.{runCount}
-use Rattle.laws.specs.Joining.{joinAll}
 use Rattle.store.specs.Placing.{Final, runsOf, allRuns, inRun, idWords, names, keptOf, slotOf, madeOf, storeOf, modelOf, modelled, forecastOf}
 
 -- R0 and R1

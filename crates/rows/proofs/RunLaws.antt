@@ -11,6 +11,7 @@ use borrow.Author.Tests.{eq-eqb, ne-eqb}
 use Rattle.laws.specs.Bounded.{tabulate}
 use Rattle.laws.specs.Range.{seg}
 use Rattle.laws.specs.Every.{All}
+use Rattle.laws.specs.Joining.{joinAll}
 use Rattle.laws.proofs.BytesLaws.{bytes-length}
 use Rattle.laws.proofs.RangeLaws.{length-seg, seg-drop, seg-all, all-seg}
 use Rattle.laws.proofs.Cases.{lt-or-ge}
@@ -18,7 +19,6 @@ use Rattle.shapes.specs.Group.{maxItems}
 use Rattle.reader.specs.Store.{columnAt}
 use Rattle.rows.specs.Row.{Set}
 use Rattle.rows.specs.Subtable.{runCount}
-use Rattle.laws.specs.Joining.{joinAll}
 use Rattle.rows.specs.Lent.{indexBytes, Put, rowsBytes, headBytes, tableBytes, runAt, runsBytes}
 use Rattle.rows.proofs.PutLaws.{Putting, put-start, put-more, put-done, put-join, put-long, index-length, rows-length}
 

@@ -13,9 +13,9 @@ use Rattle.reader.specs.Store.{columnBytes, columnsOk, find}
 use Rattle.rows.specs.Columns.{columnsOf, wordCount}
 use Rattle.rows.specs.Row.{Set, valueIn}
 use Rattle.laws.specs.Bounded.{tabulate}
+use Rattle.laws.specs.Joining.{joinAll}
 use Rattle.shapes.specs.Group.{maxItems}
 use Rattle.rows.specs.Subtable.{runCount}
-use Rattle.laws.specs.Joining.{joinAll}
 
 -- n entries that stand in w from index a on, two words each
 unfoldable pub entriesAt : ℕ → ℕ → List ℕ → Set

@@ -5,5 +5,6 @@ pub mod RegionLaws
 pub mod ListLaws
 pub mod SizeLaws
 pub mod SpotLaws
+pub mod Pieces
 pub mod PlacedLaws
 pub mod MapLaws

@@ -1,53 +1,39 @@
 -- The store of the definition, by the pieces that the code writes. Assumes nothing.
-use mathlib.Core.Path.{_≡_, refl, sym, ap, ap₂, _∙_}
-use mathlib.Core.Bool.{Bool, true, false}
-use mathlib.Core.List.{List, [], _∷_, _++_, append-assoc, map}
-use mathlib.Core.Option.{Option, none, some}
+use mathlib.Core.Path.{_≡_, refl, sym, ap, _∙_}
+use mathlib.Core.Bool.{Bool}
+use mathlib.Core.List.{List, [], _∷_, _++_, map}
 use Prim.Native.Nat.{ℕ, zero, suc, _+_, _-_, _*_, _≤_, _<_, min}
-use native.Mathlib.Nat.{add-zero, mul-comm}
+use native.Mathlib.Nat.{mul-comm}
 use native.Mathlib.Omega.{arith}
-use lib.Dec.{eqb}
-use lib.ListN.{length, getD, take, drop, length-append, length-map, length-take, length-drop}
-use borrow.Author.Tests.{ne-eqb}
-use Rattle.laws.specs.Every.{All}
+use lib.ListN.{length, getD, drop, length-append, length-map, length-take, length-drop}
 use Rattle.laws.specs.Bag.{weigh}
 use Rattle.laws.specs.Bytes.{bytesOf}
 use Rattle.laws.specs.Bounded.{tabulate, upTo}
 use Rattle.laws.specs.Range.{seg}
 use Rattle.laws.specs.Sorting.{keep}
-use Rattle.laws.proofs.EveryLaws.{all, all-imp, all-map}
+use Rattle.laws.specs.Joining.{joinAll}
+use Rattle.laws.proofs.EveryLaws.{all, all-imp, all-map, map-same}
 use Rattle.laws.proofs.JoinLaws.{map-join, join-join, join-long}
-use Rattle.laws.proofs.BoundedLaws.{tabulate-same, length-tabulate, getD-tabulate}
+use Rattle.laws.proofs.BoundedLaws.{tabulate-same, length-tabulate, getD-tabulate, map-tabulate}
 use Rattle.laws.proofs.SortLaws.{keep-same}
 use Rattle.laws.proofs.SortMap.{keep-all}
 use Rattle.laws.proofs.UpLaws.{up-all}
 use Rattle.laws.proofs.BytesLaws.{bytes-length}
-use Rattle.shapes.specs.Shape.{Shape}
 use Rattle.shapes.specs.Group.{maxItems}
 use Rattle.reader.specs.Store.{columnAt}
-use Rattle.stores.specs.Stores.{Table, Parsed, slotBytes, offsets, place}
-use Rattle.stores.specs.Stores as value
 use Rattle.rows.specs.Columns.{columnsOf, wordCount}
 use Rattle.rows.specs.Row.{Set}
 use Rattle.rows.specs.Subtable.{runCount}
-use Rattle.laws.specs.Joining.{joinAll}
-use Rattle.store.specs.Placing.{Final, runsOf, allRuns, names, keptOf, newIndex, slotOf, madeOf, storeOf}
+use Rattle.store.specs.Placing.{Final, runsOf, allRuns, names, keptOf, newIndex, storeOf}
 use Rattle.rows.specs.Lent.{Put, setAt, numberIn, runAt, runsBytes}
-use Rattle.store.specs.Lent.{Drafted, Marks, Numbered, Planned, Ready, Sourced, Spotted, headerBytes, chain, coordsAt, coordsOf, finalAt, finalsAt, groupBytes, groupSizes, keptBytes, listBytes, markedIn, runSizes, sizesAt, spotOf, spotsOf, tableSize, total, subtableOf}
+use Rattle.store.specs.Lent.{Drafted, Marks, Planned, Ready, Sourced, Spotted, headerBytes, chain, coordsAt, coordsOf, finalAt, finalsAt, groupBytes, groupSizes, keptBytes, listBytes, markedIn, runSizes, sizesAt, spotsOf, subtableOf, tableSize, total}
 use Rattle.laws.proofs.RangeLaws.{length-seg}
 use Rattle.store.proofs.RegionLaws.{kept-most}
 use Rattle.store.proofs.SpotLaws.{spots-length}
 use Rattle.store.proofs.ListLaws.{list-length}
 use Rattle.rows.proofs.PutLaws.{put-join, put-long}
-use Rattle.store.proofs.TableLaws.{map-same, sub-length, sub-same}
-
--- ---- lists of lists
-
-module _ {A B : Type 0} where
-  pub map-tabulate : (g : A → B) (a n : ℕ) (f : ℕ → A) → map g (tabulate a n f) ≡ tabulate a n (λ k. g (f k))
-  unfolding tabulate
-  map-tabulate g a zero f = refl
-  map-tabulate g a (suc n) f = ap (λ (l : List B). g (f a) ∷ l) (map-tabulate g (suc a) n f)
+use Rattle.store.proofs.TableLaws.{sub-length, sub-same}
+use Rattle.store.proofs.Pieces.{listOf, store-pieces}
 
 -- ---- one group
 
@@ -113,63 +99,6 @@ module _ (number : ℕ → ℕ) (set : ℕ → Set) (f : ℕ → Final) (n : ℕ
 
     pub tables-count : length tables ≡ length (chain (λ g. groupSizes (f g)) n)
     tables-count = sym (length-map tables (λ (t : List ℕ). length t)) ∙ ap length tables-sized
-
--- ---- a store as a value, by its pieces
-
--- a subtable that is not null has bytes
-table-some : (t : Table) → length (value.tableBytes t) ≡ 0 → ⊥
-unfolding value.tableBytes
-table-some t e =
-    let rest =
-    bytesOf 2 (t .word) ++ (bytesOf 2 (length (t .columns)) ++ (joinAll (map (bytesOf 2) (t .columns)) ++ joinAll (t .rows))) in
-    omega (arith, length-append (bytesOf 2 (length (t .rows))) rest, bytes-length 2 (length (t .rows)))
-
--- so offsets depend on the sizes alone
-offsets-are : (at : ℕ) (ts : List (Option Table)) → offsets at ts ≡ spotsOf at (map (λ (t : List ℕ). length t) (map slotBytes ts))
-unfolding offsets spotsOf spotOf slotBytes
-offsets-are at [] = refl
-offsets-are at (none ∷ ts) = rw (add-zero, offsets-are at ts)
-offsets-are at (some t ∷ ts) = rw (ne-eqb (length (value.tableBytes t)) 0 (table-some t), offsets-are (at + length (value.tableBytes t)) ts)
-
--- a region list and subtables by their bytes, put one after another
-abbrev pub pieces : List ℕ → List (List ℕ) → List ℕ
-pieces list ts =
-    headerBytes (length ts)
-    ++ (spotsOf (8 + 4 * length ts + length list) (map (λ (t : List ℕ). length t) ts)
-    ++ (list
-    ++ joinAll ts))
-
-place-pieces : (p : Parsed) → place p ≡ pieces (value.listBytes p) (map slotBytes (p .tables))
-unfolding place
-place-pieces p =
-    let n = length (p .tables) in
-    let begin = 8 + 4 * n + length (value.listBytes p) in
-    rw (length-map (p .tables) slotBytes, offsets-are begin (p .tables))
-    (regroup (bytesOf 2 1) (bytesOf 4 (8 + 4 * n)) (bytesOf 2 n) (spotsOf begin (map (λ (t : List ℕ). length t) (map slotBytes (p .tables))) ++ (value.listBytes p ++ joinAll (map slotBytes (p .tables)))))
-  where
-    regroup : (a b c d : List ℕ) → a ++ (b ++ (c ++ d)) ≡ (a ++ (b ++ c)) ++ d
-    regroup a b c d = simp append-assoc
-
--- the region list of groups
-abbrev pub listOf : ℕ → List (List ℕ) → List Final → List ℕ
-listOf axes coords gs = listBytes axes (length (keptOf (length coords) gs)) (joinAll (map (λ r. getD coords r []) (keptOf (length coords) gs)))
-
-module _ (axes : ℕ) (coords : List (List ℕ)) (set : ℕ → Set) (gs : List Final) where
-  made-list : value.listBytes (madeOf axes coords set gs) ≡ listOf axes coords gs
-  unfolding value.listBytes madeOf
-  made-list = rw (length-map (keptOf (length coords) gs) (λ r. getD coords r []))
-
-  made-tables : map slotBytes (madeOf axes coords set gs .tables) ≡ map (λ (r : Final). subtableOf (newIndex gs) set (r .shape) (r .ids)) (allRuns gs)
-  unfolding madeOf subtableOf
-  made-tables = go (allRuns gs)
-    where
-      go : (rs : List Final) → map slotBytes (map (λ r. slotOf (newIndex gs) set (r .shape) (r .ids)) rs) ≡ map (λ (r : Final). slotBytes (slotOf (newIndex gs) set (r .shape) (r .ids))) rs
-      go [] = refl
-      go (r ∷ rs) = ap (λ (l : List (List ℕ)). slotBytes (slotOf (newIndex gs) set (r .shape) (r .ids)) ∷ l) (go rs)
-
-  store-pieces : storeOf axes coords set gs ≡ pieces (listOf axes coords gs) (map (λ (r : Final). subtableOf (newIndex gs) set (r .shape) (r .ids)) (allRuns gs))
-  unfolding storeOf
-  store-pieces = place-pieces (madeOf axes coords set gs) ∙ ap₂ pieces made-list made-tables
 
 -- ---- the region list
 

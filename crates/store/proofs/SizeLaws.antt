@@ -13,6 +13,7 @@ use Rattle.laws.specs.Bag.{weigh}
 use Rattle.laws.specs.Bytes.{bytesOf}
 use Rattle.laws.specs.Bounded.{tabulate}
 use Rattle.laws.specs.Range.{seg}
+use Rattle.laws.specs.Joining.{joinAll}
 use Rattle.laws.proofs.BagLaws.{weigh-append}
 use Rattle.laws.proofs.BytesLaws.{bytes-length}
 use Rattle.laws.proofs.BoundedLaws.{length-tabulate}
@@ -27,7 +28,6 @@ use Rattle.shapes.proofs.GroupLaws.{cost-measured}
 use Rattle.shapes.proofs.LentLaws.{narrow-small}
 use Rattle.laws.proofs.Products.{product}
 use Rattle.rows.specs.Subtable.{runCount}
-use Rattle.laws.specs.Joining.{joinAll}
 use Rattle.store.specs.Placing.{Final, modelOf, modelled, forecastOf}
 use Rattle.rows.specs.Lent.{Formed}
 use Rattle.store.specs.Lent.{FormOf, Handed, Summed, chain, finalAt, finalsAt, groupSizes, runSizes, tableSize, total}

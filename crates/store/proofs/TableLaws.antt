@@ -2,17 +2,14 @@
 use mathlib.Core.Path.{_≡_, refl, ap, ap₂, _∙_}
 use mathlib.Core.List.{List, [], _∷_, _++_, append-assoc, map}
 use mathlib.Core.Logic.{⊎-elim}
-use mathlib.Core.Option.{Option, none, some}
-use Prim.Native.Nat.{ℕ, suc, _<_}
-use native.Mathlib.Omega.{arith}
-use lib.Dec.{eqb}
+use Prim.Native.Nat.{ℕ, _<_}
 use lib.ListN.{length, length-map}
 use borrow.Author.Tests.{eq-eqb, ne-eqb}
 use Rattle.laws.specs.Every.{All}
 use Rattle.laws.specs.Bytes.{bytesOf}
 use Rattle.laws.specs.Joining.{joinAll}
 use Rattle.laws.proofs.Cases.{same-or-not}
-use Rattle.laws.proofs.EveryLaws.{all-imp}
+use Rattle.laws.proofs.EveryLaws.{all-imp, map-same}
 use Rattle.shapes.specs.Shape.{Shape}
 use Rattle.reader.specs.Store.{columnAt}
 use Rattle.stores.specs.Stores as value
@@ -62,10 +59,6 @@ sub-length number set s xs few =
     (same-or-not (length xs) 0)
 
 -- only the numbers of the shape's regions matter
-pub map-same : {B : Type 0} (f g : ℕ → B) (l : List ℕ) → All (λ r. f r ≡ g r) l → map f l ≡ map g l
-map-same f g [] h = refl
-map-same f g (x ∷ l) h = ap₂ _∷_ (h .0) (map-same f g l (h .1))
-
 pub sub-same : (f g : ℕ → ℕ) (set : ℕ → Set) (s : Shape) (xs : List ℕ) → ((r : ℕ) → r < length s → f r ≡ g r) → subtableOf f set s xs ≡ subtableOf g set s xs
 unfolding subtableOf slotOf
 sub-same f g set s [] h = refl

@@ -17,8 +17,8 @@ use Rattle.shapes.specs.Group.{maxItems}
 use Rattle.laws.specs.Range.{seg}
 use Rattle.laws.specs.Every.{All}
 use Rattle.laws.specs.Sorting.{keep}
-use Rattle.rows.specs.Subtable.{runCount}
 use Rattle.laws.specs.Joining.{joinAll}
+use Rattle.rows.specs.Subtable.{runCount}
 use Rattle.rows.specs.Lent.{Put, Stored, runsBytes}
 use Rattle.stores.specs.Stores.{slotBytes}
 use Rattle.store.specs.Placing.{Final, idWords, names, slotOf}

@@ -9,13 +9,13 @@ use lib.ListN.{length, getD, take, drop}
 use Rattle.laws.specs.Pick.{pick}
 use Rattle.laws.specs.Bounded.{tabulate, upTo}
 use Rattle.laws.specs.Sorting.{keep}
+use Rattle.laws.specs.Joining.{joinAll}
 use Rattle.shapes.specs.Shape.{Shape}
 use Rattle.shapes.specs.Group.{groupCost, maxItems}
 use Rattle.rows.specs.Columns.{columnsOf, wordCount}
 use Rattle.rows.specs.Row.{Set, rowOf}
 use Rattle.rows.specs.Subtable.{runCount}
 use Rattle.stores.specs.Stores.{Table, Parsed, place}
-use Rattle.laws.specs.Joining.{joinAll}
 
 -- a final group: its shape, and the ids of its sets in the order of rows
 pub record Final : Type 0 where

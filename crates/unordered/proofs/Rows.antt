@@ -10,9 +10,9 @@ use lib.Seq.{ext-getD}
 use Rattle.laws.specs.Every.{All, EachTwo}
 use Rattle.laws.specs.Bounded.{upTo}
 use Rattle.laws.specs.Sorting.{sorted, keep}
-use Rattle.laws.proofs.EveryLaws.{all, all-imp, all-intro, all-getD}
+use Rattle.laws.proofs.EveryLaws.{all, all-imp, all-intro, all-getD, map-same, map-self}
 use Rattle.laws.proofs.BagLaws.{bag-length}
-use Rattle.laws.proofs.ListLaws.{getD-map-in}
+use Rattle.laws.proofs.ListLaws.{getD-map-in, map-map}
 use Rattle.laws.proofs.SortLaws.{sorted-all, keep-same}
 use Rattle.laws.proofs.SortMap.{sorted-map, keep-map, keep-all}
 use Rattle.laws.proofs.UpLaws.{up-long, up-at, up-all}
@@ -30,18 +30,6 @@ use Rattle.unordered.proofs.Alike.{notLater, line, Fine, place-own, dis
 use Rattle.unordered.proofs.Groups.{groups-same}
 
 -- ---- lists
-
-pub map-map : {A B C : Type 0} (g : B → C) (f : A → B) (l : List A) → map g (map f l) ≡ map (λ x. g (f x)) l
-map-map g f [] = refl
-map-map g f (x ∷ l) = ap (λ (m : List _). g (f x) ∷ m) (map-map g f l)
-
-map-same : {A B : Type 0} (f g : A → B) (l : List A) → All (λ x. f x ≡ g x) l → map f l ≡ map g l
-map-same f g [] h = refl
-map-same f g (x ∷ l) h = ap₂ _∷_ (h .0) (map-same f g l (h .1))
-
-map-self : (f : ℕ → ℕ) (l : List ℕ) → All (λ x. f x ≡ x) l → map f l ≡ l
-map-self f [] h = refl
-map-self f (x ∷ l) h = ap₂ _∷_ (h .0) (map-self f l (h .1))
 
 -- the elements of a list by their places
 map-up : (l : List Set) → map (λ x. getD l x []) (upTo (length l)) ≡ l

@@ -5,6 +5,7 @@ use Prim.Native.Nat.{ℕ, _<_}
 use native.Mathlib.Omega.{arith}
 use lib.ListN.{length, getD}
 use Rattle.laws.specs.Every.{All}
+use Rattle.laws.proofs.ListLaws.{map-map}
 use Rattle.sets.specs.Set.{Set}
 use Rattle.sets.specs.Ids.{place, distinct}
 use Rattle.sets.proofs.IdLaws.{id-below, place-here}
@@ -19,7 +20,7 @@ use Rattle.build.specs.Build.{regionBytes, coordsOf, packedOf}
 use Rattle.build.proofs.PackedLaws.{Good}
 use Rattle.unordered.specs.Same.{SameSets, Lending, saidBy, answerTo, mapOf, placeOf, SameBuild}
 use Rattle.unordered.proofs.Alike.{Fine}
-use Rattle.unordered.proofs.Rows.{map-map, Renamed, shared-same}
+use Rattle.unordered.proofs.Rows.{Renamed, shared-same}
 use Rattle.unordered.proofs.Stores.{store-same, report-same, word-same}
 use Rattle.unordered.proofs.Done.{shared-of, coords-long, sets-are, IsDone, is-done}
 

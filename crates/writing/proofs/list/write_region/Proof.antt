@@ -3,8 +3,8 @@ use mathlib.Core.List.{List}
 use denote.Ref.{now}
 use Rattle.laws.specs.Bounded.{tabulate}
 use Rattle.laws.specs.Range.{seg}
-use Rattle.laws.proofs.RangeLaws.{length-seg}
 use Rattle.laws.specs.Joining.{joinAll}
+use Rattle.laws.proofs.RangeLaws.{length-seg}
 use Rattle.store.specs.Lent.{chain, coordsAt}
 use Rattle.rows.proofs.PutLaws.{Putting}
 use Rattle.store.proofs.GroupLaws.{chain-start, chain-room, chain-more, chain-done}
