@@ -1,4 +1,4 @@
--- The coordinates that the store copies from the job's bytes are those of the definition, region by region. Assumes nothing.
+-- The coordinates that the store copies from the job's bytes are those of the definition, region by region; and they are bytes. Assumes nothing.
 use mathlib.Core.Path.{_≡_, refl, sym, ap, ap₂, _∙_}
 use mathlib.Core.List.{List, [], _∷_, _++_, append-assoc, map}
 use Prim.Native.Nat.{ℕ, zero, suc, _+_, _*_, _/_, _%_, _≤_, _<_}
@@ -10,17 +10,20 @@ use Rattle.laws.specs.Every.{All}
 use Rattle.laws.specs.Bytes.{be, bytesOf}
 use Rattle.laws.specs.Bounded.{tabulate}
 use Rattle.laws.specs.Range.{seg}
-use Rattle.laws.proofs.BytesLaws.{be-drop}
-use Rattle.laws.proofs.EveryLaws.{all-getD}
+use Rattle.laws.specs.Joining.{joinAll}
+use Rattle.laws.proofs.BytesLaws.{be-drop, bytes-low}
+use Rattle.laws.proofs.EveryLaws.{all, all-map, all-append, all-getD}
 use Rattle.laws.proofs.Products.{row-fits}
 use Rattle.laws.proofs.RangeLaws.{seg-add, seg-cons, seg-none}
-use Rattle.rows.specs.Subtable.{joinAll}
 use Rattle.store.specs.Lent.{chain, coordsAt, coordsOf}
 use Rattle.said.specs.Records.{recordBytes, recordStart, afterRecord, regionLong, coordsStart}
-use Rattle.said.specs.Sets.{coordinates, regionList}
+use Rattle.said.specs.Sets.{coordinates, regionList, Region}
+use Rattle.stores.specs.Stores.{Bytes}
+use Rattle.said.specs.Job.{Said}
 use Rattle.said.proofs.RecordLaws.{be-two}
 use Rattle.said.proofs.RegionLaws.{regions-at}
 use Rattle.build.specs.Build.{regionBytes}
+use Rattle.build.specs.Build as whole
 
 two-bytes : (a b : ℕ) → a < 256 → b < 256 → bytesOf 2 (a * 256 + b) ≡ a ∷ b ∷ []
 unfolding bytesOf
@@ -90,3 +93,14 @@ coords-are job bytes axes n room w starts used below from =
     ap (λ (j : ℕ). coordsAt job axes (getD w (starts + j) 0)) z
     ∙ ap (coordsAt job axes) (from i h)
     ∙ coords-at-are job bytes axes n (getD used i 0) room (all-getD (λ q. q < n) used i 0 below h))
+
+-- ---- bytes
+
+region-bytes : (c : Region) → Bytes (regionBytes c)
+unfolding regionBytes
+region-bytes [] = tt
+region-bytes (x ∷ c) = all-append (λ b. b < 256) (bytesOf 2 x) (regionBytes c) (bytes-low 2 x) (region-bytes c)
+
+pub coords-bytes : (s : Said) → All Bytes (whole.coordsOf s)
+unfolding whole.coordsOf
+coords-bytes s = all-map Bytes (λ q. regionBytes (getD (s .regions) q [])) (s .used) (all (λ q. region-bytes (getD (s .regions) q [])) (s .used))

@@ -10,8 +10,8 @@ pub mod Calls
 pub mod ManyLaws
 pub mod PackedLaws
 pub mod RunSound
-pub mod RowsBack
 pub mod ShortLaws
+pub mod RowsBack
 pub mod ListBack
 pub mod ReadBack
 pub mod Accepted

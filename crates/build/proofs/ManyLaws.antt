@@ -8,13 +8,13 @@ use native.Mathlib.Omega.{arith}
 use Rattle.laws.specs.Every.{All, EachTwo}
 use Rattle.laws.specs.Bounded.{upTo}
 use Rattle.laws.specs.Sorting.{keep}
+use Rattle.laws.specs.Joining.{joinAll}
 use Rattle.laws.proofs.Cases.{Which, which, true-false}
 use Rattle.laws.proofs.Cases.Which.{holds, fails}
 use Rattle.laws.proofs.EveryLaws.{all-append, all-imp}
 use Rattle.laws.proofs.SortMap.{keep-in, keep-out}
 use Rattle.laws.proofs.UpLaws.{up-long, up-at}
 use Rattle.encoder.proofs.NumberLaws.{at-mem}
-use Rattle.rows.specs.Subtable.{joinAll}
 
 module _ {A : Type 0} where
   -- what is in one of the lists is in all of them together

@@ -14,6 +14,7 @@ use Rattle.laws.specs.Bag.{weigh}
 use Rattle.laws.specs.Bounded.{upTo}
 use Rattle.laws.specs.Signed.{value, zeroWord}
 use Rattle.laws.specs.Sorting.{sorted, keep}
+use Rattle.laws.specs.Joining.{joinAll}
 use Rattle.laws.proofs.Cases.{Which, which, lt-or-ge}
 use Rattle.laws.proofs.Cases.Which.{holds, fails}
 use Rattle.laws.proofs.EveryLaws.{all, all-imp, all-and, all-map, all-unmap, all-getD, two-imp}
@@ -40,7 +41,6 @@ use Rattle.rule.specs.Model.{Living, start, run, merged}
 use Rattle.rule.proofs.Theorems as theorems
 use Rattle.rule.proofs.Origins.{times, homes, one-home, no-home, joinOf, Made, made, Home, home}
 use Rattle.rows.specs.Row.{wordIn, Widths, Covers}
-use Rattle.rows.specs.Subtable.{joinAll}
 use Rattle.store.specs.Placing.{Final}
 use Rattle.encoder.specs.Packed.{Packed, noLater, dense, numberOf, belongs, finalOf, isAhead, finalsOf, shared, own}
 use Rattle.encoder.proofs.NumberLaws.{number-at, among-mem, among, mem-sorted}

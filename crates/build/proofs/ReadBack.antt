@@ -10,12 +10,13 @@ use Rattle.laws.proofs.UpLaws.{up-at}
 use Rattle.sets.specs.Set.{Set, Proper}
 use Rattle.sets.proofs.IdLaws.{id-at, id-below, distinct-most}
 use Rattle.groups.specs.Groups.{groupsOf}
+use Rattle.stores.specs.Stores.{Bytes}
 use Rattle.encoder.specs.Packed.{Packed, shared, own}
 use Rattle.encoder.proofs.DenseIds.{set-of-id}
 use Rattle.limits.specs.Limits.{mostRecords, mostAxes, maxRegions, maxShapes}
-use Rattle.build.proofs.PackedLaws.{Words, shared-good, own-good}
-use Rattle.build.proofs.RowsBack.{RowsBack}
-use Rattle.build.proofs.ShortLaws.{runs-most, reads-back}
+use Rattle.build.proofs.PackedLaws.{Words, shared-good, own-good, Good}
+use Rattle.build.proofs.RowsBack.{RowsBack, rows-back}
+use Rattle.build.proofs.ShortLaws.{runs-most, reads-back, Storable, fit, store-short}
 use Rattle.build.proofs.ListBack.{ListBack, list-back}
 
 -- "The n-th word of ids is the n-th set's id."
@@ -37,6 +38,7 @@ pub record Sized (axes regions : ℕ) (coords : List (List ℕ)) (jobs : List Se
   pub words : All (λ (s : Set). Words s) jobs
   pub coords-are : length coords ≡ regions
   pub coords-whole : All (λ (c : List ℕ). length c ≡ 6 * axes) coords
+  pub coords-bytes : All Bytes coords
   pub axes-few : axes ≤ mostAxes
   pub regions-few : regions ≤ maxRegions
   pub sets-few : length jobs ≤ mostRecords
@@ -68,30 +70,32 @@ module _ (axes regions : ℕ) (coords : List (List ℕ)) (jobs : List Set) (s : 
   unfolding own
   own-groups = omega arith
 
+  storable : (k : Packed) → Good regions k → k .groups ≤ 1024 → length (k .sets) ≤ 1048576 → Storable axes regions coords k
+  storable k good groups sets = record {
+    good = good;
+    coords-are = s .coords-are;
+    coords-whole = s .coords-whole;
+    coords-bytes = s .coords-bytes;
+    axes-few = s .axes-few;
+    regions-few = s .regions-few;
+    groups-few = groups;
+    sets-few = sets;
+  }
+
+  back : (k : Packed) → Storable axes regions coords k → ((n : ℕ) → n < length jobs → IdOf jobs k n) → GivesBack axes regions coords jobs k
+  back k f ids = record {
+    ids = ids;
+    reads = rows-back axes regions coords k (f .good) (f .coords-are) (fit axes regions coords k f) (store-short axes regions coords k f);
+    list = list-back axes regions coords k (f .coords-are) (fit axes regions coords k f) (store-short axes regions coords k f);
+  }
+
+  pub shared-storable : length (groupsOf regions jobs) ≤ 1024 → Storable axes regions coords (shared regions jobs)
+  shared-storable h = storable (shared regions jobs) (shared-good regions jobs (s .proper) (s .words)) (shared-groups h) shared-sets
+
   -- THE LAW of mode 0: where no more than 1,024 shapes are there
   pub shared-back : length (groupsOf regions jobs) ≤ maxShapes → GivesBack axes regions coords jobs (shared regions jobs)
-  shared-back h = record {
-    ids = shared-ids;
-    reads = reads-back axes regions coords (shared regions jobs) (shared-good regions jobs (s .proper) (s .words)) (s .coords-are) (s .coords-whole)
-        (s .axes-few) (s .regions-few) (shared-groups h) shared-sets;
-    list = list-back axes regions coords (shared regions jobs) (s .coords-are) (s .coords-whole) (s .axes-few) (s .regions-few)
-        (omega (
-          arith,
-          runs-most axes regions coords (shared regions jobs) (shared-good regions jobs (s .proper) (s .words)) (s .coords-are) (s .coords-whole)
-              (s .axes-few) (s .regions-few) (shared-groups h) shared-sets,
-        ));
-  }
+  shared-back h = back (shared regions jobs) (shared-storable h) shared-ids
 
   -- THE LAW of mode 1
   pub own-back : GivesBack axes regions coords jobs (own regions jobs)
-  own-back = record {
-    ids = own-ids;
-    reads = reads-back axes regions coords (own regions jobs) (own-good regions jobs (s .proper) (s .words)) (s .coords-are) (s .coords-whole)
-        (s .axes-few) (s .regions-few) own-groups own-sets;
-    list = list-back axes regions coords (own regions jobs) (s .coords-are) (s .coords-whole) (s .axes-few) (s .regions-few)
-        (omega (
-          arith,
-          runs-most axes regions coords (own regions jobs) (own-good regions jobs (s .proper) (s .words)) (s .coords-are) (s .coords-whole)
-              (s .axes-few) (s .regions-few) own-groups own-sets,
-        ));
-  }
+  own-back = back (own regions jobs) (storable (own regions jobs) (own-good regions jobs (s .proper) (s .words)) own-groups own-sets) own-ids

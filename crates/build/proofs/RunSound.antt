@@ -12,16 +12,17 @@ use lib.ListN.{length, getD, take, drop, length-take}
 use lib.Seq.{drop-drop, take-add, take-all}
 use Rattle.laws.specs.Every.{All, EachTwo}
 use Rattle.laws.specs.Bounded.{tabulate}
+use Rattle.laws.specs.Joining.{joinAll}
 use Rattle.laws.proofs.Cases.{lt-or-ge}
 use Rattle.laws.proofs.ListLaws.{map-append}
 use Rattle.laws.proofs.EveryLaws.{all-imp, all-append, all-getD, two-imp}
 use Rattle.shapes.specs.Shape.{Shape}
 use Rattle.shapes.specs.Group.{maxItems}
 use Rattle.rows.specs.Row.{Set, Widths, Covers}
-use Rattle.rows.specs.Subtable.{joinAll, runCount}
+use Rattle.rows.specs.Subtable.{runCount}
 use Rattle.store.specs.Placing.{Final, runsOf, allRuns, names, inRun, idWords}
 use Rattle.rows.proofs.RunLaws.{run-none, run-some}
-use Rattle.readback.proofs.StoreBack.{Sound}
+use Rattle.readback.proofs.Parsing.{Sound}
 use Rattle.encoder.specs.Packed.{Packed}
 use Rattle.encoder.proofs.NumberLaws.{mem-at}
 use Rattle.build.proofs.PackedLaws.{rowIds, Good}

@@ -1,12 +1,14 @@
--- How large the store of packed sets can be: few runs, and fewer bytes than 32 bits can count. Assumes nothing.
-use mathlib.Core.Path.{_≡_, ap, _∙_}
-use mathlib.Core.List.{List, [], _∷_, _++_, map}
-use Prim.Native.Nat.{ℕ, _+_, _*_, _^_, _≤_, _<_}
+-- How large the store of packed sets can be: few runs, and fewer bytes than 32 bits can count. So it fits, and parses back. Assumes nothing.
+use mathlib.Core.Path.{_≡_, ap}
+use mathlib.Core.List.{List, [], _∷_, map}
+use mathlib.Core.Option.{Option}
+use Prim.Native.Nat.{ℕ, suc, _+_, _*_, _≤_, _<_}
+use native.Mathlib.Nat.{mul-le-mul-left}
 use native.Mathlib.Omega.{arith}
 use lib.ListN.{length, getD, take, drop, length-append, length-map}
 use Rattle.laws.specs.Every.{All}
-use Rattle.laws.specs.Bytes.{bytesOf}
-use Rattle.laws.proofs.BytesLaws.{bytes-length}
+use Rattle.laws.specs.Bag.{weigh}
+use Rattle.laws.specs.Joining.{joinAll}
 use Rattle.laws.proofs.BoundedLaws.{length-tabulate}
 use Rattle.laws.proofs.EveryLaws.{all-imp}
 use Rattle.laws.proofs.Products.{product}
@@ -14,21 +16,22 @@ use Rattle.shapes.specs.Shape.{Shape}
 use Rattle.shapes.specs.Group.{maxItems}
 use Rattle.sets.specs.Set.{Set}
 use Rattle.reader.specs.Store.{columnAt}
+use Rattle.stores.specs.Stores.{Table, Bytes, slotSize, placeSize}
+use Rattle.stores.proofs.Back.{place-long}
 use Rattle.rows.specs.Columns.{columnsOf, wordCount}
-use Rattle.rows.specs.Subtable.{joinAll, runCount, subtableOf}
-use Rattle.store.specs.Placing.{Final, runsOf, allRuns, names, keptOf, newIndex, listOf, storeOf}
+use Rattle.rows.specs.Row.{rowOf}
+use Rattle.rows.specs.Subtable.{runCount}
 use Rattle.rows.proofs.CollectLaws.{columns-count, columns-most}
+use Rattle.store.specs.Placing.{Final, runsOf, allRuns, names, keptOf, newIndex, slotOf, madeOf, storeOf}
 use Rattle.store.proofs.RegionLaws.{kept-most}
-use Rattle.store.proofs.PlacedLaws.{sub-length}
 use Rattle.store.proofs.SizeLaws.{runs-few}
-use Rattle.readback.proofs.StoreBack.{store-long}
+use Rattle.readback.proofs.Parsing.{Fit, made-shaped}
 use Rattle.encoder.specs.Packed.{Packed}
 use Rattle.finishing.specs.Late.{storeFor}
 use Rattle.finishing.proofs.StoreLaws.{row-most, headMost, rowMost, table-most}
 use Rattle.limits.specs.Limits.{mostRecords, mostAxes, maxRegions, maxShapes}
 use Rattle.build.proofs.PackedLaws.{rowIds, Good, rows-most}
 use Rattle.build.proofs.RunSound.{runs-rows, runs-sound}
-use Rattle.build.proofs.RowsBack.{coords-long, RowsBack, rows-back}
 
 -- ---- runs
 
@@ -53,70 +56,79 @@ all-runs (g ∷ gs) h =
 -- ---- subtables
 
 module _ (number : ℕ → ℕ) (set : ℕ → Set) where
-  table-few : (s : Shape) (xs : List ℕ) → length s ≤ maxRegions → length (subtableOf number set s xs) ≤ headMost + rowMost * length xs
-  table-few s xs h =
+  slot-most : (s : Shape) (xs : List ℕ) → length s ≤ maxRegions → slotSize (slotOf number set s xs) ≤ headMost + rowMost * length xs
+  unfolding slotSize slotOf
+  slot-most s [] h = omega arith
+  slot-most s (x ∷ xs) h =
       let c : length (columnsOf s) ≤ maxRegions = omega (arith, columns-count s, columns-most s) in
       let r : columnAt (wordCount s) (length (columnsOf s)) ≤ rowMost = omega (arith, row-most (wordCount s) (length (columnsOf s))) in
-      omega (arith, sub-length number set s xs (omega arith), table-most (length (columnsOf s)) (columnAt (wordCount s) (length (columnsOf s))) (length xs) c r)
+      rw (length-map (columnsOf s) number, length-map xs (λ y. rowOf s (set y))) (omega (arith, mul-le-mul-left (suc (length xs)) r))
 
-  abbrev table : Final → List ℕ
-  table r = subtableOf number set (r .shape) (r .ids)
+  abbrev slot : Final → Option Table
+  slot r = slotOf number set (r .shape) (r .ids)
 
-  tables-few : (rs : List Final) → All (λ (r : Final). length (r .shape) ≤ maxRegions) rs → length (joinAll (map table rs)) ≤ headMost * length rs + rowMost * length (rowIds rs)
-  unfolding joinAll
-  tables-few [] h = omega arith
-  tables-few (r ∷ rs) h =
-      let a = table-few (r .shape) (r .ids) (h .0) in
-      omega (arith, length-append (table r) (joinAll (map table rs)), length-append (r .ids) (rowIds rs), tables-few rs (h .1))
+  slots-most : (rs : List Final) → All (λ (r : Final). length (r .shape) ≤ maxRegions) rs → weigh slotSize (map slot rs) ≤ headMost * length rs + rowMost * length (rowIds rs)
+  unfolding joinAll weigh
+  slots-most [] h = omega arith
+  slots-most (r ∷ rs) h = omega (arith, slot-most (r .shape) (r .ids) (h .0), length-append (r .ids) (rowIds rs), slots-most rs (h .1))
 
 -- ---- in all
 
-module _ (axes regions : ℕ) (coords : List (List ℕ)) (k : Packed) (good : Good regions k) (coords-are : length coords ≡ regions)
-    (coords-whole : All (λ (c : List ℕ). length c ≡ 6 * axes) coords) (axes-few : axes ≤ mostAxes) (regions-few : regions ≤ maxRegions)
-    (groups-few : k .groups ≤ maxShapes) (sets-few : length (k .sets) ≤ mostRecords) where
+-- packed sets within the bounds of the rules, and the coordinates of their regions
+pub record Storable (axes regions : ℕ) (coords : List (List ℕ)) (k : Packed) : Type 0 where
+  pub good : Good regions k
+  pub coords-are : length coords ≡ regions
+  pub coords-whole : All (λ (c : List ℕ). length c ≡ 6 * axes) coords
+  pub coords-bytes : All Bytes coords
+  pub axes-few : axes ≤ mostAxes
+  pub regions-few : regions ≤ maxRegions
+  pub groups-few : k .groups ≤ maxShapes
+  pub sets-few : length (k .sets) ≤ mostRecords
+
+module _ (axes regions : ℕ) (coords : List (List ℕ)) (k : Packed) (s : Storable axes regions coords k) where
   abbrev gs : List Final
   gs = k .finals
 
   abbrev set : ℕ → Set
   set y = getD (k .sets) y []
 
-  pub runs-most : length (allRuns (k .finals)) ≤ 17 * maxShapes
-  runs-most = omega (arith, all-runs gs (ids-most gs mostRecords (omega (arith, rows-most regions k good))), good .finals-few groups-few)
+  rows-few : length (rowIds gs) ≤ length (k .sets)
+  rows-few = rows-most regions k (s .good)
 
-  abbrev kept : ℕ
-  kept = length (keptOf (length coords) gs)
+  runs-most : length (allRuns gs) ≤ 17408
+  runs-most = omega (arith, all-runs gs (ids-most gs 1048576 (omega (arith, rows-few, s .sets-few))), s .good .finals-few (s .groups-few))
 
-  abbrev body : List ℕ
-  body = joinAll (map (λ r. getD coords r []) (keptOf (length coords) gs))
+  pub fit : Fit axes coords (λ y. getD (k .sets) y []) (k .finals)
+  fit = record {
+    axes-few = omega (arith, s .axes-few);
+    regions-few = omega (arith, s .coords-are, s .regions-few);
+    coords-long = s .coords-whole;
+    coords-bytes = s .coords-bytes;
+    runs-few = omega (arith, runs-most);
+    sound = runs-sound regions k (s .good) coords (s .coords-are);
+  }
 
-  abbrev tables : List (List ℕ)
-  tables = map (table (newIndex gs) set) (allRuns gs)
+  abbrev list : List (List ℕ)
+  list = map (λ r. getD coords r []) (keptOf (length coords) gs)
 
-  kept-few : kept ≤ maxRegions
-  kept-few = omega (arith, kept-most (λ r. names r gs) (length coords))
+  abbrev slots : List (Option Table)
+  slots = map (slot (newIndex gs) set) (allRuns gs)
 
-  tables-count : length tables ≡ length (allRuns gs)
-  tables-count = length-map (allRuns gs) (table (newIndex gs) set)
+  size-is : length (storeFor axes coords k) ≡ 12 + 6 * axes * length list + weigh slotSize slots
+  unfolding storeFor storeOf placeSize madeOf
+  size-is = place-long (madeOf axes coords set gs) (made-shaped axes coords set gs fit)
 
-  store-is : length (storeFor axes coords k) ≡ 8 + 4 * length tables + length (bytesOf 2 axes ++ (bytesOf 2 kept ++ body)) + length (joinAll tables)
-  unfolding storeFor storeOf listOf
-  store-is = store-long axes kept body tables (omega arith) (omega (arith, kept-few)) (coords-long axes coords gs coords-whole) (omega (arith, tables-count, runs-most))
+  list-few : 6 * axes * length list ≤ 98304
+  list-few =
+      let few : length list ≤ 256 =
+      omega (arith, length-map (keptOf (length coords) gs) (λ r. getD coords r []), kept-most (λ r. names r gs) (length coords), s .coords-are, s .regions-few) in
+      product 384 256 {a = 6 * axes} {b = length list} (omega (arith, s .axes-few)) few
 
-  list-is : length (bytesOf 2 axes ++ (bytesOf 2 kept ++ body)) ≡ 4 + length body
-  list-is = length-append (bytesOf 2 axes) (bytesOf 2 kept ++ body) ∙ omega (arith, length-append (bytesOf 2 kept) body, bytes-length 2 axes, bytes-length 2 kept)
-
-  body-few : length body ≤ 6 * mostAxes * maxRegions
-  body-few = omega (arith, coords-long axes coords gs coords-whole, product (6 * mostAxes) maxRegions {a = 6 * axes} {b = kept} (omega arith) kept-few)
-
-  tables-most : length (joinAll tables) ≤ headMost * length (allRuns gs) + rowMost * length (k .sets)
-  tables-most =
+  slots-few : weigh slotSize slots ≤ headMost * length (allRuns gs) + rowMost * length (k .sets)
+  slots-few =
       let narrow : All (λ (r : Final). length (r .shape) ≤ maxRegions) (allRuns gs) =
-      all-imp (λ (r : Final) s. omega (arith, s .long)) (allRuns gs) (runs-sound regions k good coords coords-are) in
-      omega (arith, tables-few (newIndex gs) set (allRuns gs) narrow, ap length (runs-rows gs), rows-most regions k good)
+      all-imp (λ (r : Final) a. omega (arith, a .long, s .coords-are, s .regions-few)) (allRuns gs) (fit .sound) in
+      omega (arith, slots-most (newIndex gs) set (allRuns gs) narrow, ap length (runs-rows gs), rows-few)
 
-  pub store-short : length (storeFor axes coords k) < 256 ^ 4
-  store-short = omega (arith, store-is, list-is, body-few, tables-most, tables-count, runs-most)
-
-  -- so a job of at most 1,048,576 records and 1,024 shapes reads back
-  pub reads-back : RowsBack axes regions coords k
-  reads-back = rows-back axes regions coords k good coords-are coords-whole axes-few regions-few (omega (arith, runs-most)) store-short
+  pub store-short : length (storeFor axes coords k) < 4294967296
+  store-short = omega (arith, size-is, list-few, slots-few, runs-most, s .sets-few)

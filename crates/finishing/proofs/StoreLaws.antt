@@ -2,8 +2,9 @@
 -- forecast; rows that were replaced by ids are those groups; and the store of a build fits 32 bits. Assumes nothing.
 use mathlib.Core.Path.{_≡_, refl, sym, ap, ap₂, _∙_}
 use mathlib.Core.Bool.{Bool, not, _||_}
-use mathlib.Core.List.{List, [], _∷_, _++_, append-assoc, append-nil, map}
+use mathlib.Core.List.{List, [], _∷_, _++_, map}
 use mathlib.Core.Logic.{⊎-elim}
+use mathlib.Core.Option.{Option, some}
 use Prim.Native.Nat.{ℕ, zero, suc, _+_, _-_, _*_, _≤_, _<_, min}
 use native.Mathlib.Nat.{mul-le-mul-left}
 use native.Mathlib.Numerals.{add-one}
@@ -14,12 +15,13 @@ use lib.Seq.{ext-getD}
 use Rattle.laws.specs.Bag.{weigh, sum}
 use Rattle.laws.specs.Pick.{pick}
 use Rattle.laws.specs.Every.{All}
-use Rattle.laws.specs.Bytes.{bytesOf}
 use Rattle.laws.specs.Bounded.{tabulate, upTo}
 use Rattle.laws.specs.Range.{seg}
 use Rattle.laws.proofs.EveryLaws.{all, all-append, all-take, all-drop}
-use Rattle.laws.proofs.ListLaws.{map-append, getD-map-in}
-use Rattle.laws.proofs.BoundedLaws.{tabulate-same, tabulate-snoc, length-tabulate}
+use Rattle.laws.specs.Joining.{joinAll}
+use Rattle.laws.proofs.ListLaws.{map-append, getD-map-in, map-same}
+use Rattle.laws.proofs.JoinLaws.{join-snoc}
+use Rattle.laws.proofs.BoundedLaws.{tabulate-same, tabulate-snoc, length-tabulate, map-tabulate}
 use Rattle.laws.proofs.BagLaws.{weigh-append}
 use Rattle.laws.proofs.SortLaws.{keep-same}
 use Rattle.laws.proofs.Cases.{same-or-not}
@@ -29,16 +31,16 @@ use Rattle.shapes.specs.Shape.{Shape}
 use Rattle.shapes.specs.Group.{maxItems, groupCost}
 use Rattle.sets.specs.Lent.{entries, setOf}
 use Rattle.reader.specs.Store.{columnAt}
+use Rattle.stores.specs.Stores.{Table, place}
 use Rattle.rows.specs.Columns.{columnsOf, wordCount}
 use Rattle.rows.specs.Row.{Set, rowOf}
-use Rattle.rows.specs.Subtable.{joinAll, runCount, indexBytes, rowsOf, subtableOf}
-use Rattle.store.specs.Placing.{Final, runsOf, allRuns, names, keptOf, newIndex, listOf, placed, storeOf, modelOf, modelled, forecastOf}
+use Rattle.rows.specs.Subtable.{runCount}
+use Rattle.store.specs.Placing.{Final, runsOf, allRuns, names, keptOf, newIndex, slotOf, madeOf, storeOf, modelOf, modelled, forecastOf}
 use Rattle.rows.specs.Lent.{entriesAt, setAt}
-use Rattle.store.specs.Lent.{chain, finalAt, finalsAt, groupSizes, runSizes, sizesAt, tableSize, total, Drafted, Planned}
+use Rattle.store.specs.Lent.{chain, finalAt, finalsAt, groupSizes, runSizes, sizesAt, tableSize, total}
 use Rattle.rows.proofs.CollectLaws.{columns-count, columns-most}
 use Rattle.reader.proofs.ColumnLaws.{at-zero, at-step, bytes-range}
 use Rattle.store.proofs.SizeLaws.{size-none, size-some, runs-few}
-use Rattle.store.proofs.PlacedLaws.{map-tabulate}
 use Rattle.encoder.specs.declared.places.Places.{Places}
 use Rattle.encoder.specs.declared.encoded.Encoded.{Encoded}
 use Rattle.encoder.specs.Packed.{Packed}
@@ -132,38 +134,34 @@ module _ (P : ℕ → Type 0) where
   runs-all [] h = tt
   runs-all (g ∷ gs) h = all-append (λ (r : Final). All P (r .ids)) (runsOf g) (joinAll (map runsOf gs)) (group-all g (h .0)) (runs-all gs (h .1))
 
-index-same : (p q : ℕ → ℕ) (l : List ℕ) → ((r : ℕ) → p r ≡ q r) → indexBytes p l ≡ indexBytes q l
-unfolding indexBytes
-index-same p q [] h = refl
-index-same p q (r ∷ l) h = ap₂ (λ (x : ℕ) (m : List ℕ). bytesOf 2 x ++ m) (h r) (index-same p q l h)
-
 module _ (f : ℕ → ℕ) (set set′ : ℕ → Set) (n : ℕ) (same : (x : ℕ) → x < n → set x ≡ set′ (f x)) where
-  rows-relabel : (s : Shape) (xs : List ℕ) → All (λ x. x < n) xs → rowsOf set s xs ≡ rowsOf set′ s (map f xs)
-  unfolding rowsOf
+  rows-relabel : (s : Shape) (xs : List ℕ) → All (λ x. x < n) xs → map (λ y. rowOf s (set y)) xs ≡ map (λ y. rowOf s (set′ y)) (map f xs)
   rows-relabel s [] h = refl
-  rows-relabel s (x ∷ xs) h = ap₂ (λ (e : Set) (m : List ℕ). rowOf s e ++ m) (same x (h .0)) (rows-relabel s xs (h .1))
+  rows-relabel s (x ∷ xs) h = ap₂ (λ (e : Set) (m : List (List ℕ)). rowOf s e ∷ m) (same x (h .0)) (rows-relabel s xs (h .1))
 
   module _ (number number′ : ℕ → ℕ) (numbers : (r : ℕ) → number r ≡ number′ r) where
-    table-relabel : (s : Shape) (xs : List ℕ) → All (λ x. x < n) xs → subtableOf number set s xs ≡ subtableOf number′ set′ s (map f xs)
-    unfolding subtableOf
-    table-relabel s [] h = refl
-    table-relabel s (x ∷ xs) h = rw (length-map xs f, index-same number number′ (columnsOf s) numbers, rows-relabel s (x ∷ xs) h)
+    slot-relabel : (s : Shape) (xs : List ℕ) → All (λ x. x < n) xs → slotOf number set s xs ≡ slotOf number′ set′ s (map f xs)
+    unfolding slotOf
+    slot-relabel s [] h = refl
+    slot-relabel s (x ∷ xs) h = ap₂ (λ (c : List ℕ) (m : List (List ℕ)). some (record { word = wordCount s; columns = c; rows = m }))
+        (map-same number number′ (columnsOf s) (all numbers (columnsOf s)))
+        (rows-relabel s (x ∷ xs) h)
 
-    tables-relabel : (rs : List Final) → All (λ (r : Final). All (λ x. x < n) (r .ids)) rs
-        → map (λ (r : Final). subtableOf number set (r .shape) (r .ids)) rs ≡ map (λ (r : Final). subtableOf number′ set′ (r .shape) (r .ids)) (relabel f rs)
+    slots-relabel : (rs : List Final) → All (λ (r : Final). All (λ x. x < n) (r .ids)) rs
+        → map (λ (r : Final). slotOf number set (r .shape) (r .ids)) rs ≡ map (λ (r : Final). slotOf number′ set′ (r .shape) (r .ids)) (relabel f rs)
     unfolding relabel
-    tables-relabel [] h = refl
-    tables-relabel (r ∷ rs) h = ap₂ _∷_ (table-relabel (r .shape) (r .ids) (h .0)) (tables-relabel rs (h .1))
+    slots-relabel [] h = refl
+    slots-relabel (r ∷ rs) h = ap₂ _∷_ (slot-relabel (r .shape) (r .ids) (h .0)) (slots-relabel rs (h .1))
 
 pub store-relabel : (axes : ℕ) (coords : List (List ℕ)) (f : ℕ → ℕ) (set set′ : ℕ → Set) (n : ℕ) (gs : List Final)
     → All (λ (g : Final). All (λ x. x < n) (g .ids)) gs → ((x : ℕ) → x < n → set x ≡ set′ (f x))
     → storeOf axes coords set gs ≡ storeOf axes coords set′ (relabel f gs)
-unfolding storeOf
+unfolding storeOf madeOf
 store-relabel axes coords f set set′ n gs h same =
-    let T : Final → List ℕ = (λ (r : Final). subtableOf (newIndex (relabel f gs)) set′ (r .shape) (r .ids)) in
-    ap₂ (λ (k : List ℕ) (t : List (List ℕ)). placed (listOf axes coords k) t)
+    let T : Final → Option Table = (λ (r : Final). slotOf (newIndex (relabel f gs)) set′ (r .shape) (r .ids)) in
+    ap₂ (λ (k : List ℕ) (t : List (Option Table)). place (record { axes = axes; regions = map (λ r. getD coords r []) k; tables = t }))
     (sym (kept-relabel (length coords) f gs))
-    (tables-relabel f set set′ n same (newIndex gs) (newIndex (relabel f gs)) (λ r. ap length (sym (kept-relabel r f gs))) (allRuns gs) (runs-all (λ x. x < n) gs h)
+    (slots-relabel f set set′ n same (newIndex gs) (newIndex (relabel f gs)) (λ r. ap length (sym (kept-relabel r f gs))) (allRuns gs) (runs-all (λ x. x < n) gs h)
     ∙ ap (map T) (sym (runs-relabel f gs)))
 
 -- ---- rows that became ids
@@ -254,11 +252,6 @@ module _ (n row count : ℕ) (few : n ≤ maxRegions) (short : row ≤ rowMost) 
   unfolding runSizes
   sizes-few h = omega (arith, length-tabulate 0 (runCount count) run-size, runs-few count h)
 
-join-snoc : (ls : List (List ℕ)) (l : List ℕ) → joinAll (ls ++ (l ∷ [])) ≡ joinAll ls ++ l
-unfolding joinAll
-join-snoc [] l = append-nil l
-join-snoc (m ∷ ls) l = rw (join-snoc ls l, append-assoc)
-
 chain-snoc : (f : ℕ → List ℕ) (n : ℕ) → chain f (suc n) ≡ chain f n ++ f n
 unfolding chain
 chain-snoc f n =
@@ -324,19 +317,3 @@ module _ (k : Packed) (p : Places) (e : Encoded) (w : List ℕ) (packed : Packed
       let few = chain-few (λ g. groupSizes (the-group g)) sets-of (e .count) group-few in
       let list = product (6 * mostAxes) maxRegions {a = 6 * axes} {b = kept} (omega arith) b in
       omega (arith, packed .rows-few, packed .sets-few, packed .finals-few)
-
--- ---- what was drafted can be written
-
-pub planned-of : (axes : ℕ) (w : List ℕ) (regions groups count : ℕ) (marks numbers : List ℕ) (bytes runs kept : ℕ)
-    → Drafted axes w regions groups count marks numbers bytes runs kept
-    → 8 + 4 * runs + (4 + 6 * axes * kept) + total (sizesAt regions groups count w) < 4294967296
-    → Planned axes w regions groups count marks numbers runs kept
-planned-of axes w regions groups count marks numbers bytes runs kept d h = record {
-  marks-room = d .marks-room;
-  numbers-room = d .numbers-room;
-  marked = d .marked;
-  numbered = d .numbered;
-  runs-is = d .runs-is;
-  runs-few = d .runs-few;
-  short = h;
-}

@@ -11,40 +11,39 @@ use lib.IntN.{pos, negsuc}
 use lib.ListN.{length, getD, length-append, length-map}
 use borrow.Author.Tests.{lt-ltb, le-ltb, eq-eqb, ne-eqb}
 use Rattle.laws.specs.Bytes.{be, bytesOf}
-use Rattle.laws.specs.Signed.{fits, signed, twos, zeroWord, value}
+use Rattle.laws.specs.Signed.{fits, twos, zeroWord, value}
 use Rattle.laws.proofs.BytesLaws.{bytes-length, be-bytes}
 use Rattle.laws.proofs.SignedLaws.{sign-back, value-below, value-above, mag-fits}
 use Rattle.laws.proofs.Cases.{lt-or-ge}
 use Rattle.shapes.specs.Shape.{Shape}
 use Rattle.shapes.proofs.WidthLaws.{width-holds}
 use Rattle.reader.specs.Store.{columnAt, columnBytes}
+use Rattle.reader.proofs.ColumnLaws.{at-zero, at-step, bytes-range}
+use Rattle.stores.specs.Stores.{cellIn}
 use Rattle.rows.specs.Columns.{columnsOf, fours, wordCount, bytesFor}
 use Rattle.rows.specs.Row.{Set, valueIn, rowOf, Widths, Covers}
 use Rattle.rows.specs.Lent.{rowBytes, cellWords}
-use Rattle.reader.proofs.ColumnLaws.{at-zero, at-step, bytes-range}
 use Rattle.rows.proofs.RowLaws.{getD-map}
 use Rattle.rows.proofs.ColumnsLaws.{bytes-are}
 use Rattle.rows.proofs.CellLaws.{row-is}
 
 -- ---- a column of a written row
 
-reads-from : (pre : List ℕ) (word i : ℕ) (vs rest : List ℕ) (j : ℕ) → length pre ≡ columnAt word i → j < length vs
-    → be (columnBytes word (i + j)) (pre ++ (rowBytes word i vs ++ rest)) (columnAt word (i + j)) ≡ getD vs j 0 % 256 ^ columnBytes word (i + j)
+reads-from : (pre : List ℕ) (word i : ℕ) (vs : List ℕ) (j : ℕ) → length pre ≡ columnAt word i → j < length vs
+    → be (columnBytes word (i + j)) (pre ++ rowBytes word i vs) (columnAt word (i + j)) ≡ getD vs j 0 % 256 ^ columnBytes word (i + j)
 unfolding rowBytes
-reads-from pre word i [] rest j n h = absurd (omega arith)
-reads-from pre word i (v ∷ vs) rest zero n h =
-    rw (add-zero, append-assoc) (be-bytes pre (rowBytes word (i + 1) vs ++ rest) (columnBytes word i) v (columnAt word i) n)
-reads-from pre word i (v ∷ vs) rest (suc j) n h =
+reads-from pre word i [] j n h = absurd (omega arith)
+reads-from pre word i (v ∷ vs) zero n h = rw add-zero (be-bytes pre (rowBytes word (i + 1) vs) (columnBytes word i) v (columnAt word i) n)
+reads-from pre word i (v ∷ vs) (suc j) n h =
     let k = columnBytes word i in
     let e : i + suc j ≡ i + 1 + j = omega arith in
     let m : length (pre ++ bytesOf k v) ≡ columnAt word (i + 1) = simp length-append (omega (arith, at-step word i, bytes-length k v)) in
-    rw (e, append-assoc (bytesOf k v), ← append-assoc pre (bytesOf k v)) (reads-from (pre ++ bytesOf k v) word (i + 1) vs rest j m (omega arith))
+    rw (e, ← append-assoc pre (bytesOf k v)) (reads-from (pre ++ bytesOf k v) word (i + 1) vs j m (omega arith))
 
-row-reads : (word : ℕ) (vs rest : List ℕ) (j : ℕ) → j < length vs
-    → be (columnBytes word j) (rowBytes word 0 vs ++ rest) (columnAt word j) ≡ getD vs j 0 % 256 ^ columnBytes word j
-row-reads word vs rest j h =
+row-reads : (word : ℕ) (vs : List ℕ) (j : ℕ) → j < length vs → be (columnBytes word j) (rowBytes word 0 vs) (columnAt word j) ≡ getD vs j 0 % 256 ^ columnBytes word j
+row-reads word vs j h =
     let e : 0 + j ≡ j = omega arith in
-    rw e at (reads-from [] word 0 vs rest j (sym (at-zero word)) h)
+    rw e at (reads-from [] word 0 vs j (sym (at-zero word)) h)
 
 -- ---- a covering shape cuts nothing off
 
@@ -66,9 +65,10 @@ bytes-more s w h n = ⊎-elim
     (lt-or-ge 0 (fours s))
 
 -- what column j of a written row reads is the value that the set has for its region, sign included
-pub row-back : (s : Shape) (set : Set) (rest : List ℕ) (j : ℕ) → length s < 32768 → Widths s → Covers s set → j < length (columnsOf s)
-    → signed (columnBytes (wordCount s) j) (be (columnBytes (wordCount s) j) (rowOf s set ++ rest) (columnAt (wordCount s) j)) ≡ valueIn set (getD (columnsOf s) j 0)
-row-back s set rest j few ws cov h =
+pub row-back : (s : Shape) (set : Set) (j : ℕ) → length s < 32768 → Widths s → Covers s set → j < length (columnsOf s)
+    → cellIn (wordCount s) (rowOf s set) j ≡ valueIn set (getD (columnsOf s) j 0)
+unfolding cellIn
+row-back s set j few ws cov h =
     let word = wordCount s in
     let cols = columnsOf s in
     let r = getD cols j 0 in
@@ -78,4 +78,4 @@ row-back s set rest j few ws cov h =
     let more : getD s r 0 ≤ k = rw (bytes-are s few j h) (bytes-more s (getD s r 0) (ws .most r) (ws .one-of r)) in
     let f : fits k (valueIn set r) ≡ true = width-holds (valueIn set r) k (word-fits _ (cov .word r)) (range .0) (omega (arith, cov .holds r)) in
     let low : j < length (cellWords set cols) = omega (arith, length-map cols g) in
-    rw (row-is s set few, row-reads word (cellWords set cols) rest j low, getD-map g cols j h) (sign-back k 4 (valueIn set r) (range .0) (range .1) f)
+    rw (row-is s set few, row-reads word (cellWords set cols) j low, getD-map g cols j h) (sign-back k 4 (valueIn set r) (range .0) (range .1) f)

@@ -1,6 +1,7 @@
 pub mod WorkedBytes
 pub mod BackLaws
-pub mod TableBack
-pub mod StoreBack
 pub mod MapBack
+pub mod Parsing
+pub mod StoreBack
+pub mod ByRegion
 pub mod PlainLaws

@@ -33,7 +33,8 @@ in-run outer a (x ∷ xs) (suc i) h =
     let e : suc a + i ≡ a + suc i = omega arith in
     (omega (arith, ih .0), rw e at (ih .1))
 
-abbrev empty : Final
+-- a run of no rows
+abbrev pub empty : Final
 empty = record { shape = []; ids = [] }
 
 -- row inner of run outer is named, with its word

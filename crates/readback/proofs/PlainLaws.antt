@@ -3,19 +3,22 @@
 use mathlib.Core.Path.{_≡_, refl, ap, _∙_}
 use mathlib.Core.List.{List, [], _∷_, append-nil}
 use mathlib.Core.Logic.{⊎-elim}
+use mathlib.Core.Option.{none}
 use Prim.Native.Nat.{ℕ, zero, suc, _+_, _-_, _*_, _≤_, _<_}
 use native.Mathlib.Omega.{arith}
 use lib.ListN.{length}
 use lib.Seq.{take-all}
 use Rattle.laws.specs.Bytes.{bytesOf}
 use Rattle.laws.specs.Bounded.{tabulate, upTo}
+use Rattle.laws.specs.Joining.{joinAll}
 use Rattle.laws.proofs.UpLaws.{up-long}
 use Rattle.laws.proofs.Cases.{lt-or-ge}
 use Rattle.shapes.specs.Shape.{Shape}
 use Rattle.shapes.specs.Group.{maxItems}
 use Rattle.rows.specs.Row.{Set}
-use Rattle.rows.specs.Subtable.{joinAll, runCount, subtableOf}
-use Rattle.store.specs.Placing.{Final, runsOf, allRuns, inRun, idWords, keptOf, offsetsOf, listOf, placed, storeOf}
+use Rattle.rows.specs.Subtable.{runCount}
+use Rattle.stores.specs.Stores.{offsets}
+use Rattle.store.specs.Placing.{Final, runsOf, allRuns, inRun, idWords, slotOf, madeOf}
 use Rattle.rows.proofs.RunLaws.{run-none, run-some}
 
 -- one group
@@ -54,13 +57,12 @@ pub plain-words : (s : Shape) (n : ℕ) → n ≤ maxItems → idWords 0 (allRun
 unfolding idWords
 plain-words s n h = rw (plain-run s n h) (append-nil (inRun 0 0 (upTo n)) ∙ words-same 0 n)
 
--- no sets: exactly one subtable, which has no bytes
-pub plain-none : (axes : ℕ) (coords : List (List ℕ)) (set : ℕ → Set) (s : Shape)
-    → storeOf axes coords set (plain s 0) ≡ placed (listOf axes coords (keptOf (length coords) (plain s 0))) ([] ∷ [])
-unfolding storeOf subtableOf tabulate
+-- no sets: exactly one subtable, a null one
+pub plain-none : (axes : ℕ) (coords : List (List ℕ)) (set : ℕ → Set) (s : Shape) → madeOf axes coords set (plain s 0) .tables ≡ none ∷ []
+unfolding madeOf slotOf tabulate
 plain-none axes coords set s = rw (plain-run s 0 (omega arith))
 
--- and whose offset is 0
-pub none-offset : (at : ℕ) → offsetsOf at ([] ∷ []) ≡ bytesOf 4 0
-unfolding offsetsOf
+-- whose offset is 0
+pub none-offset : (at : ℕ) → offsets at (none ∷ []) ≡ bytesOf 4 0
+unfolding offsets
 none-offset at = append-nil (bytesOf 4 0)

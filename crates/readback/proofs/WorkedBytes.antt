@@ -7,12 +7,14 @@ use Rattle.laws.specs.Bytes.{bytesOf}
 use Rattle.laws.specs.Signed.{twos, value}
 use Rattle.laws.specs.Bounded.{tabulate}
 use Rattle.laws.specs.Sorting.{keep}
+use Rattle.laws.specs.Joining.{joinAll}
 use Rattle.shapes.specs.Shape.{Shape, rowCost, columns, overhead}
 use Rattle.shapes.specs.Group.{groupCost}
+use Rattle.stores.specs.Stores.{tableBytes, slotBytes, offsets, listBytes, place}
 use Rattle.rows.specs.Columns.{addIf, ofWidth, columnsOf, wordCount, bytesFor}
 use Rattle.rows.specs.Row.{Set, wordIn, cellsOf, rowOf}
-use Rattle.rows.specs.Subtable.{joinAll, runCount, indexBytes, rowsOf, subtableOf}
-use Rattle.store.specs.Placing.{Final, runsOf, allRuns, inRun, idWords, names, keptOf, offsetsOf, listOf, placed, storeOf, modelOf, modelled, forecastOf}
+use Rattle.rows.specs.Subtable.{runCount}
+use Rattle.store.specs.Placing.{Final, runsOf, allRuns, inRun, idWords, names, keptOf, slotOf, madeOf, storeOf, modelOf, modelled, forecastOf}
 
 -- R0 and R1
 abbrev r0 : List ℕ
@@ -94,5 +96,5 @@ answers =
     ∷ []
 
 pub p1-to-p5-p7 : map built jobs ≡ answers
-unfolding bytesOf twos value tabulate keep rowCost columns overhead groupCost addIf ofWidth columnsOf wordCount bytesFor wordIn cellsOf rowOf joinAll runCount runsOf allRuns inRun idWords names indexBytes rowsOf subtableOf offsetsOf listOf placed storeOf modelOf modelled forecastOf
+unfolding bytesOf twos value tabulate keep rowCost columns overhead groupCost addIf ofWidth columnsOf wordCount bytesFor wordIn cellsOf rowOf joinAll runCount runsOf allRuns inRun idWords names slotOf madeOf tableBytes slotBytes offsets listBytes place storeOf modelOf modelled forecastOf
 p1-to-p5-p7 = refl

@@ -1,15 +1,14 @@
--- Laws of columns that the writer needs too: where they lie, which one a region has, where indexes stand. Assumes nothing.
+-- Laws of columns that the writer needs too: where they lie, which one a region has. Assumes nothing.
 use mathlib.Core.Path.{_≡_, refl}
 use mathlib.Core.List.{List, [], _∷_, _++_}
 use Prim.Native.Nat.{ℕ, zero, suc, _+_, _-_, _%_, _≤_, _<_}
-use native.Mathlib.Nat.{add-zero, add-assoc}
+use native.Mathlib.Nat.{add-zero}
 use native.Mathlib.Decide.{decLt}
 use native.Mathlib.Omega.{arith}
-use lib.ListN.{length, getD, drop}
+use lib.ListN.{length, getD}
 use borrow.Author.Tests.{lt-ltb, le-ltb, eq-eqb, ne-eqb}
-use Rattle.laws.proofs.BytesLaws.{be-drop}
 use Rattle.reader.specs.declared.column.Column.the-variants.{At}
-use Rattle.reader.specs.Store.{words, find, columnAt, columnBytes}
+use Rattle.reader.specs.Store.{find, columnAt, columnBytes}
 
 -- ---- where columns lie
 
@@ -76,11 +75,3 @@ find-end x i [] n = rw (eq-eqb x x refl, add-zero)
 find-end x i (z ∷ l) n =
     let e : i + 1 + length l ≡ i + suc (length l) = omega arith in
     rw (ne-eqb z x (n 0 (omega arith)), find-end x (i + 1) l (λ k h. n (suc k) (omega arith)), e)
-
--- ---- region indexes
-
--- from a place on
-pub words-drop : (a : ℕ) (s : List ℕ) (b n : ℕ) → words (drop a s) b n ≡ words s (a + b) n
-unfolding words
-words-drop a s b zero = refl
-words-drop a s b (suc n) = rw (be-drop 2 a s b, words-drop a s (b + 2) n, ← add-assoc)

@@ -14,8 +14,7 @@ use Rattle.laws.proofs.BytesLaws.{bytes-length, over-length}
 use Rattle.laws.proofs.RangeLaws.{seg-cons, seg-none, length-seg}
 use Rattle.reader.specs.Store.{columnAt}
 use Rattle.rows.specs.Row.{Set, valueIn}
-use Rattle.rows.specs.Subtable.{indexBytes}
-use Rattle.rows.specs.Lent.{Put, setAt, rowBytes, cellWords, rowsBytes, headBytes}
+use Rattle.rows.specs.Lent.{indexBytes, Put, setAt, rowBytes, cellWords, rowsBytes, headBytes}
 use Rattle.rows.proofs.OverLaws.{over-none, over-join}
 use Rattle.rows.proofs.RowLaws.{row-length}
 

@@ -1,6 +1,6 @@
 -- Laws of one subtable's bytes, and of a group cut into runs. Assumes nothing.
 use mathlib.Core.Path.{_≡_, refl, sym, ap, _∙_}
-use mathlib.Core.List.{List, [], _∷_, _++_, append-assoc}
+use mathlib.Core.List.{List, [], _∷_, _++_}
 use mathlib.Core.Logic.{⊎-elim}
 use Prim.Native.Nat.{ℕ, suc, _+_, _-_, _*_, _/_, _≤_, _<_, min}
 use native.Mathlib.Numerals.{add-one}
@@ -8,22 +8,19 @@ use native.Mathlib.Omega.{arith}
 use lib.ListN.{length, take, drop, length-append}
 use lib.Seq.{take-take, take-all}
 use borrow.Author.Tests.{eq-eqb, ne-eqb}
-use Rattle.laws.specs.Bytes.{bytesOf}
 use Rattle.laws.specs.Bounded.{tabulate}
 use Rattle.laws.specs.Range.{seg}
 use Rattle.laws.specs.Every.{All}
+use Rattle.laws.specs.Joining.{joinAll}
 use Rattle.laws.proofs.BytesLaws.{bytes-length}
 use Rattle.laws.proofs.RangeLaws.{length-seg, seg-drop, seg-all, all-seg}
 use Rattle.laws.proofs.Cases.{lt-or-ge}
-use Rattle.shapes.specs.Shape.{Shape}
 use Rattle.shapes.specs.Group.{maxItems}
 use Rattle.reader.specs.Store.{columnAt}
-use Rattle.rows.specs.Columns.{columnsOf, wordCount}
 use Rattle.rows.specs.Row.{Set}
-use Rattle.rows.specs.Subtable.{joinAll, runCount, indexBytes, rowsOf, subtableOf}
-use Rattle.rows.specs.Lent.{Put, rowsBytes, headBytes, tableBytes, runAt, runsBytes}
+use Rattle.rows.specs.Subtable.{runCount}
+use Rattle.rows.specs.Lent.{indexBytes, Put, rowsBytes, headBytes, tableBytes, runAt, runsBytes}
 use Rattle.rows.proofs.PutLaws.{Putting, put-start, put-more, put-done, put-join, put-long, index-length, rows-length}
-use Rattle.rows.proofs.CellLaws.{row-is}
 
 -- ---- one subtable
 
@@ -76,21 +73,6 @@ module _ (number : ℕ → ℕ) (word : ℕ) (cols : List ℕ) (set : ℕ → Se
           let long = put-long at head o p a h (omega (arith, table-room)) in
           let j = put-join a index rows p q r b t i k (omega (arith, h .end, table-room)) in
           rw e (put-join at head (index ++ rows) o p r a t h j (omega (arith, length-append index rows, table-room)))
-
--- a subtable of the definition
-rows-are : (s : Shape) (set : ℕ → Set) (xs : List ℕ) → length s < 32768 → rowsOf set s xs ≡ rowsBytes (wordCount s) (columnsOf s) set xs
-unfolding rowsOf rowsBytes
-rows-are s set [] few = refl
-rows-are s set (x ∷ xs) few = rw (row-is s (set x) few, rows-are s set xs few)
-
-pub table-is : (number : ℕ → ℕ) (s : Shape) (set : ℕ → Set) (xs : List ℕ) → length s < 32768
-    → subtableOf number set s xs ≡ tableBytes number (wordCount s) (columnsOf s) set xs
-unfolding subtableOf tableBytes
-table-is number s set [] few = refl
-table-is number s set (x ∷ xs) few = rw (rows-are s set (x ∷ xs) few) (regroup (bytesOf 2 (length (x ∷ xs))) (bytesOf 2 (wordCount s)) (bytesOf 2 (length (columnsOf s))) (indexBytes number (columnsOf s) ++ rowsBytes (wordCount s) (columnsOf s) set (x ∷ xs)))
-  where
-    regroup : (a b c d : List ℕ) → a ++ (b ++ (c ++ d)) ≡ (a ++ (b ++ c)) ++ d
-    regroup a b c d = simp append-assoc
 
 -- ---- runs
 

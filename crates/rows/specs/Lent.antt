@@ -13,8 +13,9 @@ use Rattle.reader.specs.Store.{columnBytes, columnsOk, find}
 use Rattle.rows.specs.Columns.{columnsOf, wordCount}
 use Rattle.rows.specs.Row.{Set, valueIn}
 use Rattle.laws.specs.Bounded.{tabulate}
+use Rattle.laws.specs.Joining.{joinAll}
 use Rattle.shapes.specs.Group.{maxItems}
-use Rattle.rows.specs.Subtable.{indexBytes, runCount, joinAll}
+use Rattle.rows.specs.Subtable.{runCount}
 
 -- n entries that stand in w from index a on, two words each
 unfoldable pub entriesAt : ℕ → ℕ → List ℕ → Set
@@ -64,6 +65,11 @@ pub record Stored (index : ℕ) (w : List ℕ) (x : ℕ) : Type 0 where
 unfoldable pub rowsBytes : ℕ → List ℕ → (ℕ → Set) → List ℕ → List ℕ
 rowsBytes word cols set [] = []
 rowsBytes word cols set (x ∷ xs) = rowBytes word 0 (cellWords (set x) cols) ++ rowsBytes word cols set xs
+
+-- the new numbers of the regions cols, two bytes each
+unfoldable pub indexBytes : (ℕ → ℕ) → List ℕ → List ℕ
+indexBytes number [] = []
+indexBytes number (r ∷ rs) = bytesOf 2 (number r) ++ indexBytes number rs
 
 -- region r's new number
 abbrev pub numberIn : List ℕ → ℕ → ℕ

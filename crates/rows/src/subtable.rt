@@ -13,8 +13,8 @@ ghost use Rattle.laws.specs.Range.{seg};
 ghost use Rattle.laws.specs.Every.{All};
 ghost use Rattle.reader.specs.Store.{columnAt, columnsOk};
 ghost use Rattle.shapes.specs.Group.{maxItems};
-ghost use Rattle.rows.specs.Subtable.{indexBytes, runCount};
-ghost use Rattle.rows.specs.Lent.{Placed, Put, Stored, cellWords, headBytes, numberIn, rowBytes, rowsBytes, runsBytes, setAt, tableBytes};
+ghost use Rattle.rows.specs.Subtable.{runCount};
+ghost use Rattle.rows.specs.Lent.{Placed, Put, Stored, cellWords, headBytes, indexBytes, numberIn, rowBytes, rowsBytes, runsBytes, setAt, tableBytes};
 
 fn write_head(out: &mut [u8], at: usize, items: usize, word: usize, count: usize) -> usize
     requires { ⌜ at + 6 ≤ length (now out) ⌝ }

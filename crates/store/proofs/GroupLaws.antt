@@ -1,28 +1,28 @@
 -- Laws of the groups' subtables in lent words. Assumes nothing.
-use mathlib.Core.Path.{_≡_, refl, sym, ap, _∙_}
-use mathlib.Core.Bool.{Bool, true, false}
-use mathlib.Core.List.{List, [], _∷_, _++_, append-assoc, map}
-use Prim.Native.Nat.{ℕ, zero, suc, _+_, _-_, _*_, _≤_, _<_}
+use mathlib.Core.Path.{_≡_, refl, ap, _∙_}
+use mathlib.Core.Bool.{true}
+use mathlib.Core.List.{List, _++_}
+use Prim.Native.Nat.{ℕ, suc, _+_, _-_, _≤_, _<_}
 use native.Mathlib.Numerals.{add-one}
 use native.Mathlib.Omega.{arith}
-use lib.ListN.{length, getD, take, drop, length-append, length-take}
+use lib.ListN.{length, take, drop, length-append}
 use lib.Seq.{take-at}
 use Rattle.laws.specs.Bounded.{tabulate}
 use Rattle.laws.specs.Range.{seg}
+use Rattle.laws.specs.Joining.{joinAll}
 use Rattle.laws.proofs.BoundedLaws.{tabulate-same}
 use Rattle.shapes.specs.Shape.{Shape}
 use Rattle.reader.specs.Store.{columnsOk}
 use Rattle.rows.specs.Columns.{columnsOf, wordCount}
 use Rattle.rows.specs.Row.{Set}
-use Rattle.rows.specs.Subtable.{joinAll, runCount, subtableOf}
-use Rattle.store.specs.Placing.{Final}
+use Rattle.rows.specs.Subtable.{runCount}
 use Rattle.rows.specs.Lent.{Put, Formed, tableBytes, runAt, runsBytes}
-use Rattle.store.specs.Lent.{chain}
+use Rattle.store.specs.Lent.{chain, subtableOf}
 use Rattle.reader.proofs.StoreLaws.{ok-intro, ok-below, ok-once}
 use Rattle.rows.proofs.ColumnsLaws.{columns-ok, word-below}
 use Rattle.rows.proofs.CollectLaws.{columns-count, columns-most}
 use Rattle.rows.proofs.PutLaws.{Putting, put-start, put-more, put-done}
-use Rattle.rows.proofs.RunLaws.{table-is}
+use Rattle.store.proofs.TableLaws.{table-is}
 
 -- ---- one group
 

@@ -1,8 +1,10 @@
 pub mod HeaderLaws
+pub mod TableLaws
 pub mod GroupLaws
 pub mod RegionLaws
 pub mod ListLaws
 pub mod SizeLaws
 pub mod SpotLaws
+pub mod Pieces
 pub mod PlacedLaws
 pub mod MapLaws

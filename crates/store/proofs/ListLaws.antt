@@ -13,9 +13,9 @@ use Rattle.laws.specs.Bytes.{bytesOf, over}
 use Rattle.laws.specs.Bounded.{tabulate, upTo}
 use Rattle.laws.specs.Range.{seg}
 use Rattle.laws.specs.Sorting.{keep}
+use Rattle.laws.specs.Joining.{joinAll}
 use Rattle.laws.proofs.BytesLaws.{bytes-length}
 use Rattle.laws.proofs.RangeLaws.{seg-cons, seg-none, length-seg}
-use Rattle.rows.specs.Subtable.{joinAll}
 use Rattle.rows.specs.Lent.{Put}
 use Rattle.store.specs.Lent.{chain, coordsAt, keptBytes, listBytes, markedIn}
 use Rattle.rows.proofs.OverLaws.{set-over}

@@ -1,93 +1,42 @@
 -- The store of the definition, by the pieces that the code writes. Assumes nothing.
-use mathlib.Core.Path.{_≡_, refl, sym, ap, ap₂, _∙_}
-use mathlib.Core.Bool.{Bool, true, false}
-use mathlib.Core.List.{List, [], _∷_, _++_, append-assoc, map}
-use mathlib.Core.Logic.{⊎-elim}
+use mathlib.Core.Path.{_≡_, refl, sym, ap, _∙_}
+use mathlib.Core.Bool.{Bool}
+use mathlib.Core.List.{List, [], _∷_, _++_, map}
 use Prim.Native.Nat.{ℕ, zero, suc, _+_, _-_, _*_, _≤_, _<_, min}
 use Rattle.limits.specs.Limits.{maxRegions}
 use Rattle.said.specs.Records.{axisCoords, coordsLong}
 use native.Mathlib.Nat.{add-zero, suc-mul, zero-mul, mul-comm}
 use native.Mathlib.Omega.{arith}
-use lib.Dec.{eqb}
-use lib.ListN.{length, getD, take, drop, length-append, length-map, length-take, length-drop}
-use borrow.Author.Tests.{eq-eqb, ne-eqb}
-use Rattle.laws.specs.Every.{All}
+use lib.ListN.{length, getD, drop, length-append, length-map, length-take, length-drop}
+use Rattle.laws.proofs.ListLaws.{map-same}
 use Rattle.laws.specs.Bag.{weigh}
 use Rattle.laws.specs.Bytes.{bytesOf}
 use Rattle.laws.specs.Bounded.{tabulate, upTo}
 use Rattle.laws.specs.Range.{seg}
 use Rattle.laws.specs.Sorting.{keep}
-use Rattle.laws.proofs.EveryLaws.{all, all-imp}
-use Rattle.laws.proofs.ListLaws.{map-append}
-use Rattle.laws.proofs.BoundedLaws.{tabulate-same, length-tabulate, getD-tabulate}
+use Rattle.laws.specs.Joining.{joinAll}
+use Rattle.laws.proofs.EveryLaws.{all, all-imp, all-map}
+use Rattle.laws.proofs.JoinLaws.{map-join, join-join, join-long}
+use Rattle.laws.proofs.BoundedLaws.{tabulate-same, length-tabulate, getD-tabulate, map-tabulate}
 use Rattle.laws.proofs.SortLaws.{keep-same}
 use Rattle.laws.proofs.SortMap.{keep-all}
 use Rattle.laws.proofs.UpLaws.{up-all}
 use Rattle.laws.proofs.BytesLaws.{bytes-length}
-use Rattle.laws.proofs.Cases.{same-or-not}
-use Rattle.shapes.specs.Shape.{Shape}
 use Rattle.shapes.specs.Group.{maxItems}
 use Rattle.reader.specs.Store.{columnAt}
 use Rattle.rows.specs.Columns.{columnsOf, wordCount}
 use Rattle.rows.specs.Row.{Set}
-use Rattle.rows.specs.Subtable.{joinAll, runCount, indexBytes, subtableOf}
-use Rattle.store.specs.Placing.{Final, runsOf, allRuns, names, keptOf, newIndex, offsetsOf, listOf, placed, storeOf}
+use Rattle.rows.specs.Subtable.{runCount}
+use Rattle.store.specs.Placing.{Final, runsOf, allRuns, names, keptOf, newIndex, storeOf}
 use Rattle.rows.specs.Lent.{Put, setAt, numberIn, runAt, runsBytes}
-use Rattle.store.specs.Lent.{Drafted, Marks, Numbered, Planned, Ready, Sourced, Spotted, headerBytes, chain, coordsAt, coordsOf, finalAt, finalsAt, groupBytes, groupSizes, keptBytes, listBytes, markedIn, runSizes, sizesAt, spotOf, spotsOf, tableSize, total}
-use Rattle.rows.proofs.ColumnsLaws.{columns-in}
+use Rattle.store.specs.Lent.{Drafted, Marks, Planned, Ready, Sourced, Spotted, headerBytes, chain, coordsAt, coordsOf, finalAt, finalsAt, groupBytes, groupSizes, keptBytes, listBytes, markedIn, runSizes, sizesAt, spotsOf, subtableOf, tableSize, total}
 use Rattle.laws.proofs.RangeLaws.{length-seg}
 use Rattle.store.proofs.RegionLaws.{kept-most}
 use Rattle.store.proofs.SpotLaws.{spots-length}
 use Rattle.store.proofs.ListLaws.{list-length}
 use Rattle.rows.proofs.PutLaws.{put-join, put-long}
-use Rattle.rows.proofs.RunLaws.{table-is, table-none, table-length}
-
--- ---- lists of lists
-
-module _ {A B : Type 0} where
-  pub map-tabulate : (g : A → B) (a n : ℕ) (f : ℕ → A) → map g (tabulate a n f) ≡ tabulate a n (λ k. g (f k))
-  unfolding tabulate
-  map-tabulate g a zero f = refl
-  map-tabulate g a (suc n) f = ap (λ (l : List B). g (f a) ∷ l) (map-tabulate g (suc a) n f)
-
-  map-join : (g : A → B) (ls : List (List A)) → map g (joinAll ls) ≡ joinAll (map (map g) ls)
-  unfolding joinAll
-  map-join g [] = refl
-  map-join g (l ∷ ls) = map-append g l (joinAll ls) ∙ ap (λ (k : List B). map g l ++ k) (map-join g ls)
-
-join-append : {A : Type 0} (l m : List (List A)) → joinAll (l ++ m) ≡ joinAll l ++ joinAll m
-unfolding joinAll
-join-append [] m = refl
-join-append (x ∷ l) m = rw (join-append l m, append-assoc)
-
-join-join : {A : Type 0} (ls : List (List (List A))) → joinAll (joinAll ls) ≡ joinAll (map joinAll ls)
-unfolding joinAll
-join-join [] = refl
-join-join (l ∷ ls) = join-append l (joinAll ls) ∙ rw (join-join ls)
-
--- ---- one subtable
-
-pub sub-length : (number : ℕ → ℕ) (set : ℕ → Set) (s : Shape) (xs : List ℕ) → length s < 32768
-    → length (subtableOf number set s xs) ≡ tableSize (length (columnsOf s)) (columnAt (wordCount s) (length (columnsOf s))) (length xs)
-unfolding tableSize
-sub-length number set s xs few =
-    let cols = columnsOf s in
-    let word = wordCount s in
-    ap length (table-is number s set xs few) ∙ ⊎-elim
-    (λ (e : length xs ≡ 0). rw (eq-eqb (length xs) 0 e, table-none number word cols set xs e))
-    (λ d. rw (ne-eqb (length xs) 0 d) (table-length number word cols set xs d))
-    (same-or-not (length xs) 0)
-
--- only the numbers of the shape's regions matter
-index-same : (f g : ℕ → ℕ) (l : List ℕ) → All (λ r. f r ≡ g r) l → indexBytes f l ≡ indexBytes g l
-unfolding indexBytes
-index-same f g [] h = refl
-index-same f g (r ∷ l) h = rw (h .0, index-same f g l (h .1))
-
-sub-same : (f g : ℕ → ℕ) (set : ℕ → Set) (s : Shape) (xs : List ℕ) → ((r : ℕ) → r < length s → f r ≡ g r) → subtableOf f set s xs ≡ subtableOf g set s xs
-unfolding subtableOf
-sub-same f g set s [] h = refl
-sub-same f g set s (x ∷ xs) h = rw (index-same f g (columnsOf s) (all-imp (λ r i. h r (i .0)) (columnsOf s) (columns-in s)))
+use Rattle.store.proofs.TableLaws.{sub-length, sub-same}
+use Rattle.store.proofs.Pieces.{listOf, store-pieces}
 
 -- ---- one group
 
@@ -122,13 +71,6 @@ group-same f h set g e =
 
 -- ---- all groups
 
--- offsets depend on the sizes alone
-offsets-are : (at : ℕ) (ts : List (List ℕ)) → offsetsOf at ts ≡ spotsOf at (map (λ (t : List ℕ). length t) ts)
-unfolding offsetsOf spotsOf spotOf
-offsets-are at [] = refl
-offsets-are at ([] ∷ ts) = rw (add-zero, offsets-are at ts)
-offsets-are at ((b ∷ t) ∷ ts) = rw (ne-eqb (suc (length t)) 0 (omega arith), offsets-are (at + suc (length t)) ts)
-
 module _ (number : ℕ → ℕ) (set : ℕ → Set) (f : ℕ → Final) (n : ℕ) where
   abbrev pub tables : List (List ℕ)
   tables = map (λ (r : Final). subtableOf number set (r .shape) (r .ids)) (allRuns (tabulate 0 n f))
@@ -161,14 +103,7 @@ module _ (number : ℕ → ℕ) (set : ℕ → Set) (f : ℕ → Final) (n : ℕ
     pub tables-count : length tables ≡ length (chain (λ g. groupSizes (f g)) n)
     tables-count = sym (length-map tables (λ (t : List ℕ). length t)) ∙ ap length tables-sized
 
-    pub tables-offsets : (at : ℕ) → offsetsOf at tables ≡ spotsOf at (chain (λ g. groupSizes (f g)) n)
-    tables-offsets at = offsets-are at tables ∙ ap (spotsOf at) tables-sized
-
 -- ---- the region list
-
-map-same : {B : Type 0} (f g : ℕ → B) (l : List ℕ) → All (λ r. f r ≡ g r) l → map f l ≡ map g l
-map-same f g [] h = refl
-map-same f g (x ∷ l) h = ap₂ _∷_ (h .0) (map-same f g l (h .1))
 
 module _ (src : List ℕ) (axes : ℕ) (w : List ℕ) (starts regions : ℕ) (gs : List Final) (marks : List ℕ) (m : Marks gs marks) where
   kept-is : keptOf (length (coordsOf src axes w starts regions)) gs ≡ keep (markedIn marks) (upTo regions)
@@ -183,9 +118,9 @@ module _ (src : List ℕ) (axes : ℕ) (w : List ℕ) (starts regions : ℕ) (gs
       getD-tabulate 0 regions (λ r. coordsAt src axes (getD w (starts + r) 0)) [] r h
       ∙ (let e : 0 + r ≡ r = omega arith in rw e)
 
-  pub list-is : listOf axes (coordsOf src axes w starts regions) (keptOf (length (coordsOf src axes w starts regions)) gs)
+  pub list-is : listOf axes (coordsOf src axes w starts regions) gs
       ≡ listBytes axes (length (keep (markedIn marks) (upTo regions))) (keptBytes src axes w starts (keep (markedIn marks) (upTo regions)))
-  unfolding listOf keptBytes
+  unfolding keptBytes
   list-is =
       let kept = keep (markedIn marks) (upTo regions) in
       let coords = coordsOf src axes w starts regions in
@@ -197,11 +132,6 @@ module _ (src : List ℕ) (axes : ℕ) (w : List ℕ) (starts regions : ℕ) (gs
       (all-imp (λ r h. coord-at r (omega arith)) (upTo regions) (up-all regions)))))
 
 -- ---- how long the list is
-
-join-length : (f : ℕ → List ℕ) (c : ℕ) (l : List ℕ) → All (λ r. length (f r) ≡ c) l → length (joinAll (map f l)) ≡ length l * c
-unfolding joinAll
-join-length f c [] h = rw zero-mul
-join-length f c (x ∷ l) h = length-append (f x) (joinAll (map f l)) ∙ omega (arith, h .0, join-length f c l (h .1), suc-mul (length l) c)
 
 pieces-length : (src : List ℕ) (from n k : ℕ) → ((a : ℕ) → k ≤ a → a < k + n → axisCoords from a + coordsLong ≤ length src)
     → length (joinAll (tabulate k n (λ a. seg (axisCoords from a) coordsLong src))) ≡ 6 * n
@@ -219,9 +149,11 @@ pub kept-length : (src : List ℕ) (axes : ℕ) (w : List ℕ) (starts regions :
     → length (keptBytes src axes w starts (keep p (upTo regions))) ≡ 6 * axes * length (keep p (upTo regions))
 unfolding keptBytes
 kept-length src axes w starts regions p s =
-    join-length (λ r. coordsAt src axes (getD w (starts + r) 0)) (6 * axes) (keep p (upTo regions))
+    join-long (6 * axes) (map (λ r. coordsAt src axes (getD w (starts + r) 0)) (keep p (upTo regions)))
+    (all-map (λ c. length c ≡ 6 * axes) (λ r. coordsAt src axes (getD w (starts + r) 0)) (keep p (upTo regions))
     (keep-all p (λ r. length (coordsAt src axes (getD w (starts + r) 0)) ≡ 6 * axes) (upTo regions)
-    (all-imp (λ r h. coords-length src axes (getD w (starts + r) 0) (s r (omega arith))) (upTo regions) (up-all regions)))
+    (all-imp (λ r h. coords-length src axes (getD w (starts + r) 0) (s r (omega arith))) (upTo regions) (up-all regions))))
+    ∙ ap (λ (n : ℕ). n * (6 * axes)) (length-map (keep p (upTo regions)) (λ r. coordsAt src axes (getD w (starts + r) 0)))
     ∙ mul-comm (length (keep p (upTo regions))) (6 * axes)
 
 -- ---- the whole store
@@ -272,7 +204,7 @@ module _ (src : List ℕ) (axes starts : ℕ) (w : List ℕ) (regions groups cou
       (λ g p q. group-same (newIndex gs) (numberIn numbers) (setAt index w) (f g) (λ r h. sym (number-is r (omega (arith, shape-within regions w (groups + 3 * g)))))))
 
   pub store-is : store ≡ headerBytes runs ++ (spotsOf (8 + 4 * runs + (4 + 6 * axes * kept)) sizes ++ (list ++ body))
-  unfolding storeOf placed finalsAt sizesAt
+  unfolding finalsAt sizesAt
   store-is =
       let gs = tabulate 0 count (λ g. finalAt regions w (groups + 3 * g)) in
       let f : ℕ → Final = (λ g. finalAt regions w (groups + 3 * g)) in
@@ -280,11 +212,8 @@ module _ (src : List ℕ) (axes starts : ℕ) (w : List ℕ) (regions groups cou
       let few : (g : ℕ) → g < count → length (f g .shape) < 32768 = (λ g h. omega (arith, shape-few regions w (groups + 3 * g) (ready .regions-most))) in
       let n = tables-count number (setAt index w) f count few ∙ sym (plan .runs-is) in
       let l = list-is src axes w starts regions gs marks (plan .marked) ∙ ap (λ (k : ℕ). listBytes axes k (keptBytes src axes w starts (keep (markedIn marks) (upTo regions)))) (sym (plan .numbered .all)) in
-      rw (l, n, list-long, tables-offsets number (setAt index w) f count few (8 + 4 * runs + (4 + 6 * axes * kept)), body-is)
-      (regroup (bytesOf 2 1) (bytesOf 4 (8 + 4 * runs)) (bytesOf 2 runs) (spotsOf (8 + 4 * runs + (4 + 6 * axes * kept)) (chain (λ g. groupSizes (f g)) count) ++ (list ++ body)))
-    where
-      regroup : (a b c d : List ℕ) → a ++ (b ++ (c ++ d)) ≡ (a ++ (b ++ c)) ++ d
-      regroup a b c d = simp append-assoc
+      store-pieces axes (coordsOf src axes w starts regions) (setAt index w) gs
+      ∙ rw (l, n, list-long, tables-sized number (setAt index w) f count few, body-is)
 
   header-long : length (headerBytes runs) ≡ 8
   header-long = length-append (bytesOf 2 1) (bytesOf 4 (8 + 4 * runs) ++ bytesOf 2 runs)

@@ -1,24 +1,20 @@
 -- Laws of the regions that a store keeps. Assumes nothing.
-use mathlib.Core.Path.{_≡_, refl, sym, ap, _∙_}
+use mathlib.Core.Path.{_≡_, refl, ap, _∙_}
 use mathlib.Core.Bool.{Bool, true, false, not, _||_, or-true, or-false}
-use mathlib.Core.List.{List, [], _∷_, _++_, append-assoc}
+use mathlib.Core.List.{List, [], _∷_, _++_}
 use mathlib.Core.Logic.{⊎-elim}
-use Prim.Native.Nat.{ℕ, zero, suc, _+_, _-_, _*_, _≤_, _<_}
-use native.Mathlib.Numerals.{add-one}
+use Prim.Native.Nat.{ℕ, _+_, _-_, _*_, _≤_, _<_}
 use native.Mathlib.Omega.{arith}
 use lib.Dec.{eqb}
-use lib.ListN.{length, getD, set, length-set, length-append, List·getD-eq-default}
+use lib.ListN.{length, getD, set, length-set, List·getD-eq-default}
 use lib.Seq.{getD-set-same, getD-set-other}
 use borrow.Author.Count.{below-more}
 use borrow.Author.Tests.{eq-eqb, ne-eqb}
-use Rattle.laws.specs.Pick.{pick}
 use Rattle.laws.specs.Bounded.{tabulate, upTo}
 use Rattle.laws.specs.Sorting.{keep}
 use Rattle.laws.proofs.BoundedLaws.{tabulate-snoc}
-use Rattle.laws.proofs.UpLaws.{up-long}
-use Rattle.laws.proofs.Cases.{Which, which, same-or-not, lt-or-ge}
-use Rattle.laws.proofs.Cases.Which.{holds, fails}
-use Rattle.shapes.specs.Shape.{Shape}
+use Rattle.laws.proofs.Cases.{same-or-not, lt-or-ge}
+use Rattle.stores.proofs.Picking.{rank-in, rank-out, rank-most}
 use Rattle.store.specs.Placing.{Final, names}
 use Rattle.store.specs.Lent.{finalAt, finalsAt, markedIn, Named, Marks, Numbered}
 
@@ -94,41 +90,8 @@ marks-more regions groups g w old new m n =
 
 -- ---- new numbers
 
-module _ (p : ℕ → Bool) where
-  keep-snoc-in : (l : List ℕ) (x : ℕ) → p x ≡ true → length (keep p (l ++ (x ∷ []))) ≡ length (keep p l) + 1
-  unfolding keep
-  keep-snoc-in [] x e = rw e (omega arith)
-  keep-snoc-in (y ∷ l) x e = go (which (p y)) (keep-snoc-in l x e)
-    where
-      go : Which (p y) → length (keep p (l ++ (x ∷ []))) ≡ length (keep p l) + 1 → length (keep p (y ∷ l ++ (x ∷ []))) ≡ length (keep p (y ∷ l)) + 1
-      go (holds t) h = rw (t, h) (omega arith)
-      go (fails t) h = rw (t, h)
-
-  keep-snoc-out : (l : List ℕ) (x : ℕ) → p x ≡ false → keep p (l ++ (x ∷ [])) ≡ keep p l
-  unfolding keep
-  keep-snoc-out [] x e = rw e
-  keep-snoc-out (y ∷ l) x e = rw (keep-snoc-out l x e)
-
-  keep-most : (l : List ℕ) → length (keep p l) ≤ length l
-  unfolding keep
-  keep-most [] = omega arith
-  keep-most (y ∷ l) = go (which (p y)) (keep-most l)
-    where
-      go : Which (p y) → length (keep p l) ≤ length l → length (keep p (y ∷ l)) ≤ suc (length l)
-      go (holds t) h = rw t (omega arith)
-      go (fails t) h = rw t (omega arith)
-
-  up-next : (r : ℕ) → upTo (r + 1) ≡ upTo r ++ (r ∷ [])
-  up-next r = tabulate-snoc 0 r (λ k. k) ∙ (let e : 0 + r ≡ r = omega arith in rw e)
-
-  pub kept-in : (r : ℕ) → p r ≡ true → length (keep p (upTo (r + 1))) ≡ length (keep p (upTo r)) + 1
-  kept-in r e = rw (up-next r) (keep-snoc-in (upTo r) r e)
-
-  pub kept-out : (r : ℕ) → p r ≡ false → length (keep p (upTo (r + 1))) ≡ length (keep p (upTo r))
-  kept-out r e = rw (up-next r) (ap length (keep-snoc-out (upTo r) r e))
-
-  pub kept-most : (r : ℕ) → length (keep p (upTo r)) ≤ r
-  kept-most r = omega (arith, keep-most (upTo r), up-long r)
+pub kept-most : (p : ℕ → Bool) (r : ℕ) → length (keep p (upTo r)) ≤ r
+kept-most = rank-most
 
 -- the first r regions are numbered
 pub record Numbering (marks : List ℕ) (regions : ℕ) (old numbers : List ℕ) (n r : ℕ) : Type 0 where
@@ -143,7 +106,7 @@ module _ (marks : List ℕ) (regions : ℕ) (old : List ℕ) (room : regions ≤
   number-start = record { within = omega arith; long = refl; at = λ k h. absurd (omega arith); all = refl }
 
   pub number-most : (numbers : List ℕ) (n r : ℕ) → Numbering marks regions old numbers n r → n ≤ r
-  number-most numbers n r m = omega (arith, m .all, kept-most (markedIn marks) r)
+  number-most numbers n r m = omega (arith, m .all, rank-most (markedIn marks) r)
 
   module _ (numbers : List ℕ) (n r : ℕ) (m : Numbering marks regions old numbers n r) (h : r < regions) where
     more : (v : ℕ) → v ≡ length (keep (markedIn marks) (upTo (r + 1))) → Numbering marks regions old (set numbers r n) v (r + 1)
@@ -159,12 +122,12 @@ module _ (marks : List ℕ) (regions : ℕ) (old : List ℕ) (room : regions ≤
     pub number-in : (getD marks r 0 ≡ 0 → ⊥) → Numbering marks regions old (set numbers r n) (n + 1) (r + 1)
     number-in d =
         let b : markedIn marks r ≡ true = rw (ne-eqb (getD marks r 0) 0 d) in
-        more (n + 1) (omega (arith, m .all, kept-in (markedIn marks) r b))
+        more (n + 1) (omega (arith, m .all, rank-in (markedIn marks) r b))
 
     pub number-out : getD marks r 0 ≡ 0 → Numbering marks regions old (set numbers r n) n (r + 1)
     number-out e =
         let b : markedIn marks r ≡ false = rw (eq-eqb (getD marks r 0) 0 e) in
-        more n (omega (arith, m .all, kept-out (markedIn marks) r b))
+        more n (omega (arith, m .all, rank-out (markedIn marks) r b))
 
   pub number-done : (numbers : List ℕ) (n r : ℕ) → Numbering marks regions old numbers n r → regions ≤ r → Numbered marks regions numbers n
   number-done numbers n r m h =

@@ -13,16 +13,16 @@ use Rattle.laws.specs.Bag.{weigh}
 use Rattle.laws.specs.Bytes.{bytesOf}
 use Rattle.laws.specs.Bounded.{tabulate}
 use Rattle.laws.specs.Range.{seg}
+use Rattle.laws.specs.Joining.{joinAll}
 use Rattle.laws.proofs.BagLaws.{weigh-append}
 use Rattle.laws.proofs.BytesLaws.{bytes-length}
 use Rattle.laws.proofs.BoundedLaws.{length-tabulate}
 use Rattle.laws.proofs.RangeLaws.{length-seg}
 use Rattle.laws.proofs.Cases.{lt-or-ge}
 use Rattle.shapes.specs.Shape.{Shape}
-use Rattle.shapes.specs.Group.{maxItems}
+use Rattle.shapes.specs.Group.{maxItems, groupCost}
 use Rattle.reader.specs.Store.{columnAt}
 use Rattle.rows.specs.Columns.{columnsOf, wordCount}
-use Rattle.shapes.specs.Group.{groupCost}
 use Rattle.shapes.specs.Lent.{Narrow, Measured, costOf}
 use Rattle.shapes.proofs.GroupLaws.{cost-measured}
 use Rattle.shapes.proofs.LentLaws.{narrow-small}

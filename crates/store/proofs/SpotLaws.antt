@@ -12,12 +12,13 @@ use borrow.Author.Tests.{eq-eqb, ne-eqb}
 use Rattle.laws.specs.Bag.{weigh}
 use Rattle.laws.specs.Bytes.{bytesOf, over}
 use Rattle.laws.specs.Bounded.{tabulate}
+use Rattle.laws.specs.Joining.{joinAll}
 use Rattle.laws.proofs.BagLaws.{weigh-append}
 use Rattle.laws.proofs.BytesLaws.{bytes-length}
 use Rattle.laws.proofs.RangeLaws.{length-seg}
 use Rattle.shapes.specs.Group.{maxItems}
 use Rattle.reader.specs.Store.{columnAt}
-use Rattle.rows.specs.Subtable.{joinAll, runCount}
+use Rattle.rows.specs.Subtable.{runCount}
 use Rattle.store.specs.Placing.{Final}
 use Rattle.rows.specs.Lent.{Put}
 use Rattle.store.specs.Lent.{FormOf, Spotted, chain, finalAt, groupSizes, runSizes, spotOf, spotsOf, tableSize, total}

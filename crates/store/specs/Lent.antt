@@ -13,15 +13,17 @@ use Rattle.laws.specs.Bytes.{bytesOf}
 use Rattle.reader.specs.Store.{columnAt}
 use Rattle.rows.specs.Columns.{columnsOf, wordCount}
 use Rattle.rows.specs.Row.{Set}
-use Rattle.laws.specs.Bounded.{tabulate}
+use Rattle.laws.specs.Bounded.{tabulate, upTo}
+use Rattle.shapes.specs.Shape.{Shape}
 use Rattle.shapes.specs.Group.{maxItems}
 use Rattle.laws.specs.Range.{seg}
 use Rattle.laws.specs.Every.{All}
-use Rattle.laws.specs.Bounded.{upTo}
 use Rattle.laws.specs.Sorting.{keep}
-use Rattle.rows.specs.Subtable.{runCount, joinAll, subtableOf}
+use Rattle.laws.specs.Joining.{joinAll}
+use Rattle.rows.specs.Subtable.{runCount}
 use Rattle.rows.specs.Lent.{Put, Stored, runsBytes}
-use Rattle.store.specs.Placing.{Final, idWords, names}
+use Rattle.stores.specs.Stores.{slotBytes}
+use Rattle.store.specs.Placing.{Final, idWords, names, slotOf}
 
 -- f at each number below n, one after the other
 unfoldable pub chain : (ℕ → List ℕ) → ℕ → List ℕ
@@ -40,6 +42,10 @@ pub record Handed (regions index : ℕ) (w : List ℕ) (group : ℕ) : Type 0 wh
   pub shape : getD w group 0 + regions ≤ length w
   pub ids : getD w (group + 1) 0 + getD w (group + 2) 0 ≤ length w
   pub sets : All (Stored index w) (seg (getD w (group + 1) 0) (getD w (group + 2) 0) w)
+
+-- the bytes of one subtable
+unfoldable pub subtableOf : (ℕ → ℕ) → (ℕ → Set) → Shape → List ℕ → List ℕ
+subtableOf number set s xs = slotBytes (slotOf number set s xs)
 
 -- the subtables of one group
 unfoldable pub groupBytes : (ℕ → ℕ) → (ℕ → Set) → Final → List ℕ

@@ -1,19 +1,21 @@
--- The whole store. Document 01, "Byte placing": "Format 1 (u16), region list offset (u32), subtable count (u16), subtable offsets (u32 each,
--- 0 for null); region list: axis count, region count (u16), then start, peak, end per axis; subtables in order: item count, word count,
--- region count, region indexes (u16), rows. No gaps or sharing."
+-- The store of final groups: their runs and where each id's row stands, the regions that are kept, the store as a value (stores/specs/Stores has
+-- what one is, and how it is placed), its bytes, and the forecast.
 use mathlib.Core.Bool.{Bool, false, not, _||_}
 use mathlib.Core.List.{List, [], _∷_, _++_, map}
+use mathlib.Core.Option.{Option, none, some}
 use Prim.Native.Nat.{ℕ, suc, _+_, _*_}
 use lib.Dec.{eqb}
 use lib.ListN.{length, getD, take, drop}
 use Rattle.laws.specs.Pick.{pick}
-use Rattle.laws.specs.Bytes.{bytesOf}
 use Rattle.laws.specs.Bounded.{tabulate, upTo}
 use Rattle.laws.specs.Sorting.{keep}
+use Rattle.laws.specs.Joining.{joinAll}
 use Rattle.shapes.specs.Shape.{Shape}
 use Rattle.shapes.specs.Group.{groupCost, maxItems}
-use Rattle.rows.specs.Row.{Set}
-use Rattle.rows.specs.Subtable.{joinAll, runCount, subtableOf}
+use Rattle.rows.specs.Columns.{columnsOf, wordCount}
+use Rattle.rows.specs.Row.{Set, rowOf}
+use Rattle.rows.specs.Subtable.{runCount}
+use Rattle.stores.specs.Stores.{Table, Parsed, place}
 
 -- a final group: its shape, and the ids of its sets in the order of rows
 pub record Final : Type 0 where
@@ -50,31 +52,23 @@ keptOf regions gs = keep (λ r. names r gs) (upTo regions)
 abbrev pub newIndex : List Final → ℕ → ℕ
 newIndex gs r = length (keptOf r gs)
 
--- ---- the parts of the store
+-- ---- the store as a value, and its bytes
 
--- each subtable's offset, the first one's being at
-unfoldable pub offsetsOf : ℕ → List (List ℕ) → List ℕ
-offsetsOf at [] = []
-offsetsOf at ([] ∷ ts) = bytesOf 4 0 ++ offsetsOf at ts
-offsetsOf at ((b ∷ t) ∷ ts) = bytesOf 4 at ++ offsetsOf (at + length (b ∷ t)) ts
+-- the subtable of a run: one of no rows is null
+unfoldable pub slotOf : (ℕ → ℕ) → (ℕ → Set) → Shape → List ℕ → Option Table
+slotOf number set s [] = none
+slotOf number set s (x ∷ xs) = some (record { word = wordCount s; columns = map number (columnsOf s); rows = map (λ y. rowOf s (set y)) (x ∷ xs) })
 
 -- coords has start, peak and end of each region's axes, as bytes
-unfoldable pub listOf : ℕ → List (List ℕ) → List ℕ → List ℕ
-listOf axes coords kept = bytesOf 2 axes ++ (bytesOf 2 (length kept) ++ joinAll (map (λ r. getD coords r []) kept))
-
-unfoldable pub placed : List ℕ → List (List ℕ) → List ℕ
-placed list tables =
-    bytesOf 2 1
-    ++ (bytesOf 4 (8 + 4 * length tables)
-    ++ (bytesOf 2 (length tables)
-    ++ (offsetsOf (8 + 4 * length tables + length list) tables
-    ++ (list
-    ++ joinAll tables))))
+unfoldable pub madeOf : ℕ → List (List ℕ) → (ℕ → Set) → List Final → Parsed
+madeOf axes coords set gs = record {
+  axes = axes;
+  regions = map (λ r. getD coords r []) (keptOf (length coords) gs);
+  tables = map (λ r. slotOf (newIndex gs) set (r .shape) (r .ids)) (allRuns gs);
+}
 
 unfoldable pub storeOf : ℕ → List (List ℕ) → (ℕ → Set) → List Final → List ℕ
-storeOf axes coords set gs =
-    placed (listOf axes coords (keptOf (length coords) gs))
-    (map (λ r. subtableOf (newIndex gs) set (r .shape) (r .ids)) (allRuns gs))
+storeOf axes coords set gs = place (madeOf axes coords set gs)
 
 -- ---- "The forecast is 12 + 6 x axes x regions kept + the model's cost of each final group written + 4 per null subtable."
 

@@ -15,6 +15,7 @@ use Rattle.laws.specs.Bytes.{be, bytesOf}
 use Rattle.laws.specs.Order.{compared, thenBy, isMost}
 use Rattle.laws.specs.Signed.{fits, isZero, signed, twos, word, value, zeroWord}
 use Rattle.laws.specs.Sorting.{insert, sorted, keep}
+use Rattle.laws.specs.Joining.{joinAll}
 use Rattle.laws.proofs.Cases.{and-true}
 use Rattle.shapes.specs.Width.{widthOf, costOf}
 use Rattle.shapes.specs.Shape.{rowCost, columns, overhead, join}
@@ -29,6 +30,7 @@ use Rattle.rule.specs.Told.{words}
 use Rattle.rows.specs.Columns.{addIf, ofWidth, columnsOf, wordCount, bytesFor}
 use Rattle.rows.specs.Row.{wordIn, cellsOf, rowOf}
 use Rattle.rows.specs.Subtable as rows
+use Rattle.stores.specs.Stores as stores
 use Rattle.store.specs.Placing as store
 use Rattle.store.specs.Lent.{stored}
 use Rattle.said.specs.Records.{zeros, axisZeros, valueZeros, endZeros, valueWord}
@@ -175,7 +177,7 @@ Answers =
     × (left-a .log ≡ 1 ∷ 2 ∷ 10 ∷ 0 ∷ 3 ∷ 7 ∷ []) × (left-b .log ≡ 1 ∷ 2 ∷ 10 ∷ 0 ∷ 3 ∷ 7 ∷ 9 ∷ [])
 
 answers : Answers
-unfolding weigh allBelow tabulate be bytesOf compared thenBy isMost fits isZero signed twos word value insert sorted keep widthOf costOf rowCost columns overhead join shapes.widthsOrder shapes.order groupCost joined gain wordOf sameSet sets.byWords sets.orderNone sets.orderHead sets.order place withSet idsFrom distinctFrom groups.shapeOf groups.placed groups.withShape groups.groupsFrom groups.groupsOf rule.keepOut rule.outs rule.pairWith rule.keepPair rule.pairs rule.better rule.lead rule.best rule.worth rule.ifWorth rule.choice rule.entry rule.merge rule.follow rule.step rule.run rule.number rule.start rule.merged rule.total words addIf ofWidth columnsOf wordCount bytesFor wordIn cellsOf rowOf rows.joinAll rows.runCount store.runsOf store.allRuns store.inRun store.idWords store.names rows.indexBytes rows.rowsOf rows.subtableOf store.offsetsOf store.listOf store.placed store.storeOf store.modelOf store.modelled store.forecastOf stored zeros axisZeros valueZeros endZeros valueWord firstFailed publishedWork earlyNo axisNo valueNo endNo said.coordinates said.regionList said.sameRegion said.like said.firstLike said.has said.withUse said.indexIn said.placed said.withValue job.unless job.afterValue job.afterEnd job.valueStep job.endStep job.setStep job.regionsOnly job.step job.endedSets job.ended job.follow job.walk job.outcomeFrom job.outcome packed.noLater packed.dense packed.sameShape packed.numberOf packed.isAmong packed.belongs packed.finalOf packed.isAhead packed.finalsOf packed.shared storeFor regionsKept lateNo reportOf lateAnswer written buffersLeft regionBytes coordsOf packedOf answerFrom leftFrom
+unfolding weigh allBelow tabulate be bytesOf compared thenBy isMost fits isZero signed twos word value insert sorted keep widthOf costOf rowCost columns overhead join shapes.widthsOrder shapes.order groupCost joined gain wordOf sameSet sets.byWords sets.orderNone sets.orderHead sets.order place withSet idsFrom distinctFrom groups.shapeOf groups.placed groups.withShape groups.groupsFrom groups.groupsOf rule.keepOut rule.outs rule.pairWith rule.keepPair rule.pairs rule.better rule.lead rule.best rule.worth rule.ifWorth rule.choice rule.entry rule.merge rule.follow rule.step rule.run rule.number rule.start rule.merged rule.total words addIf ofWidth columnsOf wordCount bytesFor wordIn cellsOf rowOf joinAll rows.runCount store.runsOf store.allRuns store.inRun store.idWords store.names store.slotOf store.madeOf stores.tableBytes stores.slotBytes stores.offsets stores.listBytes stores.place store.storeOf store.modelOf store.modelled store.forecastOf stored zeros axisZeros valueZeros endZeros valueWord firstFailed publishedWork earlyNo axisNo valueNo endNo said.coordinates said.regionList said.sameRegion said.like said.firstLike said.has said.withUse said.indexIn said.placed said.withValue job.unless job.afterValue job.afterEnd job.valueStep job.endStep job.setStep job.regionsOnly job.step job.endedSets job.ended job.follow job.walk job.outcomeFrom job.outcome packed.noLater packed.dense packed.sameShape packed.numberOf packed.isAmong packed.belongs packed.finalOf packed.isAhead packed.finalsOf packed.shared storeFor regionsKept lateNo reportOf lateAnswer written buffersLeft regionBytes coordsOf packedOf answerFrom leftFrom
 answers = (refl, refl, refl, refl, refl, refl, refl, refl)
 
 module _ (work : List ℕ) (pairs : List Pair) (w : length work ≡ words-lent) (p : length pairs ≡ pairRecords) where

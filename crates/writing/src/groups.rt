@@ -9,9 +9,8 @@ ghost use Prim.Native.Nat.{ℕ, _+_, _*_, _≤_, _<_};
 ghost use lib.ListN.{length};
 ghost use Rattle.laws.specs.Range.{seg};
 ghost use Rattle.laws.specs.Every.{All};
-ghost use Rattle.rows.specs.Subtable.{subtableOf};
 ghost use Rattle.rows.specs.Lent.{Put, Stored, numberIn, runsBytes, setAt};
-ghost use Rattle.store.specs.Lent.{Handed, chain, finalAt, groupBytes};
+ghost use Rattle.store.specs.Lent.{Handed, chain, finalAt, groupBytes, subtableOf};
 ghost use Rattle.limits.specs.Limits.{maxRegions};
 
 // The subtables of one group.

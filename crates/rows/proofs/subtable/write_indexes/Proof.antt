@@ -2,8 +2,7 @@ use mathlib.Core.Path.{_≡_}
 use Prim.Native.Nat.{_+_, _-_, _*_, _≤_}
 use denote.Ref.{now}
 use lib.ListN.{length, drop}
-use Rattle.rows.specs.Subtable.{indexBytes}
-use Rattle.rows.specs.Lent.{numberIn}
+use Rattle.rows.specs.Lent.{indexBytes, numberIn}
 use Rattle.reader.proofs.StoreLaws.{ok-below}
 use Rattle.rows.proofs.PutLaws.{Putting, put-start, indexes-more, indexes-done}
 use borrow.Author.Needs.{needs}

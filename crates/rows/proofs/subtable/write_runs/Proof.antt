@@ -5,8 +5,9 @@ use denote.Ref.{now}
 use lib.ListN.{length}
 use Rattle.laws.specs.Range.{seg}
 use Rattle.laws.specs.Bounded.{tabulate}
+use Rattle.laws.specs.Joining.{joinAll}
 use Rattle.laws.proofs.RangeLaws.{length-seg}
-use Rattle.rows.specs.Subtable.{runCount, joinAll}
+use Rattle.rows.specs.Subtable.{runCount}
 use Rattle.rows.specs.Lent.{Stored, numberIn, setAt, tableBytes, runAt, runsBytes}
 use Rattle.rows.proofs.PutLaws.{Putting}
 use Rattle.rows.proofs.RunLaws.{run-starts, run-seg, all-part, runs-start, runs-room, runs-more, runs-done}

@@ -3,7 +3,7 @@ use mathlib.Core.List.{List}
 use denote.Ref.{now}
 use lib.ListN.{length}
 use Rattle.laws.specs.Bounded.{tabulate}
-use Rattle.rows.specs.Subtable.{joinAll}
+use Rattle.laws.specs.Joining.{joinAll}
 use Rattle.rows.specs.Lent.{numberIn, setAt}
 use Rattle.store.specs.Lent.{chain, groupBytes, finalAt}
 use Rattle.rows.proofs.PutLaws.{Putting}

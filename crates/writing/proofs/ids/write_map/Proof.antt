@@ -4,7 +4,7 @@ use Prim.Native.Nat.{ℕ, _+_, _-_, _*_, _≤_, _<_}
 use denote.Ref.{now}
 use lib.ListN.{length}
 use Rattle.laws.specs.Bounded.{tabulate}
-use Rattle.rows.specs.Subtable.{joinAll}
+use Rattle.laws.specs.Joining.{joinAll}
 use Rattle.store.specs.Placing.{Final, allRuns, idWords, runsOf}
 use Rattle.store.specs.Lent.{finalAt, finalsAt, stored}
 use Rattle.store.proofs.MapLaws.{groups-all, groups-more, groups-done}

@@ -4,7 +4,7 @@ use denote.Ref.{now}
 use lib.ListN.{getD}
 use Rattle.laws.specs.Bounded.{tabulate, upTo}
 use Rattle.laws.specs.Sorting.{keep}
-use Rattle.rows.specs.Subtable.{joinAll}
+use Rattle.laws.specs.Joining.{joinAll}
 use Rattle.store.specs.Lent.{coordsAt, keptBytes, markedIn}
 use Rattle.rows.proofs.PutLaws.{Putting}
 use Rattle.store.proofs.ListLaws.{kept-start, kept-room, kept-in, kept-out, kept-done}

@@ -3,6 +3,7 @@ use mathlib.Core.List.{List}
 use denote.Ref.{now}
 use Rattle.laws.specs.Bounded.{tabulate}
 use Rattle.laws.specs.Range.{seg}
+use Rattle.laws.specs.Joining.{joinAll}
 use Rattle.laws.proofs.RangeLaws.{length-seg}
 use Rattle.rows.specs.Subtable.{joinAll}
 use Rattle.said.specs.Records.{axisCoords, coordsLong}

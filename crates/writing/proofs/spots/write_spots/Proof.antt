@@ -4,7 +4,7 @@ use Prim.Native.Nat.{ℕ, _+_, _-_, _*_, _≤_, _<_}
 use denote.Ref.{now}
 use lib.ListN.{length}
 use Rattle.laws.specs.Bounded.{tabulate}
-use Rattle.rows.specs.Subtable.{joinAll}
+use Rattle.laws.specs.Joining.{joinAll}
 use Rattle.store.specs.Lent.{chain, finalAt, groupSizes, sizesAt, spotsOf, total}
 use Rattle.store.proofs.GroupLaws.{left, left-step}
 use Rattle.store.proofs.SpotLaws.{Spotting, spot-start, spot-group, group-spots, spot-done, left-all, left-none}
