@@ -5,3 +5,4 @@ pub mod GoodLaws
 pub mod MeaningLaws
 pub mod SaidLaws
 pub mod SoundLaws
+pub mod WorkLaws
