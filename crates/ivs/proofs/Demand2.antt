@@ -12,7 +12,6 @@ use Rattle.laws.specs.Bytes.{over}
 use Rattle.laws.specs.Signed.{value, zeroWord}
 use Rattle.laws.proofs.Cases.{Which, which}
 use Rattle.laws.proofs.Cases.Which.{holds, fails}
-use Rattle.laws.proofs.UpLaws.{up-long}
 use Rattle.sets.specs.Set.{Set, wordOf}
 use Rattle.groups.specs.Groups.{groupsOf, maxShapes}
 use Rattle.reader.specs.declared.reader.Reading.the-variants.{Written, NoColumn}
@@ -23,7 +22,6 @@ use Rattle.said.specs.Records.{recordBytes}
 use Rattle.said.specs.Job.{Said, fine}
 use Rattle.said.proofs.SoundLaws.{Bytes}
 use Rattle.encoder.specs.Packed.{Packed, shared, own}
-use Rattle.encoder.proofs.DenseIds.{ids-length}
 use Rattle.finishing.specs.declared.answers.Report.{Report}
 use Rattle.finishing.specs.declared.answers.Built.the-variants.{Done}
 use Rattle.finishing.specs.Late.{storeFor}
@@ -32,6 +30,7 @@ use Rattle.build.specs.Build.{coordsOf, packedOf, outcomeOf, answerOf, after}
 use Rattle.build.proofs.RowsBack.{RowOf, Listed}
 use Rattle.build.proofs.ReadBack.{Sized, GivesBack, shared-back, own-back}
 use Rattle.build.proofs.Accepted.{Accepted, accepted, accepted-sized, coords-once, bytes-are, out-is, map-is, store-front, id-at}
+use Rattle.build.proofs.PastLaws.{ids-long}
 
 -- ---- what a set's row in a store gives back
 
@@ -137,22 +136,6 @@ module _ (axes regions : ℕ) (coords : List (List ℕ)) (jobs : List Set) (k : 
 -- ---- both modes
 
 module _ (mode : ℕ) (s : Said) where
-  shared-long : (n : ℕ) (all : List Set) → length (shared n all .ids) ≡ length all
-  unfolding shared
-  shared-long n all = ids-length all
-
-  own-long : (n : ℕ) (all : List Set) → length (own n all .ids) ≡ length all
-  unfolding own
-  own-long n all = up-long (length all)
-
-  ids-long : length (packedOf mode s .ids) ≡ length (s .sets)
-  unfolding packedOf
-  ids-long = go (which (eqb mode 0))
-    where
-      go : Which (eqb mode 0) → length (pick (eqb mode 0) (shared (length (s .used)) (s .sets)) (own (length (s .used)) (s .sets)) .ids) ≡ length (s .sets)
-      go (holds e) = rw e (shared-long (length (s .used)) (s .sets))
-      go (fails e) = rw e (own-long (length (s .used)) (s .sets))
-
   shared-groups : (n : ℕ) (all : List Set) → shared n all .groups ≤ 1024 → length (groupsOf n all) ≤ 1024
   unfolding shared
   shared-groups n all h = h

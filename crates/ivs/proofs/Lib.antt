@@ -22,3 +22,6 @@ pub mod BytesBack
 pub mod SizesBack
 pub mod Examples
 pub mod GlyphLaws
+pub mod PastBack
+pub mod ReportLaws
+pub mod PlainRows

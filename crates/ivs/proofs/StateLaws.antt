@@ -14,9 +14,11 @@ use Rattle.said.specs.Records.{kind, regionOf, valueZeros, valueWord}
 use Rattle.said.specs.Refusals.{firstFailed, axisNo, valueNo, endNo}
 use Rattle.said.specs.Sets.{Region, regionList, firstLike, has}
 use Rattle.said.specs.Job.{Said, State, inAxes, inSets, Step, stop, on, unless, afterValue, afterEnd, valueStep, endStep, regionsOnly, step}
+use Rattle.told.specs.Told.{endsBefore}
+use Rattle.told.proofs.WordLaws.{ends-one, ends-same}
 use Rattle.ivs.specs.Exactly.{Exactly}
 use Rattle.ivs.specs.Passing.{recordAt, Passed, saidAt, Whole}
-use Rattle.ivs.specs.Counts.{countKind, axisRecords, endsBefore, knownRegions}
+use Rattle.ivs.specs.Counts.{countKind, axisRecords, knownRegions}
 use Rattle.ivs.proofs.FailedLaws.{other, later}
 use Rattle.ivs.proofs.StepLaws.{Looks, looks, valueTold, endTold}
 use Rattle.ivs.proofs.StepLaws.Looks.{axis, late, cut, value, set-end, unknown}
@@ -197,7 +199,7 @@ module _ (axes : ℕ) (job : List ℕ) (i : ℕ) where
     unfolding saidAt afterValue has
     value-mean v w z = record {
       regions-are = m .regions-are ∙ sym (regions-same not-one);
-      sets-are = m .sets-are ∙ sym (count-past 3 job i (λ e. omega arith));
+      sets-are = m .sets-are ∙ sym (ends-same job i (λ e. omega arith));
       in-axes = λ e. absurd (not-axes _ e);
       in-sets = λ d. past-axes not-one w;
       named-is = λ q. record {
@@ -232,7 +234,7 @@ module _ (axes : ℕ) (job : List ℕ) (i : ℕ) where
     unfolding saidAt afterEnd has
     end-mean v w = record {
       regions-are = m .regions-are ∙ sym (regions-same not-one);
-      sets-are = length-append (old .sets) (old .begun ∷ []) ∙ (let a = m .sets-are in let b = count-here 3 job i v in omega arith);
+      sets-are = length-append (old .sets) (old .begun ∷ []) ∙ (let a = m .sets-are in let b = ends-one job i v in omega arith);
       in-axes = λ e. absurd (not-axes _ e);
       in-sets = λ d. past-axes not-one w;
       named-is = λ q. record {
@@ -254,7 +256,7 @@ module _ (axes : ℕ) (job : List ℕ) (i : ℕ) where
     axis-mean : kind r ≡ 1 → t ≡ inAxes → Means axes job (suc i) inAxes
     axis-mean v a =
         axes-mean axes job (suc i) (count-here 1 job i v ∙ ap suc (m .in-axes a))
-        (count-past 3 job i (λ e. omega arith) ∙ sym (m .sets-are) ∙ none-ended t a)
+        (ends-same job i (λ e. omega arith) ∙ sym (m .sets-are) ∙ none-ended t a)
         (λ k e. let y : i ≡ k = omega arith in subst (λ (x : ℕ). kind (recordAt job x) ≡ 1) y v)
 
     next-means : (mode : ℕ) (s : State) → step axes mode job r i t ≡ on s → Means axes job (suc i) s
@@ -272,6 +274,6 @@ module _ (axes : ℕ) (job : List ℕ) (i : ℕ) where
         go (unknown a b c e) = five e
 
 pub means : (axes mode : ℕ) (job : List ℕ) (i : ℕ) (s : State) → Passed axes mode job i s → Means axes job i s
-unfolding Passed countKind
+unfolding Passed countKind endsBefore
 means axes mode job zero s p = subst (λ (x : State). Means axes job 0 x) (sym p) (axes-mean axes job 0 refl refl (λ k e. absurd (omega arith)))
 means axes mode job (suc i) s (t, p, e) = next-means axes job i t (means axes mode job i t p) mode s e

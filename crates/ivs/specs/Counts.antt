@@ -8,6 +8,7 @@ use lib.Dec.{eqb}
 use Rattle.laws.specs.Pick.{pick}
 use Rattle.said.specs.Records.{kind, regionOf, axisOf}
 use Rattle.said.specs.Sets.{Region, regionList}
+use Rattle.told.specs.Told.{recordCount, endsBefore}
 use Rattle.ivs.specs.Passing.{recordAt}
 
 -- how many of the first i records are of this kind
@@ -18,8 +19,9 @@ countKind k job (suc i) = pick (eqb (kind (recordAt job i)) k) (suc (countKind k
 abbrev pub axisRecords : List ℕ → ℕ → ℕ
 axisRecords job i = countKind 1 job i
 
-abbrev pub endsBefore : List ℕ → ℕ → ℕ
-endsBefore job i = countKind 3 job i
+-- the end records of the whole job
+abbrev pub endRecords : List ℕ → ℕ
+endRecords job = endsBefore job (recordCount job)
 
 -- the regions that have all their axis records before record i
 abbrev pub knownRegions : ℕ → List ℕ → ℕ → List Region

@@ -2,10 +2,13 @@ pub mod Answers
 pub mod Exactly
 pub mod Fits
 pub mod Passing
-pub mod Rooms
 pub mod Counts
+pub mod Rooms
 pub mod Rows
 pub mod GlyphWords
 pub mod Told
 pub mod SetsRead
 pub mod Sized
+pub mod Past
+pub mod Reported
+pub mod Plain
