@@ -12,7 +12,8 @@ use Rattle.said.specs.Sets.{Region, regionList, firstLike, has}
 use Rattle.said.specs.Job.{Said, State, inAxes, inSets, stop, on, step}
 use Rattle.said.proofs.MeaningLaws.{first-equal, equal-first}
 use Rattle.ivs.specs.Exactly.{Exactly}
-use Rattle.ivs.specs.Passing.{recordAt, Passed, saidAt}
+use Rattle.told.specs.Told.{recordAt}
+use Rattle.ivs.proofs.Passing.{Passed, saidAt}
 use Rattle.ivs.specs.Counts.{countKind, axisRecords, knownRegions, NamedBefore}
 use Rattle.ivs.proofs.StepLaws.{Looks, looks}
 use Rattle.ivs.proofs.StepLaws.Looks.{axis, late, cut, value, set-end, unknown}

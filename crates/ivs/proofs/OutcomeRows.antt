@@ -19,7 +19,8 @@ use Rattle.finishing.specs.Late.{lateNo, lateAnswer, reportOf}
 use Rattle.build.specs.Lending.{Lending}
 use Rattle.build.specs.Build.{coordsOf, packedOf, answerFrom, outcomeOf, answerOf}
 use Rattle.ivs.specs.Exactly.{Exactly}
-use Rattle.ivs.specs.Passing.{recordAt, StopsAt, EndsAs}
+use Rattle.told.specs.Told.{recordAt}
+use Rattle.ivs.proofs.Passing.{StopsAt, EndsAs}
 use Rattle.ivs.proofs.FailedLaws.{among}
 use Rattle.ivs.proofs.StepLaws.{RecordNo, stop-no}
 use Rattle.ivs.proofs.WalkRows.{Way, way, stops-given, ends-given}

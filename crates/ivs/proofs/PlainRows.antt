@@ -10,7 +10,7 @@ use borrow.Author.Tests.{eq-eqb}
 use Rattle.said.specs.Records.{kind, endZeros}
 use Rattle.said.specs.Refusals.{firstFailed, endNo}
 use Rattle.said.specs.Job.{State, step, stop, on}
-use Rattle.told.specs.Told.{endsBefore, Told}
+use Rattle.told.specs.Told.{recordAt, endsBefore, Told}
 use Rattle.told.proofs.WordLaws.{ends-one, ends-same}
 use Rattle.told.proofs.Bytes.{told}
 use Rattle.finishing.specs.declared.answers.Report.{Report}
@@ -20,14 +20,14 @@ use Rattle.build.specs.Build.{answerOf}
 use Rattle.build.proofs.Accepted.{Accepted, accepted}
 use Rattle.build.proofs.PlainBack.{plain-count, plain-id, plain-map, plain-table}
 use Rattle.ivs.specs.Exactly.{Exactly}
-use Rattle.ivs.specs.Passing.{recordAt, Passed, saidAt}
+use Rattle.ivs.proofs.Passing.{Passed, saidAt}
 use Rattle.ivs.specs.Counts.{endRecords}
 use Rattle.ivs.specs.Plain.{Plain}
 use Rattle.ivs.proofs.FailedLaws.{other, later}
 use Rattle.ivs.proofs.StepLaws.{Looks, looks}
 use Rattle.ivs.proofs.StepLaws.Looks.{axis, late, cut, value, set-end, unknown}
 use Rattle.ivs.proofs.StateLaws.{end-on, Means, means}
-use Rattle.ivs.proofs.EndRow.{sound}
+use Rattle.ivs.proofs.EndRow.{taken-passes}
 
 -- an end record that passes is not the 65,536th
 end-room : (r : List ℕ) (n : ℕ) → endNo 1 r n ≡ 0 → n ≡ 65535 → ⊥
@@ -64,7 +64,7 @@ pub plain : (c : Lending) (r : Report) → c .mode ≡ 1 → answerOf c ≡ Done
 plain c r m e =
     let a = accepted c r e in
     let t = told (c .axes) (c .mode) (c .job) (length (c .work)) (length (c .pairs)) (a .said) (a .said-is) in
-    let p = sound c (a .said) .only (a .said-is) in
+    let p = taken-passes c (a .said) (a .said-is) in
     let few = ends-few (c .axes) (c .job) (length (c .job) / 12) (p .state) (subst (λ (k : ℕ). Passed (c .axes) k (c .job) (length (c .job) / 12) (p .state)) m (p .all-pass)) in
     record {
       sets-few = few;

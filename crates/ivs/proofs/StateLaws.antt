@@ -14,10 +14,10 @@ use Rattle.said.specs.Records.{kind, regionOf, valueZeros, valueWord}
 use Rattle.said.specs.Refusals.{firstFailed, axisNo, valueNo, endNo}
 use Rattle.said.specs.Sets.{Region, regionList, firstLike, has}
 use Rattle.said.specs.Job.{Said, State, inAxes, inSets, Step, stop, on, unless, afterValue, afterEnd, valueStep, endStep, regionsOnly, step}
-use Rattle.told.specs.Told.{endsBefore}
+use Rattle.told.specs.Told.{recordAt, endsBefore}
 use Rattle.told.proofs.WordLaws.{ends-one, ends-same}
 use Rattle.ivs.specs.Exactly.{Exactly}
-use Rattle.ivs.specs.Passing.{recordAt, Passed, saidAt, Whole}
+use Rattle.ivs.proofs.Passing.{Passed, saidAt, Whole}
 use Rattle.ivs.specs.Counts.{countKind, axisRecords, knownRegions}
 use Rattle.ivs.proofs.FailedLaws.{other, later}
 use Rattle.ivs.proofs.StepLaws.{Looks, looks, valueTold, endTold}

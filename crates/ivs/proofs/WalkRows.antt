@@ -9,7 +9,8 @@ use native.Mathlib.Omega.{arith}
 use lib.ListN.{length, drop}
 use lib.Seq.{drop-drop}
 use Rattle.said.specs.Job.{Said, State, inAxes, inSets, Step, stop, on, step, Outcome, refused, fine, ended, endedSets, follow, walk}
-use Rattle.ivs.specs.Passing.{recordAt, Passed, StopsAt, EndsAs}
+use Rattle.told.specs.Told.{recordAt}
+use Rattle.ivs.proofs.Passing.{Passed, StopsAt, EndsAs}
 
 module _ (axes mode : ℕ) (job : List ℕ) where
   -- one turn

@@ -8,8 +8,7 @@ use lib.Dec.{eqb}
 use Rattle.laws.specs.Pick.{pick}
 use Rattle.said.specs.Records.{kind, regionOf, axisOf}
 use Rattle.said.specs.Sets.{Region, regionList}
-use Rattle.told.specs.Told.{recordCount, endsBefore}
-use Rattle.ivs.specs.Passing.{recordAt}
+use Rattle.told.specs.Told.{recordAt, recordCount, endsBefore}
 
 -- how many of the first i records are of this kind
 unfoldable pub countKind : ℕ → List ℕ → ℕ → ℕ

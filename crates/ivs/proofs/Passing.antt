@@ -1,15 +1,10 @@
--- A job's records that pass, one after another, and the one that does not. Document 01, "Refusal numbers": "Then records from the first on: the
--- earliest bad record answers". Assumes nothing.
+-- A job's records that pass, one after another, and the one that does not, as states of the walk. Assumes nothing.
 use mathlib.Core.Path.{_≡_}
 use mathlib.Core.List.{List}
 use Prim.Native.Nat.{ℕ, zero, suc, _*_, _/_, _%_, _<_}
-use lib.ListN.{drop}
 use Rattle.said.specs.Sets.{regionList}
+use Rattle.told.specs.Told.{recordAt}
 use Rattle.said.specs.Job.{Said, State, inAxes, inSets, stop, on, regionsOnly, step, Outcome, ended}
-
--- the bytes of a job from record i on
-abbrev pub recordAt : List ℕ → ℕ → List ℕ
-recordAt job i = drop (12 * i) job
 
 -- records 0 to i, without i, pass and leave this state
 unfoldable pub Passed : ℕ → ℕ → List ℕ → ℕ → State → Type 0
