@@ -26,7 +26,7 @@ use Rattle.build.specs.Build.{coordsOf, packedOf, outcomeOf, answerOf}
 use Rattle.build.proofs.PastLaws.{ids-long}
 use Rattle.ivs.specs.Exactly.{Exactly}
 use Rattle.ivs.specs.Counts.{endRecords}
-use Rattle.ivs.specs.Rooms.{Accepted, shapeCount, distinctIds, storeBytes, ShapesFit, IdsFit, MapFit, LogFit, OutFit}
+use Rattle.ivs.specs.Rooms.{Taken, shapeCount, distinctIds, storeBytes, ShapesFit, IdsFit, MapFit, LogFit, OutFit}
 use Rattle.ivs.proofs.FailedLaws.{Tests, this, failed, other, later, passed, none-failed}
 use Rattle.ivs.proofs.OutcomeRows.{late, answer-late, answer-done, late-only, Answers, answers}
 use Rattle.ivs.proofs.OutcomeRows.Answers.{by-job, by-late, done}
@@ -192,7 +192,7 @@ ends-of c s e = told (c .axes) (c .mode) (c .job) (length (c .work)) (length (c 
 module _ (c : Lending) where
   module _ (p : ℕ) where
     row : (n : ℕ) (Why : Said → Type 0) → 10 ≤ n → ((s : Said) → length (s .sets) ≡ endRecords (c .job) → Exactly (late c s ≡ n) (Why s))
-        → Exactly (answerOf c ≡ Refused n p) ((p ≡ 0) × Accepted c Why)
+        → Exactly (answerOf c ≡ Refused n p) ((p ≡ 0) × Taken c Why)
     row n Why low x = record {
       given = λ b. rw (b .0) (answer-late c (b .1 .said) n (b .1 .sound) (x (b .1 .said) (ends-of c (b .1 .said) (b .1 .sound)) .given (b .1 .holds)) (omega arith));
       only = λ e.
@@ -201,36 +201,36 @@ module _ (c : Lending) where
     }
 
     -- 10 SHAPES_FULL: "mode 0, more than 1,024 distinct shapes"
-    pub shapes-full : Exactly (answerOf c ≡ Refused 10 p) ((p ≡ 0) × Accepted c (λ s. ((c .mode) ≡ 0) × (1024 < shapeCount (c .mode) s)))
+    pub shapes-full : Exactly (answerOf c ≡ Refused 10 p) ((p ≡ 0) × Taken c (λ s. ((c .mode) ≡ 0) × (1024 < shapeCount (c .mode) s)))
     shapes-full = row 10 (λ s. ((c .mode) ≡ 0) × (1024 < shapeCount (c .mode) s)) (omega arith) (late-shapes c)
 
     -- 11 IDS_SHORT: "fewer words than end records"
-    pub ids-short : Exactly (answerOf c ≡ Refused 11 p) ((p ≡ 0) × Accepted c (λ s. ShapesFit (c .mode) s × (length (c .lent .ids) < endRecords (c .job))))
+    pub ids-short : Exactly (answerOf c ≡ Refused 11 p) ((p ≡ 0) × Taken c (λ s. ShapesFit (c .mode) s × (length (c .lent .ids) < endRecords (c .job))))
     ids-short = row 11 (λ s. ShapesFit (c .mode) s × (length (c .lent .ids) < endRecords (c .job))) (omega arith) (late-ids c)
 
     -- 12 MAP_SHORT: "fewer words than distinct ids"
-    pub map-short : Exactly (answerOf c ≡ Refused 12 p) ((p ≡ 0) × Accepted c (λ s. IdsFit c s × (length (c .lent .map) < distinctIds (c .mode) s)))
+    pub map-short : Exactly (answerOf c ≡ Refused 12 p) ((p ≡ 0) × Taken c (λ s. IdsFit c s × (length (c .lent .map) < distinctIds (c .mode) s)))
     map-short = row 12 (λ s. IdsFit c s × (length (c .lent .map) < distinctIds (c .mode) s)) (omega arith) (late-map c)
 
     -- 13 LOG_SHORT: "mode 0, N at least 1, fewer than 3 x (N-1) words"
     pub log-short : Exactly (answerOf c ≡ Refused 13 p)
-        ((p ≡ 0) × Accepted c (λ s. MapFit c s × ((c .mode) ≡ 0) × (1 ≤ shapeCount (c .mode) s) × (length (c .lent .log) < 3 * (shapeCount (c .mode) s - 1))))
+        ((p ≡ 0) × Taken c (λ s. MapFit c s × ((c .mode) ≡ 0) × (1 ≤ shapeCount (c .mode) s) × (length (c .lent .log) < 3 * (shapeCount (c .mode) s - 1))))
     log-short = row 13 (λ s. MapFit c s × ((c .mode) ≡ 0) × (1 ≤ shapeCount (c .mode) s) × (length (c .lent .log) < 3 * (shapeCount (c .mode) s - 1))) (omega arith) (late-log c)
 
     -- 14 OUT_SHORT: "fewer bytes than the store takes"
-    pub out-short : Exactly (answerOf c ≡ Refused 14 p) ((p ≡ 0) × Accepted c (λ s. LogFit c s × (length (c .lent .out) < storeBytes (c .axes) (c .mode) s)))
+    pub out-short : Exactly (answerOf c ≡ Refused 14 p) ((p ≡ 0) × Taken c (λ s. LogFit c s × (length (c .lent .out) < storeBytes (c .axes) (c .mode) s)))
     out-short = row 14 (λ s. LogFit c s × (length (c .lent .out) < storeBytes (c .axes) (c .mode) s)) (omega arith) (late-out c)
 
   -- done: the job is sound, and none of 10 to 14 is given
   pub is-done : (r : Report) → Exactly (answerOf c ≡ Done r)
-      (Accepted c (λ s. OutFit c s × (r ≡ reportOf (c .axes) (coordsOf s) (packedOf (c .mode) s))))
+      (Taken c (λ s. OutFit c s × (r ≡ reportOf (c .axes) (coordsOf s) (packedOf (c .mode) s))))
   is-done r = record {
     given = λ b. answer-done c (b .said) (b .sound) (late-none c (b .said) (ends-of c (b .said) (b .sound)) .given (b .holds .0)) ∙ ap Done (sym (b .holds .1));
     only = λ e. go e (answers c);
   }
     where
       go : answerOf c ≡ Done r → Answers c
-          → Accepted c (λ s. OutFit c s × (r ≡ reportOf (c .axes) (coordsOf s) (packedOf (c .mode) s)))
+          → Taken c (λ s. OutFit c s × (r ≡ reportOf (c .axes) (coordsOf s) (packedOf (c .mode) s)))
       go e (by-job n p f g b) = let z : _≡_ {A = ℕ} 0 1 = cc in absurd (omega arith)
       go e (by-late s f b g) = let z : _≡_ {A = ℕ} 0 1 = cc in absurd (omega arith)
       go e (done s f b g) =

@@ -28,3 +28,4 @@ pub mod GlyphLaws
 pub mod PastBack
 pub mod ReportLaws
 pub mod PlainRows
+pub mod Demand1

@@ -16,7 +16,8 @@ use Rattle.finishing.specs.declared.answers.Built.the-variants.{Done}
 use Rattle.build.specs.Lending.{Lending}
 use Rattle.build.specs.Build.{packedOf, answerOf}
 use Rattle.ivs.specs.Sized.{Sized}
-use Rattle.ivs.proofs.Demand3.{Demand3, demand3}
+use Rattle.ivs.specs.Demand3.{Demand3}
+use Rattle.ivs.proofs.Demand3.{demand3}
 
 shared-is : (s : Said) → packedOf 0 s ≡ shared (length (s .used)) (s .sets)
 unfolding packedOf

@@ -12,3 +12,6 @@ pub mod Sized
 pub mod Past
 pub mod Reported
 pub mod Plain
+pub mod Demand1
+pub mod Demand2
+pub mod Demand3

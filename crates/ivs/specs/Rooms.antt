@@ -10,7 +10,7 @@ use Rattle.build.specs.Build.{coordsOf, packedOf, outcomeOf}
 use Rattle.ivs.specs.Counts.{endRecords}
 
 -- the job is sound, and this holds of what it says
-pub record Accepted (c : Lending) (P : Said → Type 0) : Type 0 where
+pub record Taken (c : Lending) (P : Said → Type 0) : Type 0 where
   pub said : Said
   pub sound : outcomeOf c ≡ fine said
   pub holds : P said
