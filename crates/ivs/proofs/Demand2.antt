@@ -97,7 +97,7 @@ module _ (axes regions : ℕ) (coords : List (List ℕ)) (jobs : List Set) (k : 
     inner = row .inner;
     inner-below = row .inner-below;
     word-is = row .word-is;
-    regions = region-back;
+    regions = λ q l. region-back q (omega arith);
     in-list = listed-at;
   }
 

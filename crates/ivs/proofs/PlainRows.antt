@@ -67,7 +67,7 @@ plain c r m e =
     let p = taken-passes c (a .said) (a .said-is) in
     let few = ends-few (c .axes) (c .job) (length (c .job) / 12) (p .state) (subst (λ (k : ℕ). Passed (c .axes) k (c .job) (length (c .job) / 12) (p .state)) m (p .all-pass)) in
     record {
-      sets-few = few;
+      sets-few = omega arith;
       ids-are = plain-count c r a m ∙ t .sets-are;
       id-is = λ n h. plain-id c r a m n (omega (arith, t .sets-are));
       word-is = λ x h. plain-map c r a m (omega (arith, t .sets-are)) x (omega (arith, t .sets-are));

@@ -49,14 +49,15 @@ module _ (c : Lending) (i : ℕ) where
       → Exactly (answerOf c ≡ Refused n i) (EarliestBad c i Why)
   row n Why low high d x = record {
     given = λ b.
-        let p = fine-passed (c .axes) (c .mode) (c .job) i (b .before-fine) in
+        let l = b .within in
+        let p = fine-passed (c .axes) (c .mode) (c .job) i (λ j h. b .before-fine j (omega arith)) in
         refused-at n (b .fits) (b .within) (p .0) (p .1) (x (p .0) (p .1) .given (b .why));
     only = λ e.
         let a = at-refused n low high d e in
         record {
           fits = a .0;
           within = a .1 .within;
-          before-fine = passed-fine (c .axes) (c .mode) (c .job) i (a .1 .state) (a .1 .before-pass);
+          before-fine = λ j h. passed-fine (c .axes) (c .mode) (c .job) i (a .1 .state) (a .1 .before-pass) j (omega arith);
           why = x (a .1 .state) (a .1 .before-pass) .only (a .1 .stops);
         };
   }
@@ -65,14 +66,15 @@ module _ (c : Lending) (i : ℕ) where
   pub earliest-bad : Exactly ((n : ℕ) × (5 ≤ n) × (n ≤ 9) × (n ≡ 8 → ⊥) × (answerOf c ≡ Refused n i)) (EarliestBad c i (Fine (c .axes) (c .mode) (c .job) i → ⊥))
   earliest-bad = record {
     given = λ b.
-        let p = fine-passed (c .axes) (c .mode) (c .job) i (b .before-fine) in
+        let l = b .within in
+        let p = fine-passed (c .axes) (c .mode) (c .job) i (λ j h. b .before-fine j (omega arith)) in
         stopping b (p .0) (p .1) (step (c .axes) (c .mode) (c .job) (recordAt (c .job) i) i (p .0)) refl;
     only = λ e.
         let a = at-refused (e .0) (e .1) (e .2) (e .3) (e .4) in
         record {
           fits = a .0;
           within = a .1 .within;
-          before-fine = passed-fine (c .axes) (c .mode) (c .job) i (a .1 .state) (a .1 .before-pass);
+          before-fine = λ j h. passed-fine (c .axes) (c .mode) (c .job) i (a .1 .state) (a .1 .before-pass) j (omega arith);
           why = stop-not-fine (c .axes) (c .mode) (c .job) i (a .1 .state) (a .1 .before-pass) (e .0) (a .1 .stops);
         };
   }
