@@ -96,7 +96,7 @@ module _ (c : Lending) where
   is-ended : (o : Outcome) → Fits c → EndsAs (c .axes) (c .mode) (c .job) records o → outcomeOf c ≡ o
   is-ended o f a = outcome-walked c (early-fits .given f) ∙ ends-given (c .axes) (c .mode) (c .job) records o a
 
-  -- 8 UNFINISHED: "the job ends inside a set or a region"
+  -- R8 UNFINISHED
   pub unfinished : (p : ℕ) → Exactly (answerOf c ≡ Refused 8 p) ((p ≡ records) × AllPass c (Unfinished (c .axes) (c .job) records))
   unfinished p = record {
     given = λ b.

@@ -1,4 +1,4 @@
--- Demand 1, rows 10 to 14 of document 01's table, each exactly when it says, at place 0; and done exactly when no row holds. Assumes nothing.
+-- Rows 10 to 14 of the refusal table, each exactly where it says, at place 0, in the order T4; and done exactly where no row holds. Assumes nothing.
 use mathlib.Core.Path.{_≡_, refl, sym, ap, _∙_}
 use mathlib.Core.Bool.{Bool, true, false}
 use mathlib.Core.List.{List, [], _∷_}
@@ -200,24 +200,24 @@ module _ (c : Lending) where
           (a .0, record { said = a .1; sound = a .2; holds = x (a .1) (ends-of c (a .1) (a .2)) .only (a .3) });
     }
 
-    -- 10 SHAPES_FULL: "mode 0, more than 1,024 distinct shapes"
+    -- R10 SHAPES_FULL
     pub shapes-full : Exactly (answerOf c ≡ Refused 10 p) ((p ≡ 0) × Taken c (λ s. ((c .mode) ≡ 0) × (1024 < shapeCount (c .mode) s)))
     shapes-full = row 10 (λ s. ((c .mode) ≡ 0) × (1024 < shapeCount (c .mode) s)) (omega arith) (late-shapes c)
 
-    -- 11 IDS_SHORT: "fewer words than end records"
+    -- R11 IDS_SHORT
     pub ids-short : Exactly (answerOf c ≡ Refused 11 p) ((p ≡ 0) × Taken c (λ s. ShapesFit (c .mode) s × (length (c .lent .ids) < endRecords (c .job))))
     ids-short = row 11 (λ s. ShapesFit (c .mode) s × (length (c .lent .ids) < endRecords (c .job))) (omega arith) (late-ids c)
 
-    -- 12 MAP_SHORT: "fewer words than distinct ids"
+    -- R12 MAP_SHORT
     pub map-short : Exactly (answerOf c ≡ Refused 12 p) ((p ≡ 0) × Taken c (λ s. IdsFit c s × (length (c .lent .map) < distinctIds (c .mode) s)))
     map-short = row 12 (λ s. IdsFit c s × (length (c .lent .map) < distinctIds (c .mode) s)) (omega arith) (late-map c)
 
-    -- 13 LOG_SHORT: "mode 0, N at least 1, fewer than 3 x (N-1) words"
+    -- R13 LOG_SHORT
     pub log-short : Exactly (answerOf c ≡ Refused 13 p)
         ((p ≡ 0) × Taken c (λ s. MapFit c s × ((c .mode) ≡ 0) × (1 ≤ shapeCount (c .mode) s) × (length (c .lent .log) < 3 * (shapeCount (c .mode) s - 1))))
     log-short = row 13 (λ s. MapFit c s × ((c .mode) ≡ 0) × (1 ≤ shapeCount (c .mode) s) × (length (c .lent .log) < 3 * (shapeCount (c .mode) s - 1))) (omega arith) (late-log c)
 
-    -- 14 OUT_SHORT: "fewer bytes than the store takes"
+    -- R14 OUT_SHORT
     pub out-short : Exactly (answerOf c ≡ Refused 14 p) ((p ≡ 0) × Taken c (λ s. LogFit c s × (length (c .lent .out) < storeBytes (c .axes) (c .mode) s)))
     out-short = row 14 (λ s. LogFit c s × (length (c .lent .out) < storeBytes (c .axes) (c .mode) s)) (omega arith) (late-out c)
 

@@ -87,26 +87,25 @@ module _ (c : Lending) (i : ℕ) where
           let x = stop-no (c .axes) (c .mode) (c .job) (recordAt (c .job) i) i s n e in
           (n, x .low, x .high, x .not-eight, refused-at n (b .fits) (b .within) s p e)
 
-  -- 5 BAD_RECORD: "unknown kind, a zero byte not zero, an axis record out of its order or after the first value or end, a value or end inside an
-  -- unfinished region"
+  -- R5 BAD_RECORD
   pub bad-record : Exactly (answerOf c ≡ Refused 5 i) (EarliestBad c i (BadRecord (c .axes) (c .job) i (recordAt (c .job) i)))
   bad-record =
       row 5 (BadRecord (c .axes) (c .job) i (recordAt (c .job) i)) (omega arith) (omega arith) (λ z. omega arith)
       (λ s p. stops-five (c .axes) (c .mode) (c .job) i s (means (c .axes) (c .mode) (c .job) i s p))
 
-  -- 6 UNKNOWN_REGION: "a value names a region with no axis records"
+  -- R6 UNKNOWN_REGION
   pub unknown-region : Exactly (answerOf c ≡ Refused 6 i) (EarliestBad c i (UnknownRegion (c .axes) (c .job) i (recordAt (c .job) i)))
   unknown-region =
       row 6 (UnknownRegion (c .axes) (c .job) i (recordAt (c .job) i)) (omega arith) (omega arith) (λ z. omega arith)
       (λ s p. stops-six (c .axes) (c .mode) (c .job) i s (means (c .axes) (c .mode) (c .job) i s p))
 
-  -- 7 REGION_TWICE: "a value's region has the same coordinates as an earlier one's in its set, zero values counted too"
+  -- R7 REGION_TWICE
   pub region-twice : Exactly (answerOf c ≡ Refused 7 i) (EarliestBad c i (RegionTwice (c .axes) (c .job) i (recordAt (c .job) i)))
   region-twice =
       row 7 (RegionTwice (c .axes) (c .job) i (recordAt (c .job) i)) (omega arith) (omega arith) (λ z. omega arith)
       (λ s p. stops-seven (c .axes) (c .mode) (c .job) i s (means (c .axes) (c .mode) (c .job) i s p) p)
 
-  -- 9 SETS_FULL: "mode 1, the 65,536th end record"
+  -- R9 SETS_FULL
   pub sets-full : Exactly (answerOf c ≡ Refused 9 i) (EarliestBad c i (SetsFull (c .axes) (c .mode) (c .job) i (recordAt (c .job) i)))
   sets-full =
       row 9 (SetsFull (c .axes) (c .mode) (c .job) i (recordAt (c .job) i)) (omega arith) (omega arith) (λ z. omega arith)

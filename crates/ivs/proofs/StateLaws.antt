@@ -1,4 +1,4 @@
--- What the state before a record means, in document 01's words: by counts of the records before it. Assumes nothing.
+-- What the state before a record means, by counts of the records before it. Assumes nothing.
 use mathlib.Core.Path.{_≡_, refl, sym, ap, subst, _∙_}
 use mathlib.Core.Bool.{Bool, true, false, not, _||_}
 use mathlib.Core.List.{List, [], _∷_, _++_}
@@ -18,28 +18,28 @@ use Rattle.told.specs.Told.{recordAt, endsBefore}
 use Rattle.told.proofs.WordLaws.{ends-one, ends-same}
 use Rattle.ivs.specs.Exactly.{Exactly}
 use Rattle.ivs.proofs.Passing.{Passed, saidAt, Whole}
-use Rattle.ivs.specs.Counts.{countKind, axisRecords, knownRegions}
+use Rattle.ivs.specs.Counts.{axisRecords, knownRegions}
 use Rattle.ivs.proofs.FailedLaws.{other, later}
 use Rattle.ivs.proofs.StepLaws.{Looks, looks, valueTold, endTold}
 use Rattle.ivs.proofs.StepLaws.Looks.{axis, late, cut, value, set-end, unknown}
 
 -- ---- counts
 
-module _ (k : ℕ) (job : List ℕ) (i : ℕ) where
-  pub count-here : kind (recordAt job i) ≡ k → countKind k job (suc i) ≡ suc (countKind k job i)
-  unfolding countKind
-  count-here e = rw (eq-eqb (kind (recordAt job i)) k e)
+module _ (job : List ℕ) (i : ℕ) where
+  pub count-here : kind (recordAt job i) ≡ 1 → axisRecords job (suc i) ≡ suc (axisRecords job i)
+  unfolding axisRecords
+  count-here e = rw (eq-eqb (kind (recordAt job i)) 1 e)
 
-  pub count-past : (kind (recordAt job i) ≡ k → ⊥) → countKind k job (suc i) ≡ countKind k job i
-  unfolding countKind
-  count-past d = rw (ne-eqb (kind (recordAt job i)) k d)
+  pub count-past : (kind (recordAt job i) ≡ 1 → ⊥) → axisRecords job (suc i) ≡ axisRecords job i
+  unfolding axisRecords
+  count-past d = rw (ne-eqb (kind (recordAt job i)) 1 d)
 
-pub count-most : (k : ℕ) (job : List ℕ) (i : ℕ) → countKind k job i ≤ i
-unfolding countKind
-count-most k job zero = omega arith
-count-most k job (suc i) =
-    let h = count-most k job i in
-    ⊎-elim (λ (e : kind (recordAt job i) ≡ k). omega (arith, count-here k job i e)) (λ d. omega (arith, count-past k job i d)) (same-or-not (kind (recordAt job i)) k)
+pub count-most : (job : List ℕ) (i : ℕ) → axisRecords job i ≤ i
+unfolding axisRecords
+count-most job zero = omega arith
+count-most job (suc i) =
+    let h = count-most job i in
+    ⊎-elim (λ (e : kind (recordAt job i) ≡ 1). omega (arith, count-here job i e)) (λ d. omega (arith, count-past job i d)) (same-or-not (kind (recordAt job i)) 1)
 
 -- ---- steps that go on
 
@@ -160,7 +160,7 @@ or-true true b e = inl refl
 or-true false b e = inr e
 
 module _ (axes : ℕ) (job : List ℕ) (i : ℕ) where
-  -- "inside an unfinished region", by the count of axis records
+  -- inside an unfinished region, by the count of axis records
   pub whole-count : (t : State) → Means axes job i t → Whole axes i t → axisRecords job i % axes ≡ 0
   whole-count inAxes m w = ap (λ (n : ℕ). n % axes) (m .in-axes refl) ∙ w refl
   whole-count (inSets s) m w = m .in-sets (λ e. let z : _≡_ {A = ℕ} 0 1 = cc in omega arith) .1
@@ -187,12 +187,12 @@ module _ (axes : ℕ) (job : List ℕ) (i : ℕ) where
 
     -- no axis record: the regions are the same
     regions-same : (kind r ≡ 1 → ⊥) → knownRegions axes job (suc i) ≡ knownRegions axes job i
-    regions-same d = ap (λ (n : ℕ). regionList axes (n / axes) job) (count-past 1 job i d)
+    regions-same d = ap (λ (n : ℕ). regionList axes (n / axes) job) (count-past job i d)
 
     past-axes : (kind r ≡ 1 → ⊥) → Whole axes i t → (axisRecords job (suc i) < suc i) × (axisRecords job (suc i) % axes ≡ 0)
     past-axes d w =
-        let c = count-past 1 job i d in
-        let h = count-most 1 job i in
+        let c = count-past job i d in
+        let h = count-most job i in
         (omega arith, ap (λ (n : ℕ). n % axes) c ∙ whole-count t m w)
 
     value-mean : kind r ≡ 2 → Whole axes i t → valueTold r old ≡ 0 → Means axes job (suc i) (inSets (afterValue old q′ (valueWord r)))
@@ -255,7 +255,7 @@ module _ (axes : ℕ) (job : List ℕ) (i : ℕ) where
 
     axis-mean : kind r ≡ 1 → t ≡ inAxes → Means axes job (suc i) inAxes
     axis-mean v a =
-        axes-mean axes job (suc i) (count-here 1 job i v ∙ ap suc (m .in-axes a))
+        axes-mean axes job (suc i) (count-here job i v ∙ ap suc (m .in-axes a))
         (ends-same job i (λ e. omega arith) ∙ sym (m .sets-are) ∙ none-ended t a)
         (λ k e. let y : i ≡ k = omega arith in subst (λ (x : ℕ). kind (recordAt job x) ≡ 1) y v)
 
@@ -274,6 +274,6 @@ module _ (axes : ℕ) (job : List ℕ) (i : ℕ) where
         go (unknown a b c e) = five e
 
 pub means : (axes mode : ℕ) (job : List ℕ) (i : ℕ) (s : State) → Passed axes mode job i s → Means axes job i s
-unfolding Passed countKind endsBefore
+unfolding Passed axisRecords endsBefore
 means axes mode job zero s p = subst (λ (x : State). Means axes job 0 x) (sym p) (axes-mean axes job 0 refl refl (λ k e. absurd (omega arith)))
 means axes mode job (suc i) s (t, p, e) = next-means axes job i t (means axes mode job i t p) mode s e

@@ -106,7 +106,7 @@ end-not-eight mode r n e =
     let b = none-failed in
     omega arith
 
--- "The place is the record's index from 0 for 5, 6, 7 and 9"
+-- the numbers that a record's refusal can have
 pub record RecordNo (n : ℕ) : Type 0 where
   pub low : 5 ≤ n
   pub high : n ≤ 9

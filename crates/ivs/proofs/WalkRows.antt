@@ -1,4 +1,4 @@
--- "Then records from the first on: the earliest bad record answers". A walk along a job's records is refused at record i exactly when those before
+-- T2. A walk along a job's records is refused at record i exactly when those before
 -- it pass and it does not; else its end answers. Assumes nothing.
 use mathlib.Core.Path.{_≡_, refl, sym, ap, subst, _∙_}
 use mathlib.Core.List.{List, [], _∷_}

@@ -1,4 +1,4 @@
--- Refusals 10 to 14 in plain numbers, of a job that is sound. Document 01: "Then 8, then 10 to 14 in order." Each record says what holds where
+-- R10 to R14 in plain numbers, of a job that is sound, in the order T4. Each record says what holds where
 -- the numbers up to its own are not given. Assumes nothing.
 use mathlib.Core.Path.{_≡_}
 use Prim.Native.Nat.{ℕ, _-_, _*_, _≤_}
