@@ -1,10 +1,6 @@
 -- Demand 1 (specs/Demand1.antt), of every call. Assumes nothing.
-use mathlib.Core.Path.{_≡_}
-use Prim.Native.Nat.{ℕ, _≤_}
 use native.Mathlib.Omega.{arith}
-use Rattle.finishing.specs.declared.answers.Built.the-variants.{Refused}
 use Rattle.build.specs.Lending.{Lending}
-use Rattle.build.specs.Build.{answerOf}
 use Rattle.ivs.specs.Demand1.{Table, Kept, Demand1}
 use Rattle.ivs.proofs.Unique.{unique}
 use Rattle.ivs.proofs.OutcomeRows.{numbers}

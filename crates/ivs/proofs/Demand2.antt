@@ -1,5 +1,5 @@
 -- Demand 2 (specs/Demand2.antt): what lies in the lent memory after a done build is read by the definition of the row reader. Assumes nothing.
-use mathlib.Core.Path.{_≡_, refl, sym, ap, subst, _∙_}
+use mathlib.Core.Path.{_≡_, sym, ap, subst, _∙_}
 use mathlib.Core.Logic.{_⊎_}
 use mathlib.Core.List.{List, []}
 use Prim.Native.Nat.{ℕ, _+_, _*_, _/_, _≤_, _<_}
@@ -17,14 +17,14 @@ use Rattle.reader.specs.Store.{readStore, valueOf, listAt, regionCount}
 use Rattle.store.specs.Placing.{allRuns, idWords, names, keptOf, newIndex}
 use Rattle.store.specs.Lent.{stored}
 use Rattle.said.specs.Records.{recordBytes}
-use Rattle.said.specs.Job.{Said, fine}
+use Rattle.said.specs.Job.{Said}
 use Rattle.said.proofs.SoundLaws.{Bytes}
 use Rattle.encoder.specs.Packed.{Packed, shared, own}
 use Rattle.finishing.specs.declared.answers.Report.{Report}
 use Rattle.finishing.specs.declared.answers.Built.the-variants.{Done}
 use Rattle.finishing.specs.Late.{storeFor}
 use Rattle.build.specs.Lending.{Lending}
-use Rattle.build.specs.Build.{coordsOf, packedOf, outcomeOf, answerOf, after}
+use Rattle.build.specs.Build.{coordsOf, packedOf, answerOf, after}
 use Rattle.build.proofs.RowsBack.{RowOf, Listed}
 use Rattle.build.proofs.ReadBack.{Sized, GivesBack, shared-back, own-back}
 use Rattle.build.proofs.Accepted.{Accepted, accepted, accepted-sized, coords-once, map-is, store-front, id-at}

@@ -1,10 +1,10 @@
 -- Demand 3 (specs/Demand3.antt), of the merges that a done build makes and logs; and what mode 1 answers for them. Assumes nothing.
 use mathlib.Core.Path.{_≡_, refl, sym, ap, subst, _∙_}
 use mathlib.Core.List.{List, [], _∷_, map}
-use Prim.Native.Nat.{ℕ, zero, suc, _+_, _-_, _*_, _/_, _≤_, _<_}
+use Prim.Native.Nat.{ℕ, _+_, _-_, _*_, _/_, _≤_, _<_}
 use native.Mathlib.Omega.{arith}
-use lib.ListN.{length, getD, take}
-use Rattle.laws.specs.Every.{All, EachTwo}
+use lib.ListN.{length, getD}
+use Rattle.laws.specs.Every.{All}
 use Rattle.laws.specs.Bytes.{over}
 use Rattle.laws.specs.Bag.{weigh}
 use Rattle.laws.specs.Sorting.{sorted}
@@ -28,8 +28,8 @@ use Rattle.finishing.specs.declared.answers.Report.{Report}
 use Rattle.finishing.specs.declared.answers.Built.the-variants.{Done}
 use Rattle.finishing.specs.Late.{storeFor, reportOf}
 use Rattle.build.specs.Lending.{Lending}
-use Rattle.build.specs.Build.{coordsOf, packedOf, outcomeOf, answerOf, after}
-use Rattle.build.proofs.Accepted.{Accepted, accepted, packedIn, words-length, log-is, store-front, log-front}
+use Rattle.build.specs.Build.{coordsOf, packedOf, answerOf}
+use Rattle.build.proofs.Accepted.{Accepted, accepted, packedIn, log-is, store-front, log-front}
 use Rattle.ivs.specs.Demand3.{homesOf, shapesJoined, MadeOf, Ruled, groupsSaid, Demand3, NoMerging}
 use Rattle.ivs.proofs.JoinSteps.{joins}
 

@@ -1,25 +1,22 @@
 -- Row 8 of the refusal table, exactly where it says; its place is the record count. And a job is taken exactly when each of its records is fine and it
 -- is finished. Assumes nothing.
-use mathlib.Core.Path.{_≡_, refl, sym, ap, ap₂, subst, _∙_}
-use mathlib.Core.Bool.{Bool, true, false}
+use mathlib.Core.Path.{_≡_, refl, sym, ap, ap₂, _∙_}
 use mathlib.Core.List.{List, [], _∷_}
-use mathlib.Core.Logic.{_⊎_, inl, inr, ⊎-elim}
-use Prim.Native.Nat.{ℕ, zero, suc, _+_, _*_, _/_, _%_, _≤_, _<_}
+use Prim.Native.Nat.{ℕ, _/_, _%_, _<_}
 use native.Mathlib.Omega.{arith}
 use lib.ListN.{length}
 use lib.Dec.{eqb}
 use borrow.Author.Tests.{eq-eqb, ne-eqb}
 use Rattle.laws.specs.Pick.{pick}
-use Rattle.laws.proofs.Cases.{same-or-not}
 use Rattle.said.specs.Refusals.{earlyNo}
-use Rattle.said.specs.Job.{Said, State, inAxes, inSets, regionsOnly, Outcome, refused, fine, ended, endedSets, walk, outcome}
+use Rattle.said.specs.Job.{Said, State, inAxes, inSets, regionsOnly, Outcome, refused, fine, ended, endedSets}
 use Rattle.finishing.specs.declared.answers.Built.the-variants.{Refused}
 use Rattle.build.specs.Lending.{Lending}
 use Rattle.build.specs.Build.{outcomeOf, answerOf}
 use Rattle.ivs.specs.Exactly.{Exactly}
 use Rattle.ivs.proofs.Passing.{Passed, EndsAs, saidAt}
 use Rattle.ivs.specs.Fits.{Fits}
-use Rattle.ivs.specs.Counts.{InRegion, axisRecords, Unfinished}
+use Rattle.ivs.specs.Counts.{Unfinished}
 use Rattle.ivs.specs.Counts.Unfinished.{inside-region, inside-set}
 use Rattle.ivs.specs.Rows.{AllPass}
 use Rattle.ivs.proofs.WalkRows.{ends-given}

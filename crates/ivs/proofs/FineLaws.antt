@@ -1,5 +1,5 @@
 -- The records before i pass, as the walk goes, exactly when each of them is fine by the job's bytes (specs/Fine.antt). Assumes nothing.
-use mathlib.Core.Path.{_≡_, refl, sym, subst, _∙_}
+use mathlib.Core.Path.{_≡_, refl, subst}
 use mathlib.Core.List.{List}
 use mathlib.Core.Logic.{_⊎_, ⊎-elim}
 use Prim.Native.Nat.{ℕ, zero, suc, _≤_, _<_}
@@ -8,10 +8,9 @@ use Rattle.laws.proofs.Cases.{lt-or-ge, same-or-not}
 use Rattle.said.specs.Job.{State, inAxes, Step, stop, on, step}
 use Rattle.told.specs.Told.{recordAt}
 use Rattle.ivs.specs.Exactly.{Exactly}
-use Rattle.ivs.specs.Counts.{BadRecord, UnknownRegion, RegionTwice, SetsFull}
 use Rattle.ivs.specs.Fine.{Fine, AllFine}
 use Rattle.ivs.proofs.Passing.{Passed}
-use Rattle.ivs.proofs.StepLaws.{RecordNo, stop-no}
+use Rattle.ivs.proofs.StepLaws.{stop-no}
 use Rattle.ivs.proofs.StateLaws.{Means, means}
 use Rattle.ivs.proofs.RecordStops.{stops-five, stops-six, stops-seven, stops-nine}
 

@@ -1,23 +1,20 @@
 -- Rows 10 to 14 of the refusal table, each exactly where it says, at place 0, in the order T4; and done exactly where no row holds. Assumes nothing.
 use mathlib.Core.Path.{_≡_, refl, sym, ap, _∙_}
-use mathlib.Core.Bool.{Bool, true, false}
-use mathlib.Core.List.{List, [], _∷_}
-use mathlib.Core.Logic.{_⊎_, inl, inr, ⊎-elim}
+use mathlib.Core.Bool.{Bool}
+use mathlib.Core.List.{[], _∷_}
+use mathlib.Core.Logic.{_⊎_, ⊎-elim}
 use Prim.Native.Nat.{ℕ, _-_, _*_, _≤_, _<_}
 use native.Mathlib.Omega.{arith}
 use lib.ListN.{length}
-use lib.Dec.{eqb, leb}
-use borrow.Author.Tests.{leb-true, leb-false, le-leb, lt-leb, eq-eqb, ne-eqb}
-use Rattle.laws.specs.Pick.{pick}
+use lib.Dec.{leb}
+use borrow.Author.Tests.{leb-true, leb-false, le-leb, lt-leb, ne-eqb}
 use Rattle.laws.proofs.Cases.{same-or-not}
 use Rattle.groups.specs.Groups.{groupsOf}
 use Rattle.said.specs.Refusals.{firstFailed}
 use Rattle.said.specs.Job.{Said, fine}
-use Rattle.told.specs.Told.{Told}
 use Rattle.told.proofs.Bytes.{told}
 use Rattle.encoder.specs.Packed.{Packed, shared, own}
 use Rattle.finishing.specs.declared.answers.Report.{Report}
-use Rattle.finishing.specs.declared.answers.Built.{Built}
 use Rattle.finishing.specs.declared.answers.Built.the-variants.{Refused, Done}
 use Rattle.finishing.specs.Buffers.{Lengths, lengths}
 use Rattle.finishing.specs.Late.{lateNo, storeFor, reportOf}

@@ -1,7 +1,7 @@
 -- A job's records that pass, one after another, and the one that does not, as states of the walk. Assumes nothing.
 use mathlib.Core.Path.{_≡_}
 use mathlib.Core.List.{List}
-use Prim.Native.Nat.{ℕ, zero, suc, _*_, _/_, _%_, _<_}
+use Prim.Native.Nat.{ℕ, zero, suc, _/_, _%_, _<_}
 use Rattle.said.specs.Sets.{regionList}
 use Rattle.told.specs.Told.{recordAt}
 use Rattle.said.specs.Job.{Said, State, inAxes, inSets, stop, on, regionsOnly, step, Outcome, ended}

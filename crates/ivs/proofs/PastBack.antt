@@ -1,13 +1,12 @@
 -- Behind what a done build writes all is as it was, in both modes (specs/Past.antt). Assumes nothing.
 use mathlib.Core.Path.{_≡_, sym}
 use lib.ListN.{length}
-use Rattle.told.specs.Told.{Told}
 use Rattle.told.proofs.Bytes.{told}
 use Rattle.finishing.specs.declared.answers.Report.{Report}
 use Rattle.finishing.specs.declared.answers.Built.the-variants.{Done}
 use Rattle.build.specs.Lending.{Lending}
 use Rattle.build.specs.Build.{answerOf}
-use Rattle.build.proofs.Accepted.{Accepted, accepted}
+use Rattle.build.proofs.Accepted.{accepted}
 use Rattle.build.proofs.PastLaws.{out-past, ids-past, map-past, log-past}
 use Rattle.ivs.specs.Counts.{endRecords}
 use Rattle.ivs.specs.Past.{PastKept}

@@ -1,27 +1,25 @@
 -- Mode 1, by the job's bytes and the lent memory (specs/Plain.antt). Assumes nothing.
 use mathlib.Core.Path.{_≡_, sym, subst, _∙_}
-use mathlib.Core.Bool.{Bool, true, false, not, _&&_}
+use mathlib.Core.Bool.{true, not, _&&_}
 use mathlib.Core.List.{List, [], _∷_}
-use Prim.Native.Nat.{ℕ, zero, suc, _/_, _≤_, _<_}
+use Prim.Native.Nat.{ℕ, zero, suc, _/_, _≤_}
 use native.Mathlib.Omega.{arith}
 use lib.ListN.{length}
 use lib.Dec.{eqb}
 use borrow.Author.Tests.{eq-eqb}
 use Rattle.said.specs.Records.{kind, endZeros}
-use Rattle.said.specs.Refusals.{firstFailed, endNo}
-use Rattle.said.specs.Job.{State, step, stop, on}
-use Rattle.told.specs.Told.{recordAt, endsBefore, Told}
+use Rattle.said.specs.Refusals.{endNo}
+use Rattle.said.specs.Job.{State}
+use Rattle.told.specs.Told.{recordAt, endsBefore}
 use Rattle.told.proofs.WordLaws.{ends-one, ends-same}
 use Rattle.told.proofs.Bytes.{told}
 use Rattle.finishing.specs.declared.answers.Report.{Report}
 use Rattle.finishing.specs.declared.answers.Built.the-variants.{Done}
 use Rattle.build.specs.Lending.{Lending}
 use Rattle.build.specs.Build.{answerOf}
-use Rattle.build.proofs.Accepted.{Accepted, accepted}
+use Rattle.build.proofs.Accepted.{accepted}
 use Rattle.build.proofs.PlainBack.{plain-count, plain-id, plain-map, plain-table}
-use Rattle.ivs.specs.Exactly.{Exactly}
 use Rattle.ivs.proofs.Passing.{Passed, saidAt}
-use Rattle.ivs.specs.Counts.{endRecords}
 use Rattle.ivs.specs.Plain.{Plain}
 use Rattle.ivs.proofs.FailedLaws.{other, later}
 use Rattle.ivs.proofs.StepLaws.{Looks, looks}

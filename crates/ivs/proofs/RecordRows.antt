@@ -1,6 +1,5 @@
 -- Rows 5, 6, 7 and 9 of the refusal table, each exactly where it says, at the record's number; and the earliest bad record decides. Assumes nothing.
-use mathlib.Core.Path.{_≡_, refl, sym, _∙_}
-use mathlib.Core.List.{List}
+use mathlib.Core.Path.{_≡_, refl, _∙_}
 use Prim.Native.Nat.{ℕ, _/_, _≤_, _<_}
 use native.Mathlib.Omega.{arith}
 use lib.ListN.{length}
@@ -15,7 +14,7 @@ use Rattle.ivs.specs.Counts.{BadRecord, UnknownRegion, RegionTwice, Sets
 use Rattle.ivs.specs.Fine.{Fine}
 use Rattle.ivs.specs.Rows.{EarliestBad}
 use Rattle.ivs.proofs.Passing.{Passed, StopsAt}
-use Rattle.ivs.proofs.StepLaws.{RecordNo, stop-no}
+use Rattle.ivs.proofs.StepLaws.{stop-no}
 use Rattle.ivs.proofs.WalkRows.{stops-given}
 use Rattle.ivs.proofs.OutcomeRows.{stops-only, outcome-walked, walked-only, answer-refused, job-only}
 use Rattle.ivs.proofs.EarlyRows.{early-none}

@@ -1,31 +1,24 @@
 -- Where the walk stops at a record: by 5, 6, 7 or 9 exactly when the row's words are true of it. Assumes nothing.
-use mathlib.Core.Path.{_≡_, refl, sym, ap, subst, _∙_}
-use mathlib.Core.Bool.{Bool, true, false}
-use mathlib.Core.List.{List, [], _∷_}
+use mathlib.Core.Path.{_≡_, sym, ap, subst, _∙_}
+use mathlib.Core.Bool.{true}
+use mathlib.Core.List.{List}
 use mathlib.Core.Logic.{_⊎_, inl, inr, ⊎-elim}
-use Prim.Native.Nat.{ℕ, _/_, _%_, _≤_, _<_}
+use Prim.Native.Nat.{ℕ, _%_, _≤_, _<_}
 use native.Mathlib.Omega.{arith}
 use lib.ListN.{length}
 use Rattle.laws.proofs.Cases.{same-or-not}
 use Rattle.said.specs.Records.{kind, regionOf, valueZeros}
 use Rattle.said.specs.Refusals.{axisNo}
 use Rattle.said.specs.Sets.{Region, firstLike}
-use Rattle.said.specs.Job.{Said, State, inAxes, stop, valueStep, endStep, step, refused}
-use Rattle.finishing.specs.declared.answers.Built.the-variants.{Refused}
-use Rattle.build.specs.Lending.{Lending}
-use Rattle.build.specs.Build.{answerOf}
+use Rattle.said.specs.Job.{Said, State, inAxes, stop, valueStep, endStep, step}
 use Rattle.ivs.specs.Exactly.{Exactly}
 use Rattle.told.specs.Told.{recordAt}
 use Rattle.ivs.proofs.Passing.{Passed, saidAt, Whole}
 use Rattle.ivs.specs.Counts.{axisRecords, knownRegions, InRegion, BadRecord, ValueHere, UnknownRegion, RegionTwice, SetsFull}
 use Rattle.ivs.specs.Counts.BadRecord.{unknown-kind, axis-zero, value-zero, end-zero, axis-order, axis-late, in-region}
-use Rattle.ivs.specs.Rows.{EarliestBad}
 use Rattle.ivs.proofs.StepLaws.{unless-no, unless-stops, Looks, looks, axis-no, valueTold, value-told, value-stops, endTold, end-told, end-stops}
 use Rattle.ivs.proofs.StepLaws.Looks.{axis, late, cut, value, set-end, unknown}
-use Rattle.ivs.proofs.WalkRows.{stops-given}
-use Rattle.ivs.proofs.OutcomeRows.{stops-only, outcome-walked, walked-only, answer-refused, job-only}
-use Rattle.ivs.proofs.EarlyRows.{early-none}
-use Rattle.ivs.proofs.StateLaws.{NamedAt, Means, means, whole-count, count-whole}
+use Rattle.ivs.proofs.StateLaws.{NamedAt, Means, whole-count, count-whole}
 use Rattle.ivs.proofs.KnownLaws.{named-before}
 use Rattle.ivs.proofs.ZeroLaws.{value-not, not-value, value-all, all-value, end-not, not-end, end-all, all-end}
 use Rattle.ivs.proofs.RecordTests.{axis-bad, bad-axis, axis-why, why-order, why-zero, q, value-five, value-six, value-seven, value-nine, end-five, end-nine, end-other}

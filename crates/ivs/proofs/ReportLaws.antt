@@ -5,11 +5,9 @@ use Prim.Native.Nat.{ℕ, suc, _+_, _<_}
 use native.Mathlib.Omega.{arith}
 use lib.ListN.{length, set, take, length-set}
 use lib.Seq.{take-all, take-suc-set, append-snoc}
-use Rattle.finishing.specs.declared.answers.Report.{Report}
 use Rattle.finishing.specs.declared.answers.Built.{Built}
 use Rattle.finishing.specs.declared.answers.Built.the-variants as built
 use Rattle.build.specs.Lending.{Lending, Left}
-use Rattle.build.specs.Build.{Obeys, answerOf}
 use Rattle.ivs.specs.Answers.{numberOf, refusedWords, doneWords, reportWords, filled}
 use Rattle.ivs.specs.Told.{Told}
 use Rattle.ivs.specs.Reported.{Reported}
