@@ -15,3 +15,5 @@ pub mod RowsBack
 pub mod ListBack
 pub mod ReadBack
 pub mod Accepted
+pub mod PastLaws
+pub mod PlainBack

@@ -97,7 +97,7 @@ unfolding inRun
 run-ids outer inner [] = refl
 run-ids outer inner (x ∷ xs) = ap (λ (l : List ℕ). x ∷ l) (run-ids outer (suc inner) xs)
 
-words-ids : (outer : ℕ) (rs : List Final) → map (λ (e : ℕ × ℕ). e .0) (idWords outer rs) ≡ rowIds rs
+pub words-ids : (outer : ℕ) (rs : List Final) → map (λ (e : ℕ × ℕ). e .0) (idWords outer rs) ≡ rowIds rs
 unfolding idWords joinAll
 words-ids outer [] = refl
 words-ids outer (r ∷ rs) =

@@ -7,3 +7,4 @@ pub mod ReadLaws
 pub mod BackLaws
 pub mod Worked
 pub mod SmallLaws
+pub mod LeftBack

@@ -1,5 +1,4 @@
--- Demand 1: "what every lent buffer then holds is fixed." Document 01: "A refusal has .. output, ids, map and log untouched. Work is untouched by
--- 1 to 4 and all zeros to its last word after every other answer, done included." The pair records are as work is. Assumes nothing.
+-- What a call leaves in everything lent: buffers after a refusal (L1), work and pair records after every answer (L2). Assumes nothing.
 use mathlib.Core.Path.{_≡_, refl, sym, ap, _∙_}
 use mathlib.Core.List.{List, [], _∷_}
 use mathlib.Core.Logic.{_⊎_, inl, inr, ⊎-elim}

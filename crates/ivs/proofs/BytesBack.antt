@@ -27,6 +27,7 @@ use Rattle.build.specs.Build.{regionBytes, coordsOf, answerOf, after}
 use Rattle.ivs.specs.SetsRead.{listed, namedBy, valueAt, InStore, SetRead, SetsRead}
 use Rattle.build.proofs.Accepted.{coords-long}
 use Rattle.ivs.proofs.Demand2.{SetBack, demand2}
+use Rattle.ivs.specs.Demand2.{SetBack, RegionBack, InList, Demand2}
 
 -- ---- a record's value
 
@@ -71,7 +72,7 @@ module _ (axes : ℕ) (job : List ℕ) (s : Said) (bytes : Bytes job) (t : Told 
 
       gives : (q : ℕ) → q < regionCount store → listed axes store q ≡ namedBy axes job i → valueOf (readStore store (b .outer) (b .inner) q) ≡ valueAt job i
       gives q l e =
-          let x = b .regions q l in
+          let x = b .regions q (omega arith) in
           x .gives-back ∙ ap (λ (k : ℕ). value (wordOf (getD (s .sets) n []) k)) (sym (x .only r below (e ∙ sym named-at))) ∙ value-is
 
       there : (valueAt job i ≡ pos 0 → ⊥) → InStore axes job store i
@@ -82,7 +83,7 @@ module _ (axes : ℕ) (job : List ℕ) (s : Said) (bytes : Bytes job) (t : Told 
     silent : (q : ℕ) → q < regionCount store → ((i : ℕ) → ValueIn job n i → listed axes store q ≡ namedBy axes job i → ⊥)
         → valueOf (readStore store (b .outer) (b .inner) q) ≡ pos 0
     silent q l d =
-        let x = b .regions q l in
+        let x = b .regions q (omega arith) in
         let k : x .region < length (s .used) = omega (arith, x .below, coords-long s) in
         x .gives-back
         ∙ ap value (t .unnamed n (x .region) h k (λ i v c. d i v (x .coordinates ∙ coords-at (x .region) k ∙ ap regionBytes (sym c))))
@@ -94,7 +95,7 @@ module _ (axes : ℕ) (job : List ℕ) (s : Said) (bytes : Bytes job) (t : Told 
       inner = b .inner;
       inner-below = b .inner-below;
       word-is = b .word-is;
-      answers = λ q l. let x = b .regions q l in ⊎-elim (λ e. inl (e ∙ ap Written (sym (x .gives-back)))) (λ e. inr e) (x .answers);
+      answers = λ q l. let x = b .regions q (omega arith) in ⊎-elim (λ e. inl (e ∙ ap Written (sym (x .gives-back)))) (λ e. inr e) (x .answers);
       given = gives;
       in-list = there;
       unnamed = silent;

@@ -1,6 +1,5 @@
--- Demand 2 of the whole build: "Read by the OpenType rules, each id's row gives back its adjustment for every region, and zero for one it never
--- named." What lies in the lent memory after a build that is done is read by the definition of the row reader. Assumes nothing.
-use mathlib.Core.Path.{_≡_, refl, sym, ap, subst, _∙_}
+-- Demand 2 (specs/Demand2.antt): what lies in the lent memory after a done build is read by the definition of the row reader. Assumes nothing.
+use mathlib.Core.Path.{_≡_, sym, ap, subst, _∙_}
 use mathlib.Core.Logic.{_⊎_}
 use mathlib.Core.List.{List, []}
 use Prim.Native.Nat.{ℕ, _+_, _*_, _/_, _≤_, _<_}
@@ -8,11 +7,9 @@ use native.Mathlib.Omega.{arith}
 use lib.Dec.{eqb}
 use lib.ListN.{length, getD, take, drop}
 use Rattle.laws.specs.Pick.{pick}
-use Rattle.laws.specs.Bytes.{over}
 use Rattle.laws.specs.Signed.{value, zeroWord}
 use Rattle.laws.proofs.Cases.{Which, which}
 use Rattle.laws.proofs.Cases.Which.{holds, fails}
-use Rattle.laws.proofs.UpLaws.{up-long}
 use Rattle.sets.specs.Set.{Set, wordOf}
 use Rattle.groups.specs.Groups.{groupsOf, maxShapes}
 use Rattle.reader.specs.declared.reader.Reading.the-variants.{Written, NoColumn}
@@ -20,51 +17,21 @@ use Rattle.reader.specs.Store.{readStore, valueOf, listAt, regionCount}
 use Rattle.store.specs.Placing.{allRuns, idWords, names, keptOf, newIndex}
 use Rattle.store.specs.Lent.{stored}
 use Rattle.said.specs.Records.{recordBytes}
-use Rattle.said.specs.Job.{Said, fine}
+use Rattle.said.specs.Job.{Said}
 use Rattle.said.proofs.SoundLaws.{Bytes}
 use Rattle.encoder.specs.Packed.{Packed, shared, own}
-use Rattle.encoder.proofs.DenseIds.{ids-length}
 use Rattle.finishing.specs.declared.answers.Report.{Report}
 use Rattle.finishing.specs.declared.answers.Built.the-variants.{Done}
 use Rattle.finishing.specs.Late.{storeFor}
 use Rattle.build.specs.Lending.{Lending}
-use Rattle.build.specs.Build.{coordsOf, packedOf, outcomeOf, answerOf, after}
+use Rattle.build.specs.Build.{coordsOf, packedOf, answerOf, after}
 use Rattle.build.proofs.RowsBack.{RowOf, Listed}
 use Rattle.build.proofs.ReadBack.{Sized, GivesBack, shared-back, own-back}
-use Rattle.build.proofs.Accepted.{Accepted, accepted, accepted-sized, coords-once, bytes-are, out-is, map-is, store-front, id-at}
+use Rattle.build.proofs.Accepted.{Accepted, accepted, accepted-sized, coords-once, map-is, store-front, id-at}
+use Rattle.build.proofs.PastLaws.{ids-long}
+use Rattle.ivs.specs.Demand2.{RegionBack, InList, SetBack, Demand2}
 
 -- ---- what a set's row in a store gives back
-
--- region q of the store's list
-pub record RegionBack (axes : ℕ) (coords : List (List ℕ)) (s : Set) (store : List ℕ) (outer inner q : ℕ) : Type 0 where
-  -- it is a region that the job uses, with the coordinates of that: "region list: .. start, peak, end per axis"
-  pub region : ℕ
-  pub below : region < length coords
-  pub coordinates : take (6 * axes) (drop (listAt store + 4 + 6 * axes * q) store) ≡ getD coords region []
-  -- and no other has them: "Regions are equal when all coordinates are equal."
-  pub only : (p : ℕ) → p < length coords → take (6 * axes) (drop (listAt store + 4 + 6 * axes * q) store) ≡ getD coords p [] → p ≡ region
-  -- "Written with the value; NoColumn when the subtable has no column for it (meaning zero)": never a refusal
-  pub answers : (readStore store outer inner q ≡ Written (value (wordOf s region))) ⊎ (readStore store outer inner q ≡ NoColumn)
-  -- "gives back its adjustment for every region, and zero for one it never named" (`wordOf` is the word of zero there)
-  pub gives-back : valueOf (readStore store outer inner q) ≡ value (wordOf s region)
-
--- where a region of the job stands in the store's list
-pub record InList (axes : ℕ) (coords : List (List ℕ)) (store : List ℕ) (r : ℕ) : Type 0 where
-  pub index : ℕ
-  pub below : index < regionCount store
-  pub coordinates : take (6 * axes) (drop (listAt store + 4 + 6 * axes * index) store) ≡ getD coords r []
-
--- a set whose id has this map word
-pub record SetBack (axes : ℕ) (coords : List (List ℕ)) (s : Set) (store : List ℕ) (word : ℕ) : Type 0 where
-  -- "The id's map word is outer x 65,536 + inner."
-  pub outer : ℕ
-  pub inner : ℕ
-  pub inner-below : inner < 65536
-  pub word-is : word ≡ outer * 65536 + inner
-  -- every region of the store's list
-  pub regions : (q : ℕ) → q < regionCount store → RegionBack axes coords s store outer inner q
-  -- "A region not in the list counts as zero in every row": one that has another value in this set is in the list
-  pub in-list : (r : ℕ) → r < length coords → (wordOf s r ≡ zeroWord → ⊥) → InList axes coords store r
 
 module _ (axes regions : ℕ) (coords : List (List ℕ)) (jobs : List Set) (k : Packed) (long : length coords ≡ regions) (b : GivesBack axes regions coords jobs k)
     (once : (x y : ℕ) → x < length coords → y < length coords → getD coords x [] ≡ getD coords y [] → x ≡ y)
@@ -130,29 +97,13 @@ module _ (axes regions : ℕ) (coords : List (List ℕ)) (jobs : List Set) (k : 
     inner = row .inner;
     inner-below = row .inner-below;
     word-is = row .word-is;
-    regions = region-back;
+    regions = λ q l. region-back q (omega arith);
     in-list = listed-at;
   }
 
 -- ---- both modes
 
 module _ (mode : ℕ) (s : Said) where
-  shared-long : (n : ℕ) (all : List Set) → length (shared n all .ids) ≡ length all
-  unfolding shared
-  shared-long n all = ids-length all
-
-  own-long : (n : ℕ) (all : List Set) → length (own n all .ids) ≡ length all
-  unfolding own
-  own-long n all = up-long (length all)
-
-  ids-long : length (packedOf mode s .ids) ≡ length (s .sets)
-  unfolding packedOf
-  ids-long = go (which (eqb mode 0))
-    where
-      go : Which (eqb mode 0) → length (pick (eqb mode 0) (shared (length (s .used)) (s .sets)) (own (length (s .used)) (s .sets)) .ids) ≡ length (s .sets)
-      go (holds e) = rw e (shared-long (length (s .used)) (s .sets))
-      go (fails e) = rw e (own-long (length (s .used)) (s .sets))
-
   shared-groups : (n : ℕ) (all : List Set) → shared n all .groups ≤ 1024 → length (groupsOf n all) ≤ 1024
   unfolding shared
   shared-groups n all h = h
@@ -167,39 +118,12 @@ module _ (mode : ℕ) (s : Said) where
       go (holds e) h = rw e (shared-back axes (length (s .used)) (coordsOf s) (s .sets) z (shared-groups (length (s .used)) (s .sets) (rw e at h)))
       go (fails e) h = rw e (own-back axes (length (s .used)) (coordsOf s) (s .sets) z)
 
--- ---- the demand
-
-pub record Demand2 (c : Lending) (r : Report) : Type 0 where
-  -- what the job says: its regions in use and its sets, one for each end record
-  pub said : Said
-  pub said-is : outcomeOf c ≡ fine said
-  -- the packed sets give back every set of the job: ids, rows, region list
-  pub gives-back : GivesBack (c .axes) (length (said .used)) (coordsOf said) (said .sets) (packedOf (c .mode) said)
-  -- the output begins with the store, and nothing past it changed
-  pub bytes-are : r .bytes ≡ length (storeFor (c .axes) (coordsOf said) (packedOf (c .mode) said))
-  pub out-is : after c .lent .out ≡ over (c .lent .out) 0 (r .bytes) (storeFor (c .axes) (coordsOf said) (packedOf (c .mode) said))
-  pub store-is : take (r .bytes) (after c .lent .out) ≡ storeFor (c .axes) (coordsOf said) (packedOf (c .mode) said)
-  -- the n-th word of ids is the id of set n
-  pub ids-are : (n : ℕ) → n < length (said .sets) → getD (after c .lent .ids) n 0 ≡ getD (packedOf (c .mode) said .ids) n 0
-  -- the map has the place of each id's row
-  pub map-is : after c .lent .map ≡ stored (idWords 0 (allRuns (packedOf (c .mode) said .finals))) (c .lent .map)
-  -- THE DEMAND, of the lent memory alone: the store is what the output begins with, the id of set n is the n-th word of ids, its row is where the map's
-  -- word of that id says, and what is read there is the set's value for every region, zero for one that it never named
-  pub sets-back : (n : ℕ) → n < length (said .sets)
-      → SetBack (c .axes) (coordsOf said) (getD (said .sets) n []) (take (r .bytes) (after c .lent .out)) (getD (after c .lent .map) (getD (after c .lent .ids) n 0) 0)
-
 -- THE LAW
 pub demand2 : (c : Lending) (r : Report) → Bytes (c .job) → answerOf c ≡ Done r → Demand2 c r
 demand2 c r bytes e =
     record {
       said = s;
       said-is = a .said-is;
-      gives-back = back;
-      bytes-are = bytes-are c r a;
-      out-is = out-is c r a ∙ ap (λ (n : ℕ). over (c .lent .out) 0 n (storeFor (c .axes) coords k)) (sym (bytes-are c r a));
-      store-is = store-front c r a;
-      ids-are = id-here;
-      map-is = map-is c r a;
       sets-back = λ n h.
           subst (λ (w : ℕ). SetBack (c .axes) coords (getD (s .sets) n []) (take (r .bytes) (after c .lent .out)) w)
           (sym (ap (λ (m : List ℕ). getD m (getD (after c .lent .ids) n 0) 0) (map-is c r a)

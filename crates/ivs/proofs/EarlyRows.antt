@@ -1,4 +1,4 @@
--- Demand 1, rows 1 to 4 of document 01's table, each exactly when it says, at place 0. "1 to 4 are tested in that order." Assumes nothing.
+-- Rows 1 to 4 of the refusal table, each exactly where it says, at place 0, in the order T1. Assumes nothing.
 use mathlib.Core.Path.{_≡_, refl, sym, ap, _∙_}
 use mathlib.Core.Bool.{Bool, true, false, _&&_}
 use mathlib.Core.List.{List, [], _∷_}
@@ -179,18 +179,18 @@ module _ (c : Lending) (p : ℕ) where
     only = λ e. let a = early-only c n p high (job-only c n p (omega arith) e) in (a .1, x .only (a .0));
   }
 
-  -- 1 BAD_AXES: "axis count 0 or above 64"
+  -- R1 BAD_AXES
   pub bad-axes : Exactly (answerOf c ≡ Refused 1 p) ((p ≡ 0) × (((c .axes) ≡ 0) ⊎ (64 < (c .axes))))
   bad-axes = row 1 (((c .axes) ≡ 0) ⊎ (64 < (c .axes))) (omega arith) (omega arith) (early-axes (c .axes) (c .mode) (length (c .job)) (length (c .work)) (length (c .pairs)))
 
-  -- 2 BAD_MODE: "mode neither 0 nor 1"
+  -- R2 BAD_MODE
   pub bad-mode : Exactly (answerOf c ≡ Refused 2 p) ((p ≡ 0) × (AxesFit (c .axes) × (1 < (c .mode))))
   bad-mode = row 2 (AxesFit (c .axes) × (1 < (c .mode))) (omega arith) (omega arith) (early-mode (c .axes) (c .mode) (length (c .job)) (length (c .work)) (length (c .pairs)))
 
-  -- 3 BAD_JOB_LENGTH: "bytes not a multiple of 12, or over the record limit"
+  -- R3 BAD_JOB_LENGTH
   pub bad-job-length : Exactly (answerOf c ≡ Refused 3 p) ((p ≡ 0) × (ModeFit (c .axes) (c .mode) × ((length (c .job) % 12 ≡ 0 → ⊥) ⊎ (1048576 < length (c .job) / 12))))
   bad-job-length = row 3 (ModeFit (c .axes) (c .mode) × ((length (c .job) % 12 ≡ 0 → ⊥) ⊎ (1048576 < length (c .job) / 12))) (omega arith) (omega arith) (early-length (c .axes) (c .mode) (length (c .job)) (length (c .work)) (length (c .pairs)))
 
-  -- 4 WORK_SHORT: "work below the published number", or fewer pair records than 1,048,576
+  -- R4 WORK_SHORT
   pub work-short : Exactly (answerOf c ≡ Refused 4 p) ((p ≡ 0) × (LengthFit (c .axes) (c .mode) (length (c .job)) × (((length (c .work)) < publishedWork (length (c .job) / 12)) ⊎ ((length (c .pairs)) < pairRecords))))
   work-short = row 4 (LengthFit (c .axes) (c .mode) (length (c .job)) × (((length (c .work)) < publishedWork (length (c .job) / 12)) ⊎ ((length (c .pairs)) < pairRecords))) (omega arith) (omega arith) (early-work (c .axes) (c .mode) (length (c .job)) (length (c .work)) (length (c .pairs)))

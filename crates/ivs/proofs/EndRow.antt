@@ -1,29 +1,29 @@
--- Demand 1, row 8 of document 01's table, exactly when it says; its place is the record count. And a job is sound exactly when its records pass and it
+-- Row 8 of the refusal table, exactly where it says; its place is the record count. And a job is taken exactly when each of its records is fine and it
 -- is finished. Assumes nothing.
-use mathlib.Core.Path.{_≡_, refl, sym, ap, subst, _∙_}
-use mathlib.Core.Bool.{Bool, true, false}
+use mathlib.Core.Path.{_≡_, refl, sym, ap, ap₂, _∙_}
 use mathlib.Core.List.{List, [], _∷_}
-use mathlib.Core.Logic.{_⊎_, inl, inr, ⊎-elim}
-use Prim.Native.Nat.{ℕ, zero, suc, _+_, _*_, _/_, _%_, _≤_, _<_}
+use Prim.Native.Nat.{ℕ, _/_, _%_, _<_}
 use native.Mathlib.Omega.{arith}
 use lib.ListN.{length}
 use lib.Dec.{eqb}
 use borrow.Author.Tests.{eq-eqb, ne-eqb}
 use Rattle.laws.specs.Pick.{pick}
-use Rattle.laws.proofs.Cases.{same-or-not}
-use Rattle.said.specs.Job.{Said, State, inAxes, inSets, regionsOnly, Outcome, refused, fine, ended, endedSets, walk, outcome}
+use Rattle.said.specs.Refusals.{earlyNo}
+use Rattle.said.specs.Job.{Said, State, inAxes, inSets, regionsOnly, Outcome, refused, fine, ended, endedSets}
 use Rattle.finishing.specs.declared.answers.Built.the-variants.{Refused}
 use Rattle.build.specs.Lending.{Lending}
 use Rattle.build.specs.Build.{outcomeOf, answerOf}
 use Rattle.ivs.specs.Exactly.{Exactly}
-use Rattle.ivs.specs.Passing.{Passed, EndsAs, saidAt}
-use Rattle.ivs.specs.Counts.{InRegion, axisRecords, Unfinished}
+use Rattle.ivs.proofs.Passing.{Passed, EndsAs, saidAt}
+use Rattle.ivs.specs.Fits.{Fits}
+use Rattle.ivs.specs.Counts.{Unfinished}
 use Rattle.ivs.specs.Counts.Unfinished.{inside-region, inside-set}
 use Rattle.ivs.specs.Rows.{AllPass}
 use Rattle.ivs.proofs.WalkRows.{ends-given}
 use Rattle.ivs.proofs.OutcomeRows.{ended-no, ends-only, outcome-walked, walked-only, answer-refused, job-only}
 use Rattle.ivs.proofs.EarlyRows.{early-none}
 use Rattle.ivs.proofs.StateLaws.{Means, means, not-axes}
+use Rattle.ivs.proofs.FineLaws.{passed-fine, fine-passed}
 
 -- ---- the end of a job
 
@@ -78,36 +78,72 @@ module _ (c : Lending) where
   abbrev records : ℕ
   records = length (c .job) / 12
 
-  -- 8 UNFINISHED: "the job ends inside a set or a region"
+  abbrev early-fits : Exactly (earlyNo (c .axes) (c .mode) (length (c .job)) (length (c .work)) (length (c .pairs)) ≡ 0) (Fits c)
+  early-fits = early-none (c .axes) (c .mode) (length (c .job)) (length (c .work)) (length (c .pairs))
+
+  -- all records pass, and the end answers
+  ended-is : (o : Outcome) → ((n q : ℕ) → o ≡ refused n q → n ≡ 8) → outcomeOf c ≡ o → Fits c × EndsAs (c .axes) (c .mode) (c .job) records o
+  ended-is o d e =
+      let w = walked-only c o (λ n q f. let z = d n q f in omega arith) e in
+      (early-fits .only (w .0), ends-only (c .axes) (c .mode) (c .job) records o d (w .1))
+
+  is-ended : (o : Outcome) → Fits c → EndsAs (c .axes) (c .mode) (c .job) records o → outcomeOf c ≡ o
+  is-ended o f a = outcome-walked c (early-fits .given f) ∙ ends-given (c .axes) (c .mode) (c .job) records o a
+
+  -- R8 UNFINISHED
   pub unfinished : (p : ℕ) → Exactly (answerOf c ≡ Refused 8 p) ((p ≡ records) × AllPass c (Unfinished (c .axes) (c .job) records))
   unfinished p = record {
     given = λ b.
         let a = b .1 in
-        let m = means (c .axes) (c .mode) (c .job) records (a .state) (a .all-pass) in
-        rw (b .0) (answer-refused c 8 records (outcome-walked c (early-none (c .axes) (c .mode) (length (c .job)) (length (c .work)) (length (c .pairs)) .given (a .fits))
-        ∙ ends-given (c .axes) (c .mode) (c .job) records (refused 8 records) (record { state = a .state; all-pass = a .all-pass; ends = unfinished-is (c .axes) (c .job) records (a .state) m .given (a .why) })));
+        let t = fine-passed (c .axes) (c .mode) (c .job) records (a .all-fine) in
+        let m = means (c .axes) (c .mode) (c .job) records (t .0) (t .1) in
+        rw (b .0) (answer-refused c 8 records (is-ended (refused 8 records) (a .fits)
+        (record { state = t .0; all-pass = t .1; ends = unfinished-is (c .axes) (c .job) records (t .0) m .given (a .why) })));
     only = λ e.
-        let o = job-only c 8 p (omega arith) e in
-        let w = walked-only c (refused 8 p) (λ n q f. let z : 8 ≡ n = cc in omega arith) o in
-        let a = ends-only (c .axes) (c .mode) (c .job) records (refused 8 p) (λ n q f. cc) (w .1) in
-        let at : p ≡ records = ended-no (c .axes) (c .job) records (a .state) 8 p (a .ends) .1 in
-        let m = means (c .axes) (c .mode) (c .job) records (a .state) (a .all-pass) in (
+        let a = ended-is (refused 8 p) (λ n q f. cc) (job-only c 8 p (omega arith) e) in
+        let x = a .1 in
+        let at : p ≡ records = ended-no (c .axes) (c .job) records (x .state) 8 p (x .ends) .1 in
+        let m = means (c .axes) (c .mode) (c .job) records (x .state) (x .all-pass) in (
           at,
           record {
-            fits = early-none (c .axes) (c .mode) (length (c .job)) (length (c .work)) (length (c .pairs)) .only (w .0);
-            state = a .state;
-            all-pass = a .all-pass;
-            why = unfinished-is (c .axes) (c .job) records (a .state) m .only (a .ends ∙ ap (λ (x : ℕ). refused 8 x) at);
+            fits = a .0;
+            all-fine = passed-fine (c .axes) (c .mode) (c .job) records (x .state) (x .all-pass);
+            why = unfinished-is (c .axes) (c .job) records (x .state) m .only (x .ends ∙ ap (λ (x : ℕ). refused 8 x) at);
           },
         );
   }
 
-  -- sound: none of 1 to 9
-  pub sound : (s : Said) → Exactly (outcomeOf c ≡ fine s) (AllPass c (EndsAs (c .axes) (c .mode) (c .job) records (fine s)))
-  sound s = record {
-    given = λ a. outcome-walked c (early-none (c .axes) (c .mode) (length (c .job)) (length (c .work)) (length (c .pairs)) .given (a .fits)) ∙ ends-given (c .axes) (c .mode) (c .job) records (fine s) (a .why);
+  not-refused : (s : Said) (n q : ℕ) → fine s ≡ refused n q → n ≡ 8
+  not-refused s n q f = let z : _≡_ {A = ℕ} 0 1 = cc in absurd (omega arith)
+
+  -- the records of a job that is taken pass
+  pub taken-passes : (s : Said) → outcomeOf c ≡ fine s → EndsAs (c .axes) (c .mode) (c .job) records (fine s)
+  taken-passes s e = ended-is (fine s) (not-refused s) e .1
+
+  -- taken, by none of 1 to 9 refused: every record is fine, and the job is finished
+  pub taken : Exactly ((s : Said) × (outcomeOf c ≡ fine s)) (AllPass c (Unfinished (c .axes) (c .job) records → ⊥))
+  taken = record {
+    given = λ b.
+        let t = fine-passed (c .axes) (c .mode) (c .job) records (b .all-fine) in
+        ending b (t .0) (t .1) (ended (c .axes) (c .job) records (t .0)) refl;
     only = λ e.
-        let w = walked-only c (fine s) (λ n q f. let z : _≡_ {A = ℕ} 0 1 = cc in absurd (omega arith)) e in
-        let a = ends-only (c .axes) (c .mode) (c .job) records (fine s) (λ n q f. let z : _≡_ {A = ℕ} 0 1 = cc in absurd (omega arith)) (w .1) in
-        record { fits = early-none (c .axes) (c .mode) (length (c .job)) (length (c .work)) (length (c .pairs)) .only (w .0); state = a .state; all-pass = a .all-pass; why = a };
+        let a = ended-is (fine (e .0)) (not-refused (e .0)) (e .1) in
+        let x = a .1 in
+        let m = means (c .axes) (c .mode) (c .job) records (x .state) (x .all-pass) in
+        record {
+          fits = a .0;
+          all-fine = passed-fine (c .axes) (c .mode) (c .job) records (x .state) (x .all-pass);
+          why = λ u. not-eight (e .0) (sym (x .ends) ∙ unfinished-is (c .axes) (c .job) records (x .state) m .given u);
+        };
   }
+    where
+      not-eight : (s : Said) → fine s ≡ refused 8 records → ⊥
+      not-eight s f = let z : _≡_ {A = ℕ} 0 1 = cc in omega arith
+
+      ending : AllPass c (Unfinished (c .axes) (c .job) records → ⊥) → (s : State) → Passed (c .axes) (c .mode) (c .job) records s
+          → (o : Outcome) → ended (c .axes) (c .job) records s ≡ o → (s : Said) × (outcomeOf c ≡ fine s)
+      ending b s p (fine x) e = (x, is-ended (fine x) (b .fits) (record { state = s; all-pass = p; ends = e }))
+      ending b s p (refused n q) e =
+          let z = ended-no (c .axes) (c .job) records s n q e in
+          let f : ended (c .axes) (c .job) records s ≡ refused 8 records = e ∙ ap₂ refused (z .0) (z .1) in
+          absurd (b .why (unfinished-is (c .axes) (c .job) records s (means (c .axes) (c .mode) (c .job) records s p) .only f))

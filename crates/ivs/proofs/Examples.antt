@@ -87,7 +87,7 @@ unfoldable pub setsRecords : List Values → List ℕ
 setsRecords [] = []
 setsRecords (s ∷ l) = setRecords s ++ setsRecords l
 
--- R0 is "(0, 0x4000, 0x4000), R1 is another region": (-1, -1, 0)
+-- R0 is (0, 0x4000, 0x4000), R1 another region: (-1, -1, 0)
 unfoldable pub jobOf : List Values → List ℕ
 jobOf l = axisRecord R0 0 0x4000 0x4000 ++ (axisRecord R1 0xC000 0xC000 0 ++ setsRecords l)
 

@@ -1,5 +1,5 @@
 -- The merges of the rule, one by one: the j-th entry of the log is the j-th merge, of the two living groups that the rule names. Assumes nothing.
-use mathlib.Core.Path.{_≡_, refl, sym, ap, subst, _∙_}
+use mathlib.Core.Path.{_≡_, refl, sym, ap, _∙_}
 use mathlib.Core.Option.{Option, none, some}
 use mathlib.Core.List.{List, [], _∷_, _++_, map, append-assoc, List·Memᴰ, List·Memᴰ·head, List·Memᴰ·tail}
 use Prim.Native.Nat.{ℕ, zero, suc, _+_, _-_, _≤_, _<_}
@@ -9,27 +9,11 @@ use lib.Seq.{getD-append-seam}
 use Rattle.laws.specs.Every.{All}
 use Rattle.laws.proofs.EveryLaws.{all-imp}
 use Rattle.shapes.specs.Group.{Group}
-use Rattle.rule.specs.Model.{Living, Pair, Entry, State, choice, entry, merge, follow, step, run, start, merged}
+use Rattle.rule.specs.Model.{Living, Pair, Entry, State, gainOf, choice, entry, merge, follow, step, run, start, merged, total}
 use Rattle.rule.proofs.PairLaws.{pairs-all, each-pairs, chosen-has}
 use Rattle.rule.proofs.Theorems.{Merge, each-merge, run-merges, run-count, stops}
+use Rattle.ivs.specs.Demand3.{blank, Joins}
 use Rattle.rule.proofs.Bridge.{run-numbered, run-step, run-end}
-
-abbrev pub blank : Entry
-blank = record { first = 0; second = 0; gain = 0 }
-
--- merge j of the run
-pub record Joins (xs : List Group) (j : ℕ) : Type 0 where
-  pub pair : Pair
-  -- two living groups; "a pair's first number is its smaller"
-  pub first-lives : List·Memᴰ (pair .first) (run j (start xs) .living)
-  pub second-lives : List·Memᴰ (pair .second) (run j (start xs) .living)
-  pub in-order : pair .first .num < pair .second .num
-  -- "the one of greatest gain, ties to the smallest first number, then the smallest second": it gains, and is ahead of every two living groups
-  pub best : Merge (run j (start xs)) (run (suc j) (start xs)) pair
-  -- "Both die; the joined group takes the next unused number and is weighed with each living group."
-  pub after : run (suc j) (start xs) ≡ merge (run j (start xs)) pair
-  -- "The log gets first number, second number, gain."
-  pub logged : getD (merged xs .log) j blank ≡ entry pair
 
 run-add : (a b : ℕ) (s : State) → run (a + b) s ≡ run b (run a s)
 unfolding run
@@ -117,6 +101,9 @@ module _ (xs : List Group) where
         let l = run j (start xs) .living in
         chosen-has _ l (c .one) (c .is) (each-pairs (λ g h. g .num < h .num) l (run-numbered j xs .1))
 
+    best : Merge (run j (start xs)) (merge (run j (start xs)) (c .one)) (c .one)
+    best = each-merge (run j (start xs)) (c .one) (c .is)
+
     -- THE LAW
     pub joins : Joins xs j
     joins = record {
@@ -124,7 +111,9 @@ module _ (xs : List Group) where
       first-lives = lives .0;
       second-lives = lives .1;
       in-order = ordered;
-      best = subst (λ (s : State). Merge (run j (start xs)) s (c .one)) (sym (c .next-is)) (each-merge (run j (start xs)) (c .one) (c .is));
+      gains = let g = best .gains in omega arith;
+      ahead = best .ahead;
       after = c .next-is;
       logged = log-at;
+      falls = best .falls ∙ ap (λ (s : State). total (s .living) + gainOf (c .one .first) (c .one .second)) (sym (c .next-is));
     }

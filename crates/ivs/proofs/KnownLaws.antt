@@ -15,28 +15,29 @@ use Rattle.told.specs.Told.{countKind}
 use Rattle.told.proofs.WordLaws.{count-here, count-past, count-most}
 use Rattle.ivs.specs.Exactly.{Exactly}
 use Rattle.ivs.specs.Passing.{Passed, saidAt}
-use Rattle.ivs.specs.Counts.{knownRegions, NamedBefore}
+use Rattle.ivs.specs.Counts.{knownRegions, NamedBefore, axisRecords}
+use Rattle.ivs.proofs.Passing.{Passed, saidAt}
 use Rattle.ivs.proofs.StepLaws.{Looks, looks}
 use Rattle.ivs.proofs.StepLaws.Looks.{axis, late, cut, value, set-end, unknown}
 use Rattle.ivs.proofs.StateLaws.{value-on, NamedAt, Means, means}
 
--- one record of another kind
-count-less : (k : ℕ) (job : List ℕ) (i p : ℕ) → p < i → (kind (recordAt job p) ≡ k → ⊥) → countKind k job i < i
-count-less k job zero p h d = absurd (omega arith)
-count-less k job (suc i) p h d = ⊎-elim (λ (l : p < i). before (count-less k job i p l d)) here (lt-or-ge p i)
+-- one record of another kind, and not all are axis records
+count-less : (job : List ℕ) (i p : ℕ) → p < i → (kind (recordAt job p) ≡ 1 → ⊥) → axisRecords job i < i
+count-less job zero p h d = absurd (omega arith)
+count-less job (suc i) p h d = ⊎-elim (λ (l : p < i). before (count-less job i p l d)) here (lt-or-ge p i)
   where
-    more : countKind k job (suc i) ≤ suc (countKind k job i)
+    more : axisRecords job (suc i) ≤ suc (axisRecords job i)
     more =
-        ⊎-elim (λ (e : kind (recordAt job i) ≡ k). omega (arith, count-here k job i e)) (λ c. omega (arith, count-past k job i c)) (same-or-not (kind (recordAt job i)) k)
+        ⊎-elim (λ (e : kind (recordAt job i) ≡ 1). omega (arith, count-here job i e)) (λ c. omega (arith, count-past job i c)) (same-or-not (kind (recordAt job i)) 1)
 
-    before : countKind k job i < i → countKind k job (suc i) < suc i
+    before : axisRecords job i < i → axisRecords job (suc i) < suc i
     before l = let y = more in omega arith
 
-    here : i ≤ p → countKind k job (suc i) < suc i
+    here : i ≤ p → axisRecords job (suc i) < suc i
     here l =
         let e : p ≡ i = omega arith in
-        let x = count-past k job i (subst (λ (n : ℕ). kind (recordAt job n) ≡ k → ⊥) e d) in
-        let y = count-most k job i in
+        let x = count-past job i (subst (λ (n : ℕ). kind (recordAt job n) ≡ 1 → ⊥) e d) in
+        let y = count-most job i in
         omega arith
 
 module _ (axes mode : ℕ) (job : List ℕ) where
@@ -44,7 +45,7 @@ module _ (axes mode : ℕ) (job : List ℕ) where
   Known i p = regionOf (recordAt job p) < length (knownRegions axes job i)
 
   next-known : (i : ℕ) → (kind (recordAt job i) ≡ 1 → ⊥) → (p : ℕ) → Known i p → Known (suc i) p
-  next-known i d p h = subst (λ (n : ℕ). regionOf (recordAt job p) < length (regionList axes (n / axes) job)) (sym (count-past 1 job i d)) h
+  next-known i d p h = subst (λ (n : ℕ). regionOf (recordAt job p) < length (regionList axes (n / axes) job)) (sym (count-past job i d)) h
 
   -- every value that passed named a region with axis records
   pub all-known : (i : ℕ) (s : State) → Passed axes mode job i s → (p : ℕ) → p < i → kind (recordAt job p) ≡ 2 → Known i p
@@ -65,7 +66,7 @@ module _ (axes mode : ℕ) (job : List ℕ) where
       go : Means axes job i t → (q < i → Known i q) → Looks axes mode job (recordAt job i) i t → Known (suc i) q
       go m rec (axis k a e) =
           at (λ l. let w = here l in absurd (omega arith))
-          (λ l. let x = count-less 1 job i q l (λ z. omega arith) in let y = m .in-axes a in absurd (omega arith))
+          (λ l. let x = count-less job i q l (λ z. omega arith) in let y = m .in-axes a in absurd (omega arith))
       go m rec (late k a e) = five e
       go m rec (cut k a w e) = five e
       go m rec (value k w e) =
@@ -76,7 +77,7 @@ module _ (axes mode : ℕ) (job : List ℕ) where
       go m rec (set-end k w e) = at (λ l. let w′ = here l in absurd (omega arith)) (λ l. next-known i (λ c. omega arith) q (rec l))
       go m rec (unknown a b c e) = five e
 
-  -- "Regions are equal when all coordinates are equal."
+  -- S1: equal regions have one first like
   pub named-before : (i : ℕ) (s : State) → Passed axes mode job i s → (q : ℕ) → q < length (knownRegions axes job i)
       → Exactly (NamedAt (knownRegions axes job i) job i (firstLike (knownRegions axes job i) q)) (NamedBefore axes job i q)
   named-before i s p q h = record {

@@ -1,6 +1,7 @@
 pub mod BitLaws
 pub mod Unique
 pub mod FailedLaws
+pub mod Passing
 pub mod StepLaws
 pub mod WalkRows
 pub mod OutcomeRows
@@ -11,10 +12,12 @@ pub mod LateRows
 pub mod Buffers
 pub mod StateLaws
 pub mod ZeroLaws
-pub mod EndRow
 pub mod KnownLaws
 pub mod RecordTests
+pub mod RecordStops
+pub mod FineLaws
 pub mod RecordRows
+pub mod EndRow
 pub mod Demand2
 pub mod JoinSteps
 pub mod Demand3
@@ -22,3 +25,7 @@ pub mod BytesBack
 pub mod SizesBack
 pub mod Examples
 pub mod GlyphLaws
+pub mod PastBack
+pub mod ReportLaws
+pub mod PlainRows
+pub mod Demand1

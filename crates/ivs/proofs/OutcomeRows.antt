@@ -17,6 +17,7 @@ use Rattle.build.specs.Lending.{Lending}
 use Rattle.build.specs.Build.{coordsOf, packedOf, answerFrom, outcomeOf, answerOf}
 use Rattle.ivs.specs.Exactly.{Exactly}
 use Rattle.ivs.specs.Passing.{StopsAt, EndsAs}
+use Rattle.ivs.proofs.Passing.{StopsAt, EndsAs}
 use Rattle.ivs.proofs.FailedLaws.{among}
 use Rattle.ivs.proofs.StepLaws.{stop-no}
 use Rattle.ivs.proofs.WalkRows.{Way, way, stops-given}
@@ -66,7 +67,7 @@ module _ (axes mode : ℕ) (job : List ℕ) (records : ℕ) where
       go (stopped m j f a) = let x : m ≡ n = cc in let y : j ≡ i = cc in rw (← x, ← y) a
       go (came a) = absurd (d (ended-no axes job records (a .state) n i (a .ends ∙ e) .0))
 
-  -- "the earliest bad record answers"
+  -- T2: the first record that stops the walk decides
   pub earliest : (n i : ℕ) → i < records → Exactly (walk axes mode job job records 0 inAxes ≡ refused n i) (StopsAt axes mode job records n i)
   earliest n i h = record { given = λ a. stops-given axes mode job records n i a; only = λ e. go e (way axes mode job records) }
     where

@@ -1,4 +1,4 @@
--- The tests of one record: which of them answers. "at one record 5 before 6 before 7, and 5 before 9" Assumes nothing.
+-- The tests of one record: which of them answers. In the order T2. Assumes nothing.
 use mathlib.Core.Path.{_≡_, refl, sym, ap, _∙_}
 use mathlib.Core.Bool.{Bool, true, false, not, _&&_}
 use mathlib.Core.List.{List, [], _∷_}

@@ -13,7 +13,7 @@ use Rattle.said.specs.Records.{kind, regionOf}
 use Rattle.said.specs.Refusals.{firstFailed, axisNo, valueNo, endNo}
 use Rattle.said.specs.Sets.{firstLike, has}
 use Rattle.said.specs.Job.{Said, State, inAxes, inSets, Step, stop, on, unless, valueStep, endStep, setStep, step}
-use Rattle.ivs.specs.Passing.{saidAt, Whole}
+use Rattle.ivs.proofs.Passing.{saidAt, Whole}
 use Rattle.ivs.proofs.FailedLaws.{among, later, none-failed}
 
 pub unless-no : (k : ℕ) (s : State) (n : ℕ) → unless k s ≡ stop n → (k ≡ n) × (0 < n)
@@ -106,7 +106,7 @@ end-not-eight mode r n e =
     let b = none-failed in
     omega arith
 
--- "The place is the record's index from 0 for 5, 6, 7 and 9"
+-- the numbers that a record's refusal can have
 pub record RecordNo (n : ℕ) : Type 0 where
   pub low : 5 ≤ n
   pub high : n ≤ 9

@@ -1,4 +1,4 @@
--- "Then records from the first on: the earliest bad record answers". A walk along a job's records is refused at record i exactly when those before
+-- T2. A walk along a job's records is refused at record i exactly when those before
 -- it pass and it does not; else its end answers. Assumes nothing.
 use mathlib.Core.Path.{_≡_, refl, sym, ap, subst, _∙_}
 use mathlib.Core.List.{List}
@@ -8,8 +8,9 @@ use native.Mathlib.Numerals.{add-one}
 use native.Mathlib.Omega.{arith}
 use lib.Seq.{drop-drop}
 use Rattle.said.specs.Records.{recordAt}
-use Rattle.said.specs.Job.{State, inAxes, Step, stop, on, step, Outcome, refused, ended, follow, walk}
+use Rattle.said.specs.Job.{State, inAxes, Step, stop, on, step, Outcome, refused, ended, follow, walk, Said, inSets, fine, endedSets}
 use Rattle.ivs.specs.Passing.{Passed, StopsAt, EndsAs}
+use Rattle.ivs.proofs.Passing.{Passed, StopsAt, EndsAs}
 
 module _ (axes mode : ℕ) (job : List ℕ) where
   -- one turn

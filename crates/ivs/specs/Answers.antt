@@ -21,7 +21,7 @@ numberOf (built.Refused n at) = n
 numberOf (built.Done d) = 0
 
 -- the report: 0 number, 1 place, 2 store bytes, 3 subtables, 4 regions kept, 5 distinct ids, 6 N, 7 merges, 8 pairs weighed, 9 size before,
--- 10 size after, 11 forecast, then zeros. "A refusal has all counts 0"
+-- 10 size after, 11 forecast, then zeros. After a refusal every count is 0
 unfoldable pub refusedWords : ℕ → ℕ → List ℕ
 refusedWords n at = n ∷ at ∷ 0 ∷ 0 ∷ 0 ∷ 0 ∷ 0 ∷ 0 ∷ 0 ∷ 0 ∷ 0 ∷ 0 ∷ 0 ∷ 0 ∷ 0 ∷ 0 ∷ []
 

@@ -1,10 +1,10 @@
--- What stands before a record of a job, in document 01's words. Assumes nothing.
+-- What is counted of the records before a record of a job, and R5 to R9 by that: by the job's bytes alone. Assumes nothing.
 use mathlib.Core.Path.{_≡_}
 use mathlib.Core.Logic.{_⊎_}
 use mathlib.Core.List.{List, []}
 use Prim.Native.Nat.{ℕ, suc, _+_, _/_, _%_, _≤_, _<_}
 use lib.ListN.{length, getD}
-use Rattle.said.specs.Records.{kind, regionOf, axisOf, recordAt}
+use Rattle.said.specs.Records.{kind, regionOf, axisOf, recordAt, recordCount}
 use Rattle.said.specs.Sets.{Region, regionList}
 use Rattle.told.specs.Told.{countKind, endsBefore}
 use Rattle.limits.specs.Limits.{maxItems}
@@ -12,6 +12,10 @@ use Rattle.limits.specs.Limits.{maxItems}
 -- how many of the first i records are axis records
 abbrev pub axisRecords : List ℕ → ℕ → ℕ
 axisRecords job i = countKind 1 job i
+
+-- the end records of the whole job
+abbrev pub endRecords : List ℕ → ℕ
+endRecords job = endsBefore job (recordCount job)
 
 -- the regions that have all their axis records before record i
 abbrev pub knownRegions : ℕ → List ℕ → ℕ → List Region
@@ -30,14 +34,13 @@ pub record NotZero (r : List ℕ) (p n : ℕ) : Type 0 where
   pub within : byte < n
   pub is-not : getD r (p + byte) 0 ≡ 0 → ⊥
 
--- 5 BAD_RECORD: "unknown kind, a zero byte not zero, an axis record out of its order or after the first value or end, a value or end inside an
--- unfinished region"
+-- R5 BAD_RECORD
 pub data BadRecord (axes : ℕ) (job : List ℕ) (i : ℕ) (r : List ℕ) : Type 0 where
   unknown-kind : (kind r ≡ 1 → ⊥) → (kind r ≡ 2 → ⊥) → (kind r ≡ 3 → ⊥) → BadRecord axes job i r
   axis-zero : kind r ≡ 1 → NotZero r 3 1 ⊎ NotZero r 10 2 → BadRecord axes job i r
   value-zero : kind r ≡ 2 → NotZero r 2 2 ⊎ NotZero r 8 4 → BadRecord axes job i r
   end-zero : kind r ≡ 3 → NotZero r 1 11 → BadRecord axes job i r
-  -- "region 0 axis 0, up to its last axis, then region 1, and so on"
+  -- region by region, and in each axis by axis: the numbers of axis record i are fixed
   axis-order : kind r ≡ 1 → (regionOf r ≡ i / axes → ⊥) ⊎ (axisOf r ≡ i % axes → ⊥) → BadRecord axes job i r
   axis-late : kind r ≡ 1 → axisRecords job i < i → BadRecord axes job i r
   in-region : (kind r ≡ 2) ⊎ (kind r ≡ 3) → InRegion axes job i → BadRecord axes job i r
@@ -49,7 +52,7 @@ pub record ValueHere (axes : ℕ) (job : List ℕ) (i : ℕ) (r : List ℕ) : Ty
   pub zeros-eight : Zeros r 8 4
   pub whole : axisRecords job i % axes ≡ 0
 
--- 6 UNKNOWN_REGION: "a value names a region with no axis records"
+-- R6 UNKNOWN_REGION
 pub record UnknownRegion (axes : ℕ) (job : List ℕ) (i : ℕ) (r : List ℕ) : Type 0 where
   pub value-here : ValueHere axes job i r
   pub unknown : length (knownRegions axes job i) ≤ regionOf r
@@ -61,13 +64,13 @@ pub record NamedBefore (axes : ℕ) (job : List ℕ) (i q : ℕ) : Type 0 where
   pub one-set : (k : ℕ) → place ≤ k → k < i → kind (recordAt job k) ≡ 2
   pub same : getD (knownRegions axes job i) (regionOf (recordAt job place)) [] ≡ getD (knownRegions axes job i) q []
 
--- 7 REGION_TWICE: "a value's region has the same coordinates as an earlier one's in its set, zero values counted too"
+-- R7 REGION_TWICE
 pub record RegionTwice (axes : ℕ) (job : List ℕ) (i : ℕ) (r : List ℕ) : Type 0 where
   pub value-here : ValueHere axes job i r
   pub known : regionOf r < length (knownRegions axes job i)
   pub twice : NamedBefore axes job i (regionOf r)
 
--- 9 SETS_FULL: "mode 1, the 65,536th end record"
+-- R9 SETS_FULL: 65,535 end records stand before this one
 pub record SetsFull (axes mode : ℕ) (job : List ℕ) (i : ℕ) (r : List ℕ) : Type 0 where
   pub is-end : kind r ≡ 3
   pub zeros-one : Zeros r 1 11
@@ -75,7 +78,7 @@ pub record SetsFull (axes mode : ℕ) (job : List ℕ) (i : ℕ) (r : List ℕ) 
   pub mode-one : mode ≡ 1
   pub full : endsBefore job i ≡ maxItems
 
--- 8 UNFINISHED: "the job ends inside a set or a region"
+-- R8 UNFINISHED
 pub data Unfinished (axes : ℕ) (job : List ℕ) (records : ℕ) : Type 0 where
   inside-region : InRegion axes job records → Unfinished axes job records
   -- its last record is a value

@@ -1,4 +1,4 @@
--- Refusals 1 to 4 in plain numbers. Document 01: "1 to 4 are tested in that order." Each record says what holds where the numbers up to its own
+-- R1 to R4 in plain numbers, in the order T1. Each record says what holds where the numbers up to its own
 -- are not given. Assumes nothing.
 use mathlib.Core.Path.{_≡_}
 use Prim.Native.Nat.{ℕ, _/_, _%_, _≤_, _<_}
@@ -8,21 +8,23 @@ use Rattle.build.specs.Lending.{Lending}
 use Rattle.said.specs.Records.{spareBytes, recordsIn}
 use Rattle.limits.specs.Limits.{mostRecords, mostAxes}
 
--- "1 to 64 axes"
+-- R1
 pub record AxesFit (axes : ℕ) : Type 0 where
   pub some : 0 < axes
   pub most : axes ≤ mostAxes
 
+-- R2
 pub record ModeFit (axes mode : ℕ) : Type 0 where
   pub axes-fit : AxesFit axes
   pub known : mode ≤ 1
 
--- "records of 12 bytes"; "At most 1,048,576 records"
+-- R3
 pub record LengthFit (axes mode bytes : ℕ) : Type 0 where
   pub mode-fit : ModeFit axes mode
   pub whole : spareBytes bytes ≡ 0
   pub few : recordsIn bytes ≤ mostRecords
 
+-- R4
 pub record WorkFit (axes mode bytes work pairs : ℕ) : Type 0 where
   pub length-fit : LengthFit axes mode bytes
   pub enough : publishedWork (recordsIn bytes) ≤ work

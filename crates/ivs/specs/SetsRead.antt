@@ -9,8 +9,8 @@ use Rattle.laws.specs.Bytes.{be}
 use Rattle.laws.specs.Signed.{signed}
 use Rattle.reader.specs.declared.reader.Reading.the-variants.{Written, NoColumn}
 use Rattle.reader.specs.Store.{readStore, valueOf, listAt, regionCount}
-use Rattle.said.specs.Records.{regionOf, recordAt}
-use Rattle.told.specs.Told.{recordCount, endsBefore, ValueIn, coordinatesAt}
+use Rattle.said.specs.Records.{regionOf, recordAt, recordCount}
+use Rattle.told.specs.Told.{endsBefore, ValueIn, coordinatesAt}
 use Rattle.finishing.specs.declared.answers.Report.{Report}
 use Rattle.build.specs.Lending.{Lending}
 use Rattle.build.specs.Build.{regionBytes, after}

@@ -7,3 +7,4 @@ pub mod WalkLaws
 pub mod SaidLaws
 pub mod SoundLaws
 pub mod PlacedLaws
+pub mod WorkLaws

@@ -54,10 +54,6 @@ regionFrom axes job x = drop (x * regionLong axes) job
 
 -- ---- one record
 
--- the bytes of a job from record i on
-abbrev pub recordAt : List ℕ → ℕ → List ℕ
-recordAt job i = drop (recordBytes * i) job
-
 -- the kinds: 1 axis, 2 value, 3 end of set
 abbrev pub kind : List ℕ → ℕ
 kind r = getD r 0 0

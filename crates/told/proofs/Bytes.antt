@@ -10,14 +10,14 @@ use Rattle.laws.proofs.Cases.{lt-or-ge}
 use Rattle.laws.proofs.EveryLaws.{all-getD}
 use Rattle.sets.specs.Set.{wordOf, Proper}
 use Rattle.sets.proofs.SetLaws.{word-past}
-use Rattle.said.specs.Records.{endKind, regionOf, recordAt}
+use Rattle.said.specs.Records.{endKind, regionOf, recordAt, recordCount}
 use Rattle.said.specs.Sets.{Region, firstLike, has, indexIn}
 use Rattle.said.specs.Job.{Said, fine, outcome}
 use Rattle.said.proofs.RegionLaws.{like-below, regions-at}
 use Rattle.said.proofs.MeaningLaws.{like-here, equal-first}
 use Rattle.said.proofs.IndexLaws.{index-at, index-below}
 use Rattle.said.proofs.SoundLaws.{fine-walk}
-use Rattle.told.specs.Told.{recordCount, endsBefore, ValueIn, FirstUse, coordinatesAt, indexOf, Given, Told}
+use Rattle.told.specs.Told.{endsBefore, ValueIn, FirstUse, coordinatesAt, indexOf, Given, Told}
 use Rattle.told.proofs.WordLaws.{count-grows}
 use Rattle.told.proofs.TellLaws.{Telling, all-told}
 

@@ -8,11 +8,11 @@ use Rattle.laws.specs.Bounded.{allBelow}
 use Rattle.laws.specs.Bytes.{be}
 use Rattle.laws.specs.Signed.{word, signed, zeroWord}
 use Rattle.sets.specs.Set.{Set, wordOf}
-use Rattle.said.specs.Records.{zeros, axisZeros, valueZeros, endZeros, valueWord}
+use Rattle.said.specs.Records.{zeros, axisZeros, valueZeros, endZeros, valueWord, recordCount}
 use Rattle.said.specs.Refusals.{pairRecords, firstFailed, publishedWork, earlyNo, axisNo, valueNo, endNo}
 use Rattle.said.specs.Sets.{Region, coordinates, regionList, sameRegion, like, firstLike, has, withUse, indexIn, placed, withValue}
 use Rattle.said.specs.Job.{Said, fine, unless, afterValue, afterEnd, valueStep, endStep, setStep, regionsOnly, step, ended, endedSets, follow, walk, outcomeFrom, outcome}
-use Rattle.told.specs.Told.{recordCount, countKind, endsBefore, ValueIn, coordinatesAt, indexOf, Given, Told}
+use Rattle.told.specs.Told.{countKind, endsBefore, ValueIn, coordinatesAt, indexOf, Given, Told}
 use Rattle.told.proofs.Bytes.{told}
 
 abbrev axisRecord : ℕ → ℕ → List ℕ

@@ -8,13 +8,9 @@ use lib.Dec.{eqb}
 use Rattle.laws.specs.Pick.{pick}
 use Rattle.laws.specs.Signed.{zeroWord}
 use Rattle.sets.specs.Set.{wordOf}
-use Rattle.said.specs.Records.{recordBytes, kind, valueKind, endKind, regionOf, valueWord, recordAt}
+use Rattle.said.specs.Records.{recordBytes, kind, valueKind, endKind, regionOf, valueWord, recordAt, recordCount}
 use Rattle.said.specs.Sets.{Region, coordinates, firstLike, indexIn}
 use Rattle.said.specs.Job.{Said}
-
--- how many records a job has
-abbrev pub recordCount : List ℕ → ℕ
-recordCount job = length job / recordBytes
 
 -- how many of the first i records are of a kind, and how many end a set
 unfoldable pub countKind : ℕ → List ℕ → ℕ → ℕ

@@ -1,5 +1,4 @@
--- A job's records that pass, one after another, and the one that does not. Document 01, "Refusal numbers": "Then records from the first on: the
--- earliest bad record answers". Assumes nothing.
+-- A job's records that pass, one after another, and the one that does not, as states of the walk. Assumes nothing.
 use mathlib.Core.Path.{_≡_}
 use mathlib.Core.List.{List}
 use Prim.Native.Nat.{ℕ, zero, suc, _/_, _%_, _<_}

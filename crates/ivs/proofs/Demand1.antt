@@ -1,0 +1,51 @@
+-- Demand 1 (specs/Demand1.antt), of every call. Assumes nothing.
+use native.Mathlib.Omega.{arith}
+use Rattle.build.specs.Lending.{Lending}
+use Rattle.ivs.specs.Demand1.{Table, Kept, Demand1}
+use Rattle.ivs.proofs.Unique.{unique}
+use Rattle.ivs.proofs.OutcomeRows.{numbers}
+use Rattle.ivs.proofs.EarlyRows.{bad-axes, bad-mode, bad-job-length, work-short}
+use Rattle.ivs.proofs.RecordRows.{earliest-bad, bad-record, unknown-region, region-twice, sets-full}
+use Rattle.ivs.proofs.EndRow.{unfinished, taken}
+use Rattle.ivs.proofs.LateRows.{shapes-full, ids-short, map-short, log-short, out-short, is-done}
+use Rattle.ivs.proofs.Buffers.{untouched, work-kept, pairs-kept, work-cleared, pairs-cleared, work-done, pairs-done}
+use Rattle.ivs.proofs.PastBack.{past-kept}
+
+module _ (c : Lending) where
+  table : Table c
+  table = record {
+    bad-axes = bad-axes c;
+    bad-mode = bad-mode c;
+    bad-job-length = bad-job-length c;
+    work-short = work-short c;
+    bad-record = bad-record c;
+    unknown-region = unknown-region c;
+    region-twice = region-twice c;
+    unfinished = unfinished c;
+    sets-full = sets-full c;
+    shapes-full = shapes-full c;
+    ids-short = ids-short c;
+    map-short = map-short c;
+    log-short = log-short c;
+    out-short = out-short c;
+    is-done = is-done c;
+    numbers = λ n p e. let h = numbers c n p e in (omega arith, omega arith);
+    taken = taken c;
+    earliest = earliest-bad c;
+  }
+
+  kept : Kept c
+  kept = record {
+    untouched = untouched c;
+    work-kept = work-kept c;
+    pairs-kept = pairs-kept c;
+    work-cleared = work-cleared c;
+    pairs-cleared = pairs-cleared c;
+    work-done = work-done c;
+    pairs-done = pairs-done c;
+    past-kept = past-kept c;
+  }
+
+  -- THE LAW
+  pub demand1 : Demand1 c
+  demand1 = record { table = table; kept = kept; unique = λ p q. unique p q }

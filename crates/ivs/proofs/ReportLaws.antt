@@ -1,0 +1,43 @@
+-- A report's sixteen words are all written (specs/Reported.antt). Assumes nothing.
+use mathlib.Core.Path.{_≡_, refl, sym, ap, _∙_}
+use mathlib.Core.List.{List, [], _∷_, _++_, append-nil}
+use Prim.Native.Nat.{ℕ, suc, _+_, _<_}
+use native.Mathlib.Omega.{arith}
+use lib.ListN.{length, set, take, length-set}
+use lib.Seq.{take-all, take-suc-set, append-snoc}
+use Rattle.finishing.specs.declared.answers.Built.{Built}
+use Rattle.finishing.specs.declared.answers.Built.the-variants as built
+use Rattle.build.specs.Lending.{Lending, Left}
+use Rattle.ivs.specs.Answers.{numberOf, refusedWords, doneWords, reportWords, filled}
+use Rattle.ivs.specs.Told.{Told}
+use Rattle.ivs.specs.Reported.{Reported}
+
+-- words put over the last ones leave those before
+filled-end : (k : ℕ) (l old : List ℕ) → length old ≡ k + length l → filled k l old ≡ take k old ++ l
+unfolding filled
+filled-end k [] old e = sym (append-nil (take k old) ∙ take-all k old (omega arith))
+filled-end k (x ∷ l) old e =
+    let h : k < length old = omega arith in
+    let n : length (set old k x) ≡ k + 1 + length l = omega (arith, length-set old k x) in
+    let s : k + 1 ≡ suc k = omega arith in
+    filled-end (k + 1) l (set old k x) n
+    ∙ ap (λ (j : ℕ). take j (set old k x) ++ l) s
+    ∙ ap (λ (t : List ℕ). t ++ l) (take-suc-set old k x h)
+    ∙ append-snoc (take k old) x l
+
+words-sixteen : (b : Built) → length (reportWords b) ≡ 16
+unfolding reportWords refusedWords doneWords
+words-sixteen (built.Refused n at) = refl
+words-sixteen (built.Done d) = refl
+
+-- THE LAW, of any sixteen words
+pub sixteen : (b : Built) (old : List ℕ) → length old ≡ 16 → filled 0 (reportWords b) old ≡ reportWords b
+sixteen b old e = filled-end 0 (reportWords b) old (omega (arith, words-sixteen b))
+
+-- and of what a host is told
+pub reported : {c : Lending} {number : ℕ} {l : Left} {old new : List ℕ} → Told c number l old new → length old ≡ 16 → Reported c number l new
+reported {c} {number} {l} {old} {new} t e = record {
+  number-is = t .number-is ∙ ap numberOf (t .obeys .answer);
+  left-is = t .obeys .left;
+  report-is = t .report-is ∙ sixteen (t .answer) old e ∙ ap reportWords (t .obeys .answer);
+}

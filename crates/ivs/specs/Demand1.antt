@@ -1,0 +1,78 @@
+-- D1: every call is answered, and is refused exactly where the refusal table says (R1 to R14), by that number and place; and what everything lent holds
+-- afterwards (L1 to L4). Assumes nothing.
+use mathlib.Core.Path.{_≡_}
+use mathlib.Core.Logic.{_⊎_}
+use Prim.Native.Nat.{ℕ, _-_, _*_, _/_, _%_, _≤_, _<_}
+use lib.ListN.{length, replicate}
+use Rattle.said.specs.Records.{recordAt, recordCount}
+use Rattle.pairs.specs.Queue.{none}
+use Rattle.said.specs.Refusals.{publishedWork, pairRecords}
+use Rattle.said.specs.Job.{Said, fine}
+use Rattle.finishing.specs.declared.answers.Report.{Report}
+use Rattle.finishing.specs.declared.answers.Built.{Built}
+use Rattle.finishing.specs.declared.answers.Built.the-variants.{Refused, Done}
+use Rattle.finishing.specs.Late.{reportOf}
+use Rattle.build.specs.Lending.{Lending, Left}
+use Rattle.build.specs.Build.{coordsOf, packedOf, outcomeOf, answerOf, after, Obeys}
+use Rattle.ivs.specs.Exactly.{Exactly}
+use Rattle.ivs.specs.Fits.{AxesFit, ModeFit, LengthFit}
+use Rattle.ivs.specs.Counts.{endRecords, BadRecord, UnknownRegion, RegionTwice, SetsFull, Unfinished}
+use Rattle.ivs.specs.Fine.{Fine}
+use Rattle.ivs.specs.Rows.{EarliestBad, AllPass}
+use Rattle.ivs.specs.Rooms.{Taken, shapeCount, distinctIds, storeBytes, ShapesFit, IdsFit, MapFit, LogFit, OutFit}
+use Rattle.ivs.specs.Past.{PastKept}
+
+-- the refusal n at place p is given exactly for this reason
+abbrev pub Row : Lending → ℕ → ℕ → Type 0 → Type 0
+Row c n p Why = Exactly (answerOf c ≡ Refused n p) Why
+
+-- none of 1 to 9: each record is fine, and the job is finished
+abbrev pub Sound : Lending → Type 0
+Sound c = AllPass c (Unfinished (c .axes) (c .job) (recordCount (c .job)) → ⊥)
+
+-- the table. `Taken` is of a job that is sound, and of what it says
+pub record Table (c : Lending) : Type 0 where
+  pub bad-axes : (p : ℕ) → Row c 1 p ((p ≡ 0) × ((c .axes ≡ 0) ⊎ (64 < c .axes)))
+  pub bad-mode : (p : ℕ) → Row c 2 p ((p ≡ 0) × (AxesFit (c .axes) × (1 < c .mode)))
+  pub bad-job-length : (p : ℕ) → Row c 3 p ((p ≡ 0) × (ModeFit (c .axes) (c .mode) × ((length (c .job) % 12 ≡ 0 → ⊥) ⊎ (1048576 < length (c .job) / 12))))
+  pub work-short : (p : ℕ) → Row c 4 p
+      ((p ≡ 0) × (LengthFit (c .axes) (c .mode) (length (c .job)) × ((length (c .work) < publishedWork (recordCount (c .job))) ⊎ (length (c .pairs) < pairRecords))))
+  pub bad-record : (i : ℕ) → Row c 5 i (EarliestBad c i (BadRecord (c .axes) (c .job) i (recordAt (c .job) i)))
+  pub unknown-region : (i : ℕ) → Row c 6 i (EarliestBad c i (UnknownRegion (c .axes) (c .job) i (recordAt (c .job) i)))
+  pub region-twice : (i : ℕ) → Row c 7 i (EarliestBad c i (RegionTwice (c .axes) (c .job) i (recordAt (c .job) i)))
+  pub unfinished : (p : ℕ) → Row c 8 p ((p ≡ recordCount (c .job)) × AllPass c (Unfinished (c .axes) (c .job) (recordCount (c .job))))
+  pub sets-full : (i : ℕ) → Row c 9 i (EarliestBad c i (SetsFull (c .axes) (c .mode) (c .job) i (recordAt (c .job) i)))
+  pub shapes-full : (p : ℕ) → Row c 10 p ((p ≡ 0) × Taken c (λ s. (c .mode ≡ 0) × (1024 < shapeCount (c .mode) s)))
+  pub ids-short : (p : ℕ) → Row c 11 p ((p ≡ 0) × Taken c (λ s. ShapesFit (c .mode) s × (length (c .lent .ids) < endRecords (c .job))))
+  pub map-short : (p : ℕ) → Row c 12 p ((p ≡ 0) × Taken c (λ s. IdsFit c s × (length (c .lent .map) < distinctIds (c .mode) s)))
+  pub log-short : (p : ℕ) → Row c 13 p
+      ((p ≡ 0) × Taken c (λ s. MapFit c s × (c .mode ≡ 0) × (1 ≤ shapeCount (c .mode) s) × (length (c .lent .log) < 3 * (shapeCount (c .mode) s - 1))))
+  pub out-short : (p : ℕ) → Row c 14 p ((p ≡ 0) × Taken c (λ s. LogFit c s × (length (c .lent .out) < storeBytes (c .axes) (c .mode) s)))
+  -- done exactly where no row is given
+  pub is-done : (r : Report) → Exactly (answerOf c ≡ Done r) (Taken c (λ s. OutFit c s × (r ≡ reportOf (c .axes) (coordsOf s) (packedOf (c .mode) s))))
+  -- and there are no other numbers
+  pub numbers : (n p : ℕ) → answerOf c ≡ Refused n p → (1 ≤ n) × (n ≤ 14)
+  -- a job is taken exactly where it is sound
+  pub taken : Exactly ((s : Said) × (outcomeOf c ≡ fine s)) (Sound c)
+  -- the earliest bad record decides: a record's refusal is given at i exactly where all before it are fine and it is not
+  pub earliest : (i : ℕ) → Exactly ((n : ℕ) × (5 ≤ n) × (n ≤ 9) × (n ≡ 8 → ⊥) × (answerOf c ≡ Refused n i)) (EarliestBad c i (Fine (c .axes) (c .mode) (c .job) i → ⊥))
+
+-- what everything lent holds afterwards
+pub record Kept (c : Lending) : Type 0 where
+  -- L1: after a refusal output, ids, map and log are as they were
+  pub untouched : (n p : ℕ) → answerOf c ≡ Refused n p → after c .lent ≡ c .lent
+  -- L2: 1 to 4 leave work and pair records as they were, every other answer leaves zeros
+  pub work-kept : (n p : ℕ) → n ≤ 4 → answerOf c ≡ Refused n p → after c .work ≡ c .work
+  pub pairs-kept : (n p : ℕ) → n ≤ 4 → answerOf c ≡ Refused n p → after c .pairs ≡ c .pairs
+  pub work-cleared : (n p : ℕ) → 5 ≤ n → answerOf c ≡ Refused n p → after c .work ≡ replicate (length (c .work)) 0
+  pub pairs-cleared : (n p : ℕ) → 5 ≤ n → answerOf c ≡ Refused n p → after c .pairs ≡ replicate (length (c .pairs)) none
+  pub work-done : (r : Report) → answerOf c ≡ Done r → after c .work ≡ replicate (length (c .work)) 0
+  pub pairs-done : (r : Report) → answerOf c ≡ Done r → after c .pairs ≡ replicate (length (c .pairs)) none
+  -- L3: behind what is written all is as it was
+  pub past-kept : (r : Report) → answerOf c ≡ Done r → PastKept c r
+
+pub record Demand1 (c : Lending) : Type 0 where
+  pub table : Table c
+  pub kept : Kept c
+  -- D4: two results that obey the promise are equal
+  pub unique : {r s : Built} {a b : Left} → Obeys c r a → Obeys c s b → (r ≡ s) × (a ≡ b)
