@@ -27,17 +27,14 @@ use Rattle.said.proofs.SaidLaws.{room-of}
 use Rattle.said.proofs.SoundLaws.{Bytes, Coordinates, WellSaid, well-said, first-passed, fine-walk}
 use Rattle.encoder.specs.Packed.{Packed}
 use Rattle.finishing.specs.declared.answers.Report.{Report}
-use Rattle.finishing.specs.declared.answers.Built.the-variants.{Done, Refused}
+use Rattle.finishing.specs.declared.answers.Built.the-variants.{Done}
 use Rattle.finishing.specs.Buffers.{Buffers, Lengths, lengths}
-use Rattle.finishing.specs.Late.{storeFor, lateNo, reportOf, written, buffersLeft, lateAnswer}
+use Rattle.finishing.specs.Late.{storeFor, lateNo, reportOf, written, buffersLeft}
 use Rattle.finishing.proofs.DoneLaws.{late-done}
 use Rattle.build.specs.Lending.{Lending}
 use Rattle.build.specs.Build.{regionBytes, coordsOf, packedOf, answerFrom, leftFrom, outcomeOf, answerOf, after}
 use Rattle.build.proofs.ReadBack.{Sized}
-use Rattle.finishing.specs.declared.answers.Built.{Built}
-use Rattle.build.specs.Build.{regionBytes, coordsOf, packedOf, answerFrom, answerOf, leftFrom}
 use Rattle.build.proofs.CoordLaws.{coords-bytes}
-use Rattle.build.proofs.ReadBack.{Sized}
 
 -- ---- the sizes of what a sound job says
 

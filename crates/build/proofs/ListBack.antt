@@ -16,7 +16,7 @@ use Rattle.readback.proofs.Parsing.{Fit, made-parsed}
 use Rattle.encoder.specs.Packed.{Packed}
 use Rattle.finishing.specs.Late.{storeFor}
 use Rattle.limits.specs.Limits.{mostAxes, maxRegions}
-use Rattle.build.proofs.RowsBack.{coords-long}
+
 
 pub record ListBack (axes regions : ℕ) (coords : List (List ℕ)) (k : Packed) : Type 0 where
   -- "header with its offsets, region list": neither is refused

@@ -29,11 +29,12 @@ use Rattle.encoder.specs.Packed.{Packed, noLater, dense, belongs, finalOf, isAh
 use Rattle.encoder.proofs.DenseIds.{ids-length}
 use Rattle.finishing.specs.declared.answers.Report.{Report}
 use Rattle.finishing.specs.Late.{reportOf}
+use Rattle.rule.proofs.Theorems.{words-length}
 use Rattle.build.specs.Lending.{Lending}
 use Rattle.build.specs.Build.{packedOf, after}
 use Rattle.build.proofs.ManyLaws.{all-join}
 use Rattle.build.proofs.RunSound.{runs-rows, words-ids}
-use Rattle.build.proofs.Accepted.{Accepted, packedIn, storeIn, words-length, bytes-are, merges-are, out-is, ids-is, map-is, log-is}
+use Rattle.build.proofs.Accepted.{Accepted, packedIn, storeIn, bytes-are, merges-are, out-is, ids-is, map-is, log-is}
 
 -- ---- one buffer
 

@@ -16,7 +16,7 @@ use Rattle.encoder.proofs.DenseIds.{set-of-id}
 use Rattle.limits.specs.Limits.{mostRecords, mostAxes, maxRegions, maxShapes}
 use Rattle.build.proofs.PackedLaws.{Words, shared-good, own-good, Good}
 use Rattle.build.proofs.RowsBack.{RowsBack, rows-back}
-use Rattle.build.proofs.ShortLaws.{runs-most, reads-back, Storable, fit, store-short}
+use Rattle.build.proofs.ShortLaws.{Storable, fit, store-short}
 use Rattle.build.proofs.ListBack.{ListBack, list-back}
 
 -- "The n-th word of ids is the n-th set's id."

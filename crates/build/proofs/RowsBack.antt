@@ -16,7 +16,7 @@ use Rattle.shapes.proofs.WidthLaws.{cost-none}
 use Rattle.sets.specs.Set.{Set, wordOf}
 use Rattle.reader.specs.declared.reader.Reading.the-variants.{Written, NoColumn}
 use Rattle.reader.specs.Store.{readStore, valueOf}
-use Rattle.stores.proofs.Picking.{rank-less, rank-onto, kept-at}
+use Rattle.laws.proofs.RankLaws.{rank-less, rank-onto, kept-at}
 use Rattle.rows.specs.Row.{valueIn, Covers}
 use Rattle.store.specs.Placing.{Final, allRuns, idWords, names, keptOf, newIndex, storeOf}
 use Rattle.store.specs.Lent.{stored}

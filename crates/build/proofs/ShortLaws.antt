@@ -55,8 +55,12 @@ all-runs (g ∷ gs) h =
 
 -- ---- subtables
 
+-- a subtable's offset, its head and its columns
+abbrev slotMost : ℕ
+slotMost = 4 + headMost
+
 module _ (number : ℕ → ℕ) (set : ℕ → Set) where
-  slot-most : (s : Shape) (xs : List ℕ) → length s ≤ maxRegions → slotSize (slotOf number set s xs) ≤ headMost + rowMost * length xs
+  slot-most : (s : Shape) (xs : List ℕ) → length s ≤ maxRegions → slotSize (slotOf number set s xs) ≤ slotMost + rowMost * length xs
   unfolding slotSize slotOf
   slot-most s [] h = omega arith
   slot-most s (x ∷ xs) h =
@@ -67,7 +71,7 @@ module _ (number : ℕ → ℕ) (set : ℕ → Set) where
   abbrev slot : Final → Option Table
   slot r = slotOf number set (r .shape) (r .ids)
 
-  slots-most : (rs : List Final) → All (λ (r : Final). length (r .shape) ≤ maxRegions) rs → weigh slotSize (map slot rs) ≤ headMost * length rs + rowMost * length (rowIds rs)
+  slots-most : (rs : List Final) → All (λ (r : Final). length (r .shape) ≤ maxRegions) rs → weigh slotSize (map slot rs) ≤ slotMost * length rs + rowMost * length (rowIds rs)
   unfolding joinAll weigh
   slots-most [] h = omega arith
   slots-most (r ∷ rs) h = omega (arith, slot-most (r .shape) (r .ids) (h .0), length-append (r .ids) (rowIds rs), slots-most rs (h .1))
@@ -124,7 +128,7 @@ module _ (axes regions : ℕ) (coords : List (List ℕ)) (k : Packed) (s : Stora
       omega (arith, length-map (keptOf (length coords) gs) (λ r. getD coords r []), kept-most (λ r. names r gs) (length coords), s .coords-are, s .regions-few) in
       product 384 256 {a = 6 * axes} {b = length list} (omega (arith, s .axes-few)) few
 
-  slots-few : weigh slotSize slots ≤ headMost * length (allRuns gs) + rowMost * length (k .sets)
+  slots-few : weigh slotSize slots ≤ slotMost * length (allRuns gs) + rowMost * length (k .sets)
   slots-few =
       let narrow : All (λ (r : Final). length (r .shape) ≤ maxRegions) (allRuns gs) =
       all-imp (λ (r : Final) a. omega (arith, a .long, s .coords-are, s .regions-few)) (allRuns gs) (fit .sound) in

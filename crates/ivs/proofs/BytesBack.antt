@@ -26,7 +26,7 @@ use Rattle.build.specs.Lending.{Lending}
 use Rattle.build.specs.Build.{regionBytes, coordsOf, answerOf, after}
 use Rattle.ivs.specs.SetsRead.{listed, namedBy, valueAt, InStore, SetRead, SetsRead}
 use Rattle.build.proofs.Accepted.{coords-long}
-use Rattle.ivs.proofs.Demand2.{SetBack, demand2}
+use Rattle.ivs.proofs.Demand2.{demand2}
 use Rattle.ivs.specs.Demand2.{SetBack, RegionBack, InList, Demand2}
 
 -- ---- a record's value

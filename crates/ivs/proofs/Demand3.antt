@@ -31,7 +31,7 @@ use Rattle.finishing.specs.Late.{storeFor, reportOf}
 use Rattle.build.specs.Lending.{Lending}
 use Rattle.build.specs.Build.{coordsOf, packedOf, outcomeOf, answerOf, after}
 use Rattle.build.proofs.Accepted.{Accepted, accepted, packedIn, log-is, store-front, log-front}
-use Rattle.ivs.proofs.JoinSteps.{Joins, joins}
+use Rattle.ivs.proofs.JoinSteps.{joins}
 use Rattle.ivs.specs.Demand3.{homesOf, shapesJoined, MadeOf, Ruled, groupsSaid, Demand3, NoMerging}
 
 -- ---- the rule on a list of groups

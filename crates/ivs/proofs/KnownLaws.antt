@@ -14,7 +14,6 @@ use Rattle.said.proofs.SaidLaws.{value-known}
 use Rattle.told.specs.Told.{countKind}
 use Rattle.told.proofs.WordLaws.{count-here, count-past, count-most}
 use Rattle.ivs.specs.Exactly.{Exactly}
-use Rattle.ivs.specs.Passing.{Passed, saidAt}
 use Rattle.ivs.specs.Counts.{knownRegions, NamedBefore, axisRecords}
 use Rattle.ivs.proofs.Passing.{Passed, saidAt}
 use Rattle.ivs.proofs.StepLaws.{Looks, looks}
@@ -28,7 +27,7 @@ count-less job (suc i) p h d = ⊎-elim (λ (l : p < i). before (count-less job 
   where
     more : axisRecords job (suc i) ≤ suc (axisRecords job i)
     more =
-        ⊎-elim (λ (e : kind (recordAt job i) ≡ 1). omega (arith, count-here job i e)) (λ c. omega (arith, count-past job i c)) (same-or-not (kind (recordAt job i)) 1)
+        ⊎-elim (λ (e : kind (recordAt job i) ≡ 1). omega (arith, count-here 1 job i e)) (λ c. omega (arith, count-past 1 job i c)) (same-or-not (kind (recordAt job i)) 1)
 
     before : axisRecords job i < i → axisRecords job (suc i) < suc i
     before l = let y = more in omega arith
@@ -36,8 +35,8 @@ count-less job (suc i) p h d = ⊎-elim (λ (l : p < i). before (count-less job 
     here : i ≤ p → axisRecords job (suc i) < suc i
     here l =
         let e : p ≡ i = omega arith in
-        let x = count-past job i (subst (λ (n : ℕ). kind (recordAt job n) ≡ 1 → ⊥) e d) in
-        let y = count-most job i in
+        let x = count-past 1 job i (subst (λ (n : ℕ). kind (recordAt job n) ≡ 1 → ⊥) e d) in
+        let y = count-most 1 job i in
         omega arith
 
 module _ (axes mode : ℕ) (job : List ℕ) where
@@ -45,7 +44,7 @@ module _ (axes mode : ℕ) (job : List ℕ) where
   Known i p = regionOf (recordAt job p) < length (knownRegions axes job i)
 
   next-known : (i : ℕ) → (kind (recordAt job i) ≡ 1 → ⊥) → (p : ℕ) → Known i p → Known (suc i) p
-  next-known i d p h = subst (λ (n : ℕ). regionOf (recordAt job p) < length (regionList axes (n / axes) job)) (sym (count-past job i d)) h
+  next-known i d p h = subst (λ (n : ℕ). regionOf (recordAt job p) < length (regionList axes (n / axes) job)) (sym (count-past 1 job i d)) h
 
   -- every value that passed named a region with axis records
   pub all-known : (i : ℕ) (s : State) → Passed axes mode job i s → (p : ℕ) → p < i → kind (recordAt job p) ≡ 2 → Known i p

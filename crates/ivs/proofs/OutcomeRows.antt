@@ -16,7 +16,6 @@ use Rattle.finishing.specs.Late.{lateNo, lateAnswer, reportOf}
 use Rattle.build.specs.Lending.{Lending}
 use Rattle.build.specs.Build.{coordsOf, packedOf, answerFrom, outcomeOf, answerOf}
 use Rattle.ivs.specs.Exactly.{Exactly}
-use Rattle.ivs.specs.Passing.{StopsAt, EndsAs}
 use Rattle.ivs.proofs.Passing.{StopsAt, EndsAs}
 use Rattle.ivs.proofs.FailedLaws.{among}
 use Rattle.ivs.proofs.StepLaws.{stop-no}

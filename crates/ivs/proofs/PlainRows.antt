@@ -10,8 +10,9 @@ use borrow.Author.Tests.{eq-eqb}
 use Rattle.said.specs.Records.{kind, endZeros, recordAt}
 use Rattle.said.specs.Refusals.{endNo}
 use Rattle.said.specs.Job.{State}
-use Rattle.told.specs.Told.{endsBefore}
-use Rattle.told.proofs.WordLaws.{ends-one, ends-same}
+use Rattle.told.specs.Told.{countKind, endsBefore}
+
+use Rattle.told.proofs.WordLaws.{count-here, count-past}
 use Rattle.told.proofs.Bytes.{told}
 use Rattle.finishing.specs.declared.answers.Report.{Report}
 use Rattle.finishing.specs.declared.answers.Built.the-variants.{Done}
@@ -38,12 +39,12 @@ end-room r n e z =
     omega arith
 
 ends-few : (axes : ℕ) (job : List ℕ) (i : ℕ) (s : State) → Passed axes 1 job i s → endsBefore job i ≤ 65535
-unfolding Passed endsBefore
+unfolding Passed countKind
 ends-few axes job zero s p = omega arith
 ends-few axes job (suc i) s (t, p, f) = go (means axes 1 job i t p) (ends-few axes job i t p) (looks axes 1 job (recordAt job i) i t)
   where
     same : (kind (recordAt job i) ≡ 3 → ⊥) → endsBefore job i ≤ 65535 → endsBefore job (suc i) ≤ 65535
-    same d h = omega (arith, ends-same job i d)
+    same d h = omega (arith, count-past 3 job i d)
 
     go : Means axes job i t → endsBefore job i ≤ 65535 → Looks axes 1 job (recordAt job i) i t → endsBefore job (suc i) ≤ 65535
     go m h (axis k a e) = same (λ z. omega arith) h
@@ -54,7 +55,7 @@ ends-few axes job (suc i) s (t, p, f) = go (means axes 1 job i t p) (ends-few ax
         let u = end-on 1 (recordAt job i) (saidAt axes job i t) s (sym e ∙ f) in
         let n = end-room (recordAt job i) (length (saidAt axes job i t .sets)) (u .0) in
         let d : endsBefore job i ≡ 65535 → ⊥ = λ z. n (m .sets-are ∙ z) in
-        omega (arith, ends-one job i k)
+        omega (arith, count-here 3 job i k)
     go m h (unknown a b d e) = same d h
 
 -- THE LAW

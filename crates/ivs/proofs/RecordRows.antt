@@ -9,7 +9,6 @@ use Rattle.finishing.specs.declared.answers.Built.the-variants.{Refused}
 use Rattle.build.specs.Lending.{Lending}
 use Rattle.build.specs.Build.{answerOf}
 use Rattle.ivs.specs.Exactly.{Exactly}
-use Rattle.ivs.specs.Passing.{Passed, saidAt, Whole}
 use Rattle.ivs.specs.Counts.{axisRecords, knownRegions, InRegion, BadRecord, ValueHere, UnknownRegion, RegionTwice, SetsFull}
 use Rattle.ivs.specs.Counts.BadRecord.{unknown-kind, axis-zero, value-zero, end-zero, axis-order, axis-late, in-region}
 use Rattle.ivs.specs.Fits.{Fits}

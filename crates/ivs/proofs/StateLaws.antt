@@ -12,7 +12,7 @@ use Rattle.laws.proofs.Cases.{lt-or-ge, or-left, or-right, or-cases}
 use Rattle.said.specs.Records.{kind, regionOf, valueWord, recordAt}
 use Rattle.said.specs.Refusals.{axisNo}
 use Rattle.said.specs.Sets.{Region, regionList, firstLike, has}
-use Rattle.said.specs.Job.{Said, State, inAxes, inSets, Step, stop, on, unless, afterValue, afterEnd, valueStep, endStep, regionsOnly, step}
+use Rattle.said.specs.Job.{Said, State, inAxes, inSets, stop, on, unless, afterValue, afterEnd, valueStep, endStep, regionsOnly, step}
 use Rattle.said.proofs.SaidLaws.{value-known}
 use Rattle.told.proofs.WordLaws.{count-here, count-past, count-most}
 use Rattle.told.specs.Told.{countKind, endsBefore}
@@ -150,19 +150,19 @@ module _ (axes : ℕ) (job : List ℕ) (i : ℕ) where
 
     -- no axis record: the regions are the same
     regions-same : (kind r ≡ 1 → ⊥) → knownRegions axes job (suc i) ≡ knownRegions axes job i
-    regions-same d = ap (λ (n : ℕ). regionList axes (n / axes) job) (count-past job i d)
+    regions-same d = ap (λ (n : ℕ). regionList axes (n / axes) job) (count-past 1 job i d)
 
     past-axes : (kind r ≡ 1 → ⊥) → Whole axes i t → (axisRecords job (suc i) < suc i) × (axisRecords job (suc i) % axes ≡ 0)
     past-axes d w =
-        let c = count-past job i d in
-        let h = count-most job i in
+        let c = count-past 1 job i d in
+        let h = count-most 1 job i in
         (omega arith, ap (λ (n : ℕ). n % axes) c ∙ whole-count t m w)
 
     value-mean : kind r ≡ 2 → Whole axes i t → valueTold r old ≡ 0 → Means axes job (suc i) (inSets (afterValue old q′ (valueWord r)))
     unfolding saidAt afterValue has
     value-mean v w z = record {
       regions-are = m .regions-are ∙ sym (regions-same not-one);
-      sets-are = m .sets-are ∙ sym (ends-same job i (λ e. omega arith));
+      sets-are = m .sets-are ∙ sym (count-past 3 job i (λ e. omega arith));
       in-axes = λ e. absurd (not-axes _ e);
       in-sets = λ d. past-axes not-one w;
       named-is = λ q. record {
@@ -197,7 +197,7 @@ module _ (axes : ℕ) (job : List ℕ) (i : ℕ) where
     unfolding saidAt afterEnd has
     end-mean v w = record {
       regions-are = m .regions-are ∙ sym (regions-same not-one);
-      sets-are = length-append (old .sets) (old .begun ∷ []) ∙ (let a = m .sets-are in let b = ends-one job i v in omega arith);
+      sets-are = length-append (old .sets) (old .begun ∷ []) ∙ (let a = m .sets-are in let b = count-here 3 job i v in omega arith);
       in-axes = λ e. absurd (not-axes _ e);
       in-sets = λ d. past-axes not-one w;
       named-is = λ q. record {
@@ -218,8 +218,8 @@ module _ (axes : ℕ) (job : List ℕ) (i : ℕ) where
 
     axis-mean : kind r ≡ 1 → t ≡ inAxes → Means axes job (suc i) inAxes
     axis-mean v a =
-        axes-mean axes job (suc i) (count-here job i v ∙ ap suc (m .in-axes a))
-        (ends-same job i (λ e. omega arith) ∙ sym (m .sets-are) ∙ none-ended t a)
+        axes-mean axes job (suc i) (count-here 1 job i v ∙ ap suc (m .in-axes a))
+        (count-past 3 job i (λ e. omega arith) ∙ sym (m .sets-are) ∙ none-ended t a)
         (λ k e. let y : i ≡ k = omega arith in subst (λ (x : ℕ). kind (recordAt job x) ≡ 1) y v)
 
     next-means : (mode : ℕ) (s : State) → step axes mode job r i t ≡ on s → Means axes job (suc i) s
@@ -237,6 +237,6 @@ module _ (axes : ℕ) (job : List ℕ) (i : ℕ) where
         go (unknown a b c e) = five e
 
 pub means : (axes mode : ℕ) (job : List ℕ) (i : ℕ) (s : State) → Passed axes mode job i s → Means axes job i s
-unfolding Passed axisRecords endsBefore
+unfolding Passed countKind
 means axes mode job zero s p = subst (λ (x : State). Means axes job 0 x) (sym p) (axes-mean axes job 0 refl refl (λ k e. absurd (omega arith)))
 means axes mode job (suc i) s (t, p, e) = next-means axes job i t (means axes mode job i t p) mode s e

@@ -9,7 +9,6 @@ use native.Mathlib.Omega.{arith}
 use lib.Seq.{drop-drop}
 use Rattle.said.specs.Records.{recordAt}
 use Rattle.said.specs.Job.{State, inAxes, Step, stop, on, step, Outcome, refused, ended, follow, walk, Said, inSets, fine, endedSets}
-use Rattle.ivs.specs.Passing.{Passed, StopsAt, EndsAs}
 use Rattle.ivs.proofs.Passing.{Passed, StopsAt, EndsAs}
 
 module _ (axes mode : ℕ) (job : List ℕ) where

@@ -13,7 +13,8 @@ use Rattle.shapes.proofs.WidthLaws.{cost-none}
 use Rattle.stores.specs.Stores.{Parsed}
 use Rattle.stores.specs.Dropping.{picked}
 use Rattle.stores.specs.Coordinates.{readAt, Distinct}
-use Rattle.stores.proofs.Picking.{rank-less, picked-at, picked-long}
+use Rattle.laws.proofs.RankLaws.{rank-less}
+use Rattle.stores.proofs.Picking.{picked-at, picked-long}
 use Rattle.stores.proofs.ByCoordinates.{at-found, at-lost, picked-from, picked-distinct}
 use Rattle.rows.specs.Row.{Set, valueIn}
 use Rattle.store.specs.Placing.{Final, allRuns, names, newIndex, madeOf}

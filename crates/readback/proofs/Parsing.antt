@@ -15,7 +15,8 @@ use Rattle.shapes.specs.Shape.{Shape}
 use Rattle.reader.specs.Store.{columnAt, columnsOk}
 use Rattle.stores.specs.Stores.{Table, Bytes, SlotFits, Shaped, parse}
 use Rattle.stores.specs.Dropping.{picked}
-use Rattle.stores.proofs.Picking.{rank-most, picked-long, picked-all}
+use Rattle.laws.proofs.RankLaws.{rank-most}
+use Rattle.stores.proofs.Picking.{picked-long, picked-all}
 use Rattle.stores.proofs.Kept.{renumber-ok}
 use Rattle.stores.proofs.Back.{parse-place}
 use Rattle.rows.specs.Columns.{columnsOf, wordCount, bytesFor}

@@ -20,7 +20,7 @@ use Rattle.reader.specs.declared.column.Column.the-variants.{At, Missing}
 use Rattle.reader.specs.declared.reader.Reading.the-variants.{Written, NoColumn}
 use Rattle.reader.specs.Store.{find, readStore, valueOf}
 use Rattle.stores.specs.Stores.{Parsed, readRow, readTable, readParsed}
-use Rattle.stores.proofs.Picking.{rank-less, rank-same}
+use Rattle.laws.proofs.RankLaws.{rank-less, rank-same}
 use Rattle.stores.proofs.Kept.{find-map}
 use Rattle.stores.proofs.Reading.{read-parsed}
 use Rattle.rows.specs.Columns.{columnsOf, wordCount}

@@ -14,7 +14,7 @@ use Rattle.laws.specs.Bounded.{tabulate, upTo}
 use Rattle.laws.specs.Sorting.{keep}
 use Rattle.laws.proofs.BoundedLaws.{tabulate-snoc}
 use Rattle.laws.proofs.Cases.{same-or-not, lt-or-ge}
-use Rattle.stores.proofs.Picking.{rank-in, rank-out, rank-most}
+use Rattle.laws.proofs.RankLaws.{rank-in, rank-out, rank-most}
 use Rattle.store.specs.Placing.{Final, names}
 use Rattle.store.specs.Lent.{finalAt, finalsAt, markedIn, Named, Marks, Numbered}
 

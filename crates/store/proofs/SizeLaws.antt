@@ -27,7 +27,7 @@ use Rattle.shapes.specs.Lent.{Narrow, Measured, costOf}
 use Rattle.shapes.proofs.GroupLaws.{cost-measured}
 use Rattle.shapes.proofs.LentLaws.{narrow-small}
 use Rattle.laws.proofs.Products.{product}
-use Rattle.rows.specs.Subtable.{joinAll, runCount}
+use Rattle.rows.specs.Subtable.{runCount}
 use Rattle.limits.specs.Limits.{mostRecords, maxRegions}
 use Rattle.store.specs.Placing.{Final, modelOf, modelled, forecastOf}
 use Rattle.rows.specs.Lent.{Formed}

@@ -3,7 +3,7 @@ use mathlib.Core.List.{List}
 use Prim.Native.Nat.{ℕ}
 use Rattle.said.specs.Records.{recordStart}
 use Rattle.said.specs.Refusals.{endNo}
-use Rattle.said.proofs.RecordLaws.{tail-is}
+use Rattle.laws.proofs.ListLaws.{tail-is}
 use borrow.Author.Needs.{needs}
 use Rattle.records.proofs.nth.end_at.Statement.{statement}
 use Rattle.records.proofs.nth.end_at.Tie as tie

@@ -2,7 +2,7 @@ use mathlib.Core.Path.{_≡_, ap, _∙_}
 use mathlib.Core.List.{List}
 use Prim.Native.Nat.{ℕ}
 use Rattle.said.specs.Records.{recordStart, valueWord}
-use Rattle.said.proofs.RecordLaws.{tail-is}
+use Rattle.laws.proofs.ListLaws.{tail-is}
 use borrow.Author.Needs.{needs}
 use Rattle.records.proofs.nth.word_at.Statement.{statement}
 use Rattle.records.proofs.nth.word_at.Tie as tie
