@@ -72,7 +72,7 @@ module _ (axes mode : ℕ) (job : List ℕ) (records : ℕ) (s : Said) (e : walk
       all-map (λ (c : List ℕ). length c ≡ 6 * axes) (λ (q : ℕ). regionBytes (getD (s .regions) q [])) (s .used)
       (all-imp region-whole (s .used) (well .counted .used-low))
 
-  -- "Regions are equal when all coordinates are equal": those in use have coordinates of their own, and so have their bytes
+  -- no two regions in use are equal (S1): they have coordinates of their own, and so have their bytes
   pub coords-once : (x y : ℕ) → x < length (coordsOf s) → y < length (coordsOf s) → getD (coordsOf s) x [] ≡ getD (coordsOf s) y [] → x ≡ y
   unfolding coordsOf
   coords-once x y h k f = go (tri x y)

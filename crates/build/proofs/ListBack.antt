@@ -17,11 +17,10 @@ use Rattle.encoder.specs.Packed.{Packed}
 use Rattle.finishing.specs.Late.{storeFor}
 use Rattle.limits.specs.Limits.{mostAxes, maxRegions}
 
-
 pub record ListBack (axes regions : ℕ) (coords : List (List ℕ)) (k : Packed) : Type 0 where
-  -- "header with its offsets, region list": neither is refused
+  -- V1: neither header nor list is refused
   pub header : headerOk (storeFor axes coords k) ≡ true
-  -- "region list: axis count, region count (u16), then start, peak, end per axis"
+  -- the region list (B2)
   pub axes-are : axisCount (storeFor axes coords k) ≡ axes
   pub count-is : regionCount (storeFor axes coords k) ≡ length (keptOf regions (k .finals))
   pub coordinates : (q : ℕ) → q < length (keptOf regions (k .finals))

@@ -57,7 +57,7 @@ abbrev pub Words : Set → Type 0
 Words s = All (λ (e : ℕ × ℕ). e .1 < 256 ^ 4) s
 
 pub record Good (regions : ℕ) (k : Packed) : Type 0 where
-  -- "A shape has one width for each region of all sets": None, One, Two or Four
+  -- W1, W3: each width is None, One, Two or Four
   pub long : All (λ (g : Final). length (g .shape) ≡ regions) (k .finals)
   pub widths : All (λ (g : Final). Widths (g .shape)) (k .finals)
   -- each row is of an id, and its group's shape holds the values of the id's set

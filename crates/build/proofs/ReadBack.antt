@@ -1,4 +1,5 @@
--- Demand 2 of both modes, from the sets of a job on: the n-th set's id is an id, its set is the n-th set, and its row gives that back. Assumes nothing.
+-- D2 of both modes, from the sets of a job on: the n-th set's id is an id, its set is the n-th set, and its row gives
+-- that back. Assumes nothing.
 use mathlib.Core.Path.{_≡_, ap}
 use mathlib.Core.List.{List, []}
 use Prim.Native.Nat.{ℕ, _*_, _≤_, _<_}
@@ -19,7 +20,7 @@ use Rattle.build.proofs.RowsBack.{RowsBack, rows-back}
 use Rattle.build.proofs.ShortLaws.{Storable, fit, store-short}
 use Rattle.build.proofs.ListBack.{ListBack, list-back}
 
--- "The n-th word of ids is the n-th set's id."
+-- word n of ids is set n's id (S6)
 pub record IdOf (jobs : List Set) (k : Packed) (n : ℕ) : Type 0 where
   pub below : getD (k .ids) n 0 < length (k .sets)
   pub is : getD (k .sets) (getD (k .ids) n 0) [] ≡ getD jobs n []
@@ -27,12 +28,12 @@ pub record IdOf (jobs : List Set) (k : Packed) (n : ℕ) : Type 0 where
 -- the store and the map of a job's sets give each of them back
 pub record GivesBack (axes regions : ℕ) (coords : List (List ℕ)) (jobs : List Set) (k : Packed) : Type 0 where
   pub ids : (n : ℕ) → n < length jobs → IdOf jobs k n
-  -- "Read by the OpenType rules, each id's row gives back its adjustment for every region, and zero for one it never named."
+  -- each set's row, read back, has the set's values, and zero elsewhere (D2)
   pub reads : RowsBack axes regions coords k
   -- and the regions that are read are those of the list's coordinates
   pub list : ListBack axes regions coords k
 
--- "A set drops its zeros", names regions of the job, and has values of 32 bits; each region has six bytes an axis
+-- a set has no zeros (S3), names regions of the job, and has values of 32 bits; each region has six bytes an axis
 pub record Sized (axes regions : ℕ) (coords : List (List ℕ)) (jobs : List Set) : Type 0 where
   pub proper : All (Proper regions) jobs
   pub words : All (λ (s : Set). Words s) jobs

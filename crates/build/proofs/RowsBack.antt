@@ -1,5 +1,5 @@
--- Demand 2: "Read by the OpenType rules, each id's row gives back its adjustment for every region, and zero for one it never named." Over the
--- definitions alone: the store and the map of packed sets, read by the reader's definition. Assumes nothing.
+-- D2, what goes in comes out, over the definitions alone: the store and the map of packed sets, read by the reader's
+-- definition. Assumes nothing.
 use mathlib.Core.Path.{_≡_, sym, ap, subst, _∙_}
 use mathlib.Core.Bool.{true, false}
 use mathlib.Core.Logic.{_⊎_, inl, inr, ⊎-elim}
@@ -31,19 +31,19 @@ use Rattle.build.proofs.RunSound.{Spot, id-spot, ids-once}
 
 -- the row of id x: m is what the map's words were before
 pub record RowOf (axes regions : ℕ) (coords : List (List ℕ)) (k : Packed) (m : List ℕ) (x : ℕ) : Type 0 where
-  -- "Outer is the run's position, inner the row's. The id's map word is outer x 65,536 + inner."
+  -- outer, inner and the map word (F4)
   pub outer : ℕ
   pub inner : ℕ
   pub inner-below : inner < 65536
   pub word-is : getD (stored (idWords 0 (allRuns (k .finals))) m) x 0 ≡ outer * 65536 + inner
-  -- "Written with the value; NoColumn when the subtable has no column for it (meaning zero)": reading a region of the list is never refused
+  -- Written or NoColumn (V7): reading a region of the list is never refused
   pub answers : (r : ℕ) → r < regions → names r (k .finals) ≡ true
       → (readStore (storeFor axes coords k) outer inner (newIndex (k .finals) r) ≡ Written (value (wordOf (getD (k .sets) x []) r)))
       ⊎ (readStore (storeFor axes coords k) outer inner (newIndex (k .finals) r) ≡ NoColumn)
-  -- "each id's row gives back its adjustment for every region, and zero for one it never named"
+  -- the row has the set's value for every region of the list, zero where it has none (D2)
   pub gives-back : (r : ℕ) → r < regions → names r (k .finals) ≡ true
       → valueOf (readStore (storeFor axes coords k) outer inner (newIndex (k .finals) r)) ≡ value (wordOf (getD (k .sets) x []) r)
-  -- "A region not in the list counts as zero in every row": the set's value for it is zero
+  -- C6: for a region that is not in the list the set's value is zero
   pub not-listed : (r : ℕ) → names r (k .finals) ≡ false → wordOf (getD (k .sets) x []) r ≡ zeroWord
 
 -- where a region of the store's list comes from
@@ -55,9 +55,9 @@ pub record Listed (regions : ℕ) (gs : List Final) (q : ℕ) : Type 0 where
   pub is : getD (keptOf regions gs) q 0 ≡ region
 
 pub record RowsBack (axes regions : ℕ) (coords : List (List ℕ)) (k : Packed) : Type 0 where
-  -- "each id's row gives back its adjustment", whatever the map held before
+  -- each id's row is its set's, whatever the map held before
   pub rows : (m : List ℕ) → length (k .sets) ≤ length m → (x : ℕ) → x < length (k .sets) → RowOf axes regions coords k m x
-  -- "Regions no subtable names are dropped, the rest renumbered in order": each region of the list is one that is named
+  -- C5: each region of the list is one that is named
   pub listed : (q : ℕ) → q < length (keptOf regions (k .finals)) → Listed regions (k .finals) q
   -- and each that is named stands in the list under its new number, with its coordinates
   pub kept : (r : ℕ) → r < regions → names r (k .finals) ≡ true

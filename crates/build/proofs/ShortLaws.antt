@@ -124,7 +124,7 @@ module _ (axes regions : ℕ) (coords : List (List ℕ)) (k : Packed) (s : Stora
 
   list-few : 6 * axes * length list ≤ 98304
   list-few =
-      let few : length list ≤ 256 =
+      let few : length list ≤ maxRegions =
       omega (arith, length-map (keptOf (length coords) gs) (λ r. getD coords r []), kept-most (λ r. names r gs) (length coords), s .coords-are, s .regions-few) in
       product 384 256 {a = 6 * axes} {b = length list} (omega (arith, s .axes-few)) few
 

@@ -1,4 +1,5 @@
--- A whole build: its answer, and what it leaves in everything lent, for every axis count, mode and job. Document 01. Assumes nothing.
+-- A whole build: its answer, and what it leaves in everything lent, for every axis count, mode and job (RULES D1, L1 to
+-- L4). Assumes nothing.
 use mathlib.Core.Path.{_≡_}
 use mathlib.Core.List.{List, [], _∷_, _++_, map}
 use Prim.Native.Nat.{ℕ}
@@ -19,7 +20,7 @@ use Rattle.finishing.specs.Buffers.{Buffers, Lengths, lengths}
 use Rattle.finishing.specs.Late.{lateAnswer, buffersLeft}
 use Rattle.build.specs.Lending.{Lending, Left}
 
--- "then start, peak, end per axis": two bytes each
+-- start, peak, end of each axis, two bytes each (B2)
 unfoldable pub regionBytes : Region → List ℕ
 regionBytes [] = []
 regionBytes (x ∷ c) = bytesOf 2 x ++ regionBytes c
@@ -28,7 +29,7 @@ regionBytes (x ∷ c) = bytesOf 2 x ++ regionBytes c
 unfoldable pub coordsOf : Said → List (List ℕ)
 coordsOf s = map (λ q. regionBytes (getD (s .regions) q [])) (s .used)
 
--- "a mode (0 deduplicating, 1 implicit indices)"
+-- mode 0 shares rows, mode 1 does not (J2)
 unfoldable pub packedOf : ℕ → Said → Packed
 packedOf mode s = pick (eqb mode 0) (shared (length (s .used)) (s .sets)) (own (length (s .used)) (s .sets))
 

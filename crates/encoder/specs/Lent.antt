@@ -1,4 +1,5 @@
--- What lent words hold of sets that are packed: the promises of `src/`, which no reader of document 01 needs. Assumes nothing.
+-- What lent words hold of sets that are packed: the promises of `src/`, which no reader of docs/RULES.md needs. Assumes
+-- nothing.
 use mathlib.Core.Path.{_≡_}
 use mathlib.Core.List.{List, [], _∷_, map}
 use Prim.Native.Nat.{ℕ, _+_, _*_, _≤_, _<_}

@@ -1,4 +1,4 @@
--- What is made of a job's sets: ids, final groups, the log, the counts. Document 01, "Rules taken from the source".
+-- What is made of a job's sets: ids, final groups, the log, the counts (RULES S4 to S6, M1, M9, F1, F2, F5, A2).
 use mathlib.Core.Bool.{Bool, true, false, _&&_, _||_}
 use mathlib.Core.List.{List, [], _∷_, map}
 use Prim.Native.Nat.{ℕ, suc}
@@ -34,7 +34,7 @@ pub record Packed : Type 0 where
 
 -- ---- mode 0
 
--- "sets are ordered by their dense signed values from region 0 up": set x comes no later than set y
+-- the order of sets (F1): set x comes no later than set y
 unfoldable pub noLater : List Set → ℕ → ℕ → Bool
 noLater all x y = isMost (sets.order (getD all x []) (getD all y []))
 
@@ -61,18 +61,18 @@ isAmong i (j ∷ l) = eqb i j || isAmong i l
 unfoldable pub belongs : ℕ → List Group → Living → Set → Bool
 belongs regions groups g s = isAmong (numberOf (shapeOf regions s) groups) (g .origins)
 
--- a living group with the ids of its sets, "ordered by their dense signed values"
+-- a living group with the ids of its sets in the order of their values (F1)
 unfoldable pub finalOf : ℕ → List Group → List Set → Living → Final
 finalOf regions groups all g = record { shape = g .group .shape; ids = keep (λ x. belongs regions groups g (getD all x [])) (dense all) }
 
--- "groups by the order above": group g comes no later than group h
+-- the order of groups (F2): group g comes no later than group h
 unfoldable pub isAhead : Living → Living → Bool
 isAhead g h = isMost (shapes.order (g .group .shape) (h .group .shape))
 
 unfoldable pub finalsOf : ℕ → List Group → List Set → List Final
 finalsOf regions groups all = map (finalOf regions groups all) (sorted isAhead (merged groups .living))
 
--- "Mode 0: an equal earlier set gives its id again"; "group sets by shape"; joined while a pair gains
+-- mode 0: equal sets share an id (S4), groups by shape (M1), joined while a pair gains (M3)
 unfoldable pub shared : ℕ → List Set → Packed
 shared regions all = record {
   ids = sharedIds all;
@@ -87,11 +87,11 @@ shared regions all = record {
 
 -- ---- mode 1
 
--- "both sizes are the one group's cost, or 0 when there are no sets"
+-- what both sizes are in mode 1 (A2)
 unfoldable pub oneCost : ℕ → List Set → ℕ
 oneCost regions all = pick (eqb (length all) 0) 0 (groupCost (record { shape = coverOf regions all; sets = length all }))
 
--- "Mode 1: always the next id"; "one group, shape the join of all, rows in order of adding"; "N, merges and pairs are 0"
+-- mode 1: an id for each set (S5), one group with its rows as the sets come (F5), nothing merged (A2)
 unfoldable pub own : ℕ → List Set → Packed
 own regions all = record {
   ids = ownIds all;

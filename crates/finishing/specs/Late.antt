@@ -1,5 +1,5 @@
--- What is written of a sound job, once its sets are packed, and when it is refused after all. Document 01, "Refusal numbers": "Then 8, then 10 to 14
--- in order." Assumes nothing.
+-- What is written of a sound job, once its sets are packed, and when it is refused after all (RULES R10 to R14, in the
+-- order T4). Assumes nothing.
 use mathlib.Core.List.{List, [], _∷_}
 use Prim.Native.Nat.{ℕ, _-_, _*_}
 use lib.Dec.{eqb, leb}
@@ -27,8 +27,8 @@ storeFor axes coords k = storeOf axes coords (λ x. getD (k .sets) x []) (k .fin
 unfoldable pub regionsKept : List (List ℕ) → Packed → ℕ
 regionsKept coords k = length (keptOf (length coords) (k .finals))
 
--- SHAPES_FULL "mode 0, more than 1,024 distinct shapes"; IDS_SHORT "fewer words than end records"; MAP_SHORT "fewer words than distinct ids";
--- LOG_SHORT "mode 0, N at least 1, fewer than 3 x (N-1) words"; OUT_SHORT "fewer bytes than the store takes". (In mode 1 N is 0.)
+-- R10 to R14 in their order: too many shapes; then ids, map, log and output too short. (In mode 1 N is 0, so neither
+-- R10 nor R13 is given.)
 unfoldable pub lateNo : ℕ → List (List ℕ) → Packed → Lengths → ℕ
 lateNo axes coords k l =
     firstFailed
@@ -39,8 +39,7 @@ lateNo axes coords k l =
     ∷ (leb (length (storeFor axes coords k)) (l .out), outShort)
     ∷ [])
 
--- "Done (0) gives: store bytes, subtables (the count in the store, a null one included), regions kept, distinct ids, N, merges, pairs weighed,
--- modelled size before and after merging, forecast."
+-- the ten counts of a done build (A1)
 unfoldable pub reportOf : ℕ → List (List ℕ) → Packed → Report
 reportOf axes coords k = record {
   bytes = length (storeFor axes coords k);
@@ -55,7 +54,7 @@ reportOf axes coords k = record {
   forecast = forecastOf axes (regionsKept coords k) (k .finals);
 }
 
--- "The place is .. 0"
+-- the place is 0 (T5)
 unfoldable pub lateAnswer : ℕ → List (List ℕ) → Packed → Lengths → Built
 lateAnswer axes coords k l = pick (eqb (lateNo axes coords k l) 0) (Done (reportOf axes coords k)) (Refused (lateNo axes coords k l) 0)
 

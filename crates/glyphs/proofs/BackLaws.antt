@@ -227,7 +227,7 @@ module _ (ws : List ℕ) (words : All (λ w. w < 4294967296) ws) (some : 0 < len
     unfolding placeOf
     entry-read = rw (head .start-is, head .count-is, size-is) there
 
-    -- "Reading what was written returns every glyph's word": the word of glyph g, or the last where g is past the end
+    -- what is written reads back (G8): the word of glyph g, or the last where g is past the end
     pub glyph-back : readMap (mapBytes ws) g ≡ Word (getD ws (entryNo (length ws) g) 0)
     unfolding readMap
     glyph-back =
@@ -236,7 +236,7 @@ module _ (ws : List ℕ) (words : All (λ w. w < 4294967296) ws) (some : 0 < len
         (word-back bits (getD ws j 0) (all-getD (λ w. w < 4294967296) ws j 0 words inside) (format-holds ws words .inners j inside)
         ∙ ap Word (kept-back ws some g))
 
--- "for an empty list the crate's empty map is written, and reading it is refused"
+-- no words give the empty map (G5), and reading it is refused (G9)
 pub empty-map : mapBytes [] ≡ 0 ∷ 0 ∷ 0 ∷ 0 ∷ []
 unfolding mapBytes headFor entryFormat mapSize mapBits innerBits leadingZeros countOf keptOf entriesOf bytesFor entryOf ored bytesOf
 empty-map = refl

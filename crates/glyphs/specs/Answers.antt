@@ -1,5 +1,4 @@
--- What writing a glyph map answers, and what it leaves in the output. Document 02, "Glyph map": "40 too many glyphs, then 41 output short".
--- Assumes nothing.
+-- What writing a glyph map answers, and what it leaves in the output. RULES R40, then R41 (G5). Assumes nothing.
 use mathlib.Core.List.{List}
 use Prim.Native.Nat.{ℕ}
 use lib.Dec.{ltb}
@@ -10,7 +9,7 @@ use Rattle.glyphs.specs.Packing.{mapBytes}
 use Rattle.glyphs.specs.declared.write.Glyphs.{Glyphs}
 use Rattle.glyphs.specs.declared.write.Glyphs.the-variants.{Done, Refused}
 
--- "At most 1,048,576 glyphs"
+-- the most glyphs of a map (R40)
 abbrev pub maxGlyphs : ℕ
 maxGlyphs = 1048576
 

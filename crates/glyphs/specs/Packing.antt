@@ -1,5 +1,5 @@
--- A glyph map as bytes: OpenType's DeltaSetIndexMap, in the words of document 02, "Glyph map". A word says where a glyph's deltas stand: outer x
--- 65,536 + inner. Nothing here knows how a map is read.
+-- A glyph map as bytes: OpenType's DeltaSetIndexMap, by RULES G1 to G5. A word says where a glyph's deltas stand: outer
+-- x 65,536 + inner. Nothing here knows how a map is read.
 use mathlib.Core.List.{List, [], _∷_, _++_}
 use Prim.Native.Nat.{ℕ, zero, suc, _+_, _-_, _*_, _/_, _%_, _^_}
 use lib.Dec.{eqb, ltb}
@@ -23,7 +23,7 @@ ored all (w ∷ ws) = ored (bitOr all w) ws
 abbrev pub together : List ℕ → ℕ
 together ws = ored 0 ws
 
--- "The inner width is the bits that all inner numbers together need, at least 1."
+-- the inner bits, at least 1 (G2)
 abbrev pub bitsOf : ℕ → ℕ
 bitsOf n = 16 - leadingZeros 16 n
 
@@ -34,7 +34,7 @@ innerBits all = pick (eqb (bitsOf (innerOf all)) 0) 1 (bitsOf (innerOf all))
 unfoldable pub entryOf : ℕ → ℕ → ℕ
 entryOf bits w = outerOf w * 2 ^ bits + innerOf w
 
--- "the fewest .. entry bytes", 1 to 4
+-- the bytes of an entry, 1 to 4 (G3)
 unfoldable pub bytesFor : ℕ → ℕ
 bytesFor e = pick (ltb e 256) 1 (pick (ltb e 65536) 2 (pick (ltb e 16777216) 3 4))
 
@@ -48,7 +48,7 @@ mapSize ws = bytesFor (entryOf (mapBits ws) (together ws))
 unfoldable pub entryFormat : ℕ → ℕ → ℕ
 entryFormat size bits = (size - 1) * 16 + (bits - 1)
 
--- "trailing repeats dropped": how many of the first n words stay
+-- trailing repeats go (G4): how many of the first n words stay
 unfoldable pub keptOf : List ℕ → ℕ → ℕ
 keptOf ws zero = 0
 keptOf ws (suc zero) = 1
@@ -57,7 +57,7 @@ keptOf ws (suc (suc n)) = pick (eqb (getD ws (suc n) 0) (getD ws n 0)) (keptOf w
 unfoldable pub countOf : List ℕ → ℕ
 countOf ws = keptOf ws (length ws)
 
--- the head: format, entry format, and the count in k bytes; "format 0 up to 65,535 entries then left and format 1 above"
+-- the head: format, entry format, and the count in k bytes; which format goes by the count (G5)
 abbrev pub headOf : ℕ → ℕ → ℕ → ℕ → List ℕ
 headOf format k form n = bytesOf 1 format ++ (bytesOf 1 form ++ bytesOf k n)
 
@@ -67,7 +67,7 @@ headFor form n = pick (ltb n 65536) (headOf 0 2 form n) (headOf 1 4 form n)
 unfoldable pub headSize : ℕ → ℕ
 headSize n = pick (ltb n 65536) 4 6
 
--- "one entry per glyph"
+-- the entries, one behind the other (G3)
 unfoldable pub entriesOf : ℕ → ℕ → List ℕ → List ℕ
 entriesOf size bits [] = []
 entriesOf size bits (w ∷ ws) = bytesOf size (entryOf bits w) ++ entriesOf size bits ws

@@ -1,5 +1,6 @@
--- What the bytes of a glyph map mean: the word of one glyph. Written from OpenType's chapter on common table formats for font variations,
--- "Associating target items to variation data", with the refusals of document 02. Nothing here knows how a map is written.
+-- What the bytes of a glyph map mean: the word of one glyph. Written from OpenType's chapter on common table formats
+-- for font variations, "Associating target items to variation data", by RULES G6 and G7. Nothing here knows how a map
+-- is written.
 use mathlib.Core.Bool.{Bool, not, _&&_}
 use mathlib.Core.List.{List}
 use Prim.Native.Nat.{ℕ, _+_, _-_, _*_, _/_, _%_, _^_}
@@ -30,7 +31,7 @@ bitsIn s = formIn s % 16 + 1
 abbrev pub sizeIn : List ℕ → ℕ
 sizeIn s = formIn s / 16 + 1
 
--- "the format is above 1, a reserved entry bit is set, the map runs past the end or is empty"
+-- a sound map, and not an empty one (G7)
 unfoldable pub mapOk : List ℕ → Bool
 mapOk s =
     leb 4 (length s) &&
@@ -39,7 +40,7 @@ mapOk s =
     (leb (startOf (formatIn s)) (length s) &&
     (not (eqb (countIn s) 0) && leb (startOf (formatIn s) + countIn s * sizeIn s) (length s)))))
 
--- "a glyph past the end takes the last entry"
+-- the entry of a glyph (G6)
 unfoldable pub entryNo : ℕ → ℕ → ℕ
 entryNo n g = pick (ltb g n) g (n - 1)
 

@@ -1,4 +1,4 @@
--- Mode 1's one group. Document 01: "Mode 1: one group, shape the join of all".
+-- Mode 1's one group has all shapes joined (RULES F5).
 use mathlib.Core.List.{List, [], _∷_}
 use Prim.Native.Nat.{ℕ}
 use lib.ListN.{replicate}

@@ -1,5 +1,5 @@
--- Groups. Document 01: "A shape has one width for each region of all sets. .. Mode 0: group sets by shape; order groups by row cost, then by
--- width compared from the last region down to the first; number them from 0." The number of a group is its place in the list.
+-- The shape of a set (RULES W3), and the starting groups of mode 0 in their order (M1). The number of a group is its
+-- place in the list.
 use mathlib.Core.Path.{_≡_}
 use mathlib.Core.List.{List, [], _∷_, map}
 use Prim.Native.Nat.{ℕ, _+_}

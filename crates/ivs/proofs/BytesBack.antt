@@ -1,4 +1,5 @@
--- Demand 2 from the job's bytes to the store's (specs/SetsRead.antt): what the job says (`told`) meets what is read back (Demand2). Assumes nothing.
+-- D2 from the job's bytes to the store's (specs/SetsRead.antt): what the job says (`told`) meets what is read back
+-- (Demand2). Assumes nothing.
 use mathlib.Core.Path.{_≡_, refl, sym, ap, _∙_}
 use mathlib.Core.List.{List, [], map}
 use mathlib.Core.Logic.{inl, inr, ⊎-elim}

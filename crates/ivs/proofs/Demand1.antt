@@ -1,4 +1,4 @@
--- Demand 1 (specs/Demand1.antt), of every call. Assumes nothing.
+-- D1 (specs/Demand1.antt), of every call. Assumes nothing.
 use native.Mathlib.Omega.{arith}
 use Rattle.build.specs.Lending.{Lending}
 use Rattle.ivs.specs.Demand1.{Table, Kept, Demand1}

@@ -1,4 +1,5 @@
--- Demand 2 (specs/Demand2.antt): what lies in the lent memory after a done build is read by the definition of the row reader. Assumes nothing.
+-- D2 (specs/Demand2.antt): what lies in the lent memory after a done build is read by the definition of the row reader.
+-- Assumes nothing.
 use mathlib.Core.Path.{_≡_, sym, ap, subst, _∙_}
 use mathlib.Core.Logic.{_⊎_}
 use mathlib.Core.List.{List, []}

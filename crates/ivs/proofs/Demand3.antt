@@ -1,4 +1,5 @@
--- Demand 3 (specs/Demand3.antt), of the merges that a done build makes and logs; and what mode 1 answers for them. Assumes nothing.
+-- D3 (specs/Demand3.antt), of the merges that a done build makes and logs; and what mode 1 answers for them. Assumes
+-- nothing.
 use mathlib.Core.Path.{_≡_, refl, sym, ap, subst, _∙_}
 use mathlib.Core.Option.{some}
 use mathlib.Core.List.{List, [], map, _∷_}

@@ -1,5 +1,5 @@
--- Document 01's P1 to P12, as one statement over one list: for each a whole job, byte by byte, and what a build of it answers and leaves in
--- everything lent, by the definitions. Assumes nothing.
+-- P1 to P12 of docs/RULES.md, as one statement over one list: for each a whole job, byte by byte, and what a build of
+-- it answers and leaves in everything lent, by the definitions. Assumes nothing.
 use mathlib.Core.Path.{_≡_, refl}
 use mathlib.Core.List.{List, [], _∷_, _++_, map}
 use Prim.Native.Nat.{ℕ, suc, _-_, _/_}
@@ -180,7 +180,7 @@ asks =
     ∷ ask 0 (one R0 (plus 0) ∷ []) 24 2 2 1
     -- P5: {R0:-128, R1:128}
     ∷ ask 0 (two R0 (less 128) R1 (plus 128) ∷ []) 43 2 2 1
-    -- P6: 127 is One, -129 Two
+    -- P6: {R0:127}, and another job: {R0:-129}
     ∷ ask 0 (one R0 (plus 127) ∷ []) 33 2 2 1
     ∷ ask 0 (one R0 (less 129) ∷ []) 34 2 2 1
     -- P7: {R0:100, R1:70000}
@@ -197,7 +197,7 @@ asks =
     ∷ one R1 (less 1) ∷ one R1 (less 2) ∷ one R1 (less 3) ∷ one R1 (less 4) ∷ []) 58 10 10 4
     -- P11: {R0:1} and {R0:1, R1:0}
     ∷ ask 0 (one R0 (plus 1) ∷ two R0 (plus 1) R1 (plus 0) ∷ []) 33 3 2 1
-    -- P12: an empty set and {R0:10}
+    -- P12: the empty set, {R0:10}
     ∷ ask 0 ([] ∷ one R0 (plus 10) ∷ []) 34 3 3 4
     ∷ []
 
@@ -205,13 +205,13 @@ unfoldable pub answers : List Left
 answers = map built asks
 
 pub examples : answers ≡
-    -- P1: 12 bytes, no subtables
+    -- P1: 12 bytes, nothing in the list
     left (counts 12 0 0 0 0 0 0 0 0 12)
     (0 ∷ 1 ∷ 0 ∷ 0 ∷ 0 ∷ 8 ∷ 0 ∷ 0
     ∷ 0 ∷ 1 ∷ 0 ∷ 0
     ∷ x ∷ x ∷ [])
     (x ∷ []) (x ∷ []) (x ∷ []) 37
-    -- P2: 16 bytes, one null offset
+    -- P2: 16 bytes, of which four are the offset 0
     ∷ left (counts 16 1 0 0 0 0 0 0 0 16)
     (0 ∷ 1 ∷ 0 ∷ 0 ∷ 0 ∷ 0x0C ∷ 0 ∷ 1 ∷ 0 ∷ 0 ∷ 0 ∷ 0
     ∷ 0 ∷ 1 ∷ 0 ∷ 0
@@ -224,7 +224,7 @@ pub examples : answers ≡
     ∷ 0 ∷ 1 ∷ 0 ∷ 0 ∷ 0 ∷ 1 ∷ 0 ∷ 0 ∷ 0x0A
     ∷ x ∷ x ∷ [])
     (0 ∷ x ∷ []) (0 ∷ x ∷ []) (x ∷ []) 81
-    -- P4: 22 bytes, one row of no bytes, no regions kept
+    -- P4: 22 bytes; the row has none, and no region is kept
     ∷ left (counts 22 1 0 1 1 0 0 10 10 22)
     (0 ∷ 1 ∷ 0 ∷ 0 ∷ 0 ∷ 0x0C ∷ 0 ∷ 1 ∷ 0 ∷ 0 ∷ 0 ∷ 0x10
     ∷ 0 ∷ 1 ∷ 0 ∷ 0
@@ -258,7 +258,7 @@ pub examples : answers ≡
     ∷ 0 ∷ 1 ∷ 0x80 ∷ 1 ∷ 0 ∷ 2 ∷ 0 ∷ 1 ∷ 0 ∷ 0 ∷ 0 ∷ 1 ∷ 0x11 ∷ 0x70 ∷ 0 ∷ 0x64
     ∷ x ∷ x ∷ [])
     (0 ∷ x ∷ []) (0 ∷ x ∷ []) (x ∷ []) 106
-    -- P8: log (0, 1, 8), size 26 to 18, 42 bytes; id 0 at (0,1), id 1 at (0,0)
+    -- P8: 42 bytes; one merge, which gains 8; the second set's row is first
     ∷ left (counts 42 1 2 2 2 1 1 26 18 42)
     (0 ∷ 1 ∷ 0 ∷ 0 ∷ 0 ∷ 0x0C ∷ 0 ∷ 1 ∷ 0 ∷ 0 ∷ 0 ∷ 0x1C
     ∷ 0 ∷ 1 ∷ 0 ∷ 2 ∷ 0 ∷ 0 ∷ 0x40 ∷ 0 ∷ 0x40 ∷ 0 ∷ 0xC0 ∷ 0 ∷ 0xC0 ∷ 0 ∷ 0 ∷ 0
@@ -287,7 +287,7 @@ pub examples : answers ≡
     ∷ 0 ∷ 1 ∷ 0 ∷ 0 ∷ 0 ∷ 1 ∷ 0 ∷ 0 ∷ 1
     ∷ x ∷ x ∷ [])
     (0 ∷ 0 ∷ x ∷ []) (0 ∷ x ∷ []) (x ∷ []) 162
-    -- P12: gain 9, one subtable, the zero row first
+    -- P12: a gain of 9; the row of zero is first
     ∷ left (counts 32 1 1 2 2 1 1 23 14 32)
     (0 ∷ 1 ∷ 0 ∷ 0 ∷ 0 ∷ 0x0C ∷ 0 ∷ 1 ∷ 0 ∷ 0 ∷ 0 ∷ 0x16
     ∷ 0 ∷ 1 ∷ 0 ∷ 1 ∷ 0 ∷ 0 ∷ 0x40 ∷ 0 ∷ 0x40 ∷ 0

@@ -11,7 +11,6 @@ use Rattle.said.specs.Records.{kind, endZeros, recordAt}
 use Rattle.said.specs.Refusals.{endNo}
 use Rattle.said.specs.Job.{State}
 use Rattle.told.specs.Told.{countKind, endsBefore}
-
 use Rattle.told.proofs.WordLaws.{count-here, count-past}
 use Rattle.told.proofs.Bytes.{told}
 use Rattle.finishing.specs.declared.answers.Report.{Report}

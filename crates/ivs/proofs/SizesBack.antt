@@ -1,4 +1,5 @@
--- Demand 3's size after merging is that of the groups that are written (specs/Sized.antt): the rule's (Demand3) is that of the sets (`sizes`). Assumes nothing.
+-- D3's size after merging is that of the groups that are written (specs/Sized.antt): the rule's (Demand3) is that of
+-- the sets (`sizes`). Assumes nothing.
 use mathlib.Core.Path.{_≡_, refl, ap}
 use mathlib.Core.List.{List}
 use Prim.Native.Nat.{ℕ}

@@ -2,6 +2,7 @@
 use mathlib.Core.Path.{_≡_}
 use Prim.Native.Nat.{ℕ, _≤_, _<_}
 use lib.ListN.{getD}
+use Rattle.limits.specs.Limits.{maxItems}
 use Rattle.finishing.specs.declared.answers.Report.{Report}
 use Rattle.build.specs.Lending.{Lending}
 use Rattle.build.specs.Build.{after}
@@ -9,7 +10,7 @@ use Rattle.ivs.specs.Counts.{endRecords}
 
 pub record Plain (c : Lending) (r : Report) : Type 0 where
   -- R9 lets no more through
-  pub sets-few : endRecords (c .job) ≤ 65535
+  pub sets-few : endRecords (c .job) ≤ maxItems
   pub ids-are : r .ids ≡ endRecords (c .job)
   -- set n has the id n, and id x stands at outer 0, inner x
   pub id-is : (n : ℕ) → n < endRecords (c .job) → getD (after c .lent .ids) n 0 ≡ n

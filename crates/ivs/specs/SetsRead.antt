@@ -1,4 +1,5 @@
--- A job's sets in the memory that a done build leaves, from the bytes of the one to the bytes of the other: demand 2 with nothing in between. Assumes nothing.
+-- A job's sets in the memory that a done build leaves, from the bytes of the one to the bytes of the other: D2 with
+-- nothing in between. Assumes nothing.
 use mathlib.Core.Path.{_≡_}
 use mathlib.Core.List.{List}
 use mathlib.Core.Logic.{_⊎_}

@@ -1,4 +1,4 @@
--- What looking at a job answers, and what it leaves in work. Document 01, "Refusal numbers".
+-- What looking at a job answers, and what it leaves in work (RULES R1 to R9, L2).
 use mathlib.Core.List.{List, [], _∷_}
 use Prim.Native.Nat.{ℕ}
 use lib.Dec.{eqb}
@@ -13,6 +13,6 @@ unfoldable pub checkedOf : Outcome → Checked
 checkedOf (refused n i) = Refused n i
 checkedOf (fine s) = Sound (length (s .regions)) (length (s .sets)) (s .values)
 
--- "work untouched by 1 to 4 and all zeros to its last word after every other answer"
+-- work is left by R1 to R4, and all zeros after any other answer (L2)
 unfoldable pub workLeft : ℕ → ℕ → ℕ → ℕ → List ℕ → List ℕ
 workLeft axes mode bytes pairs w = pick (eqb (earlyNo axes mode bytes (length w) pairs) 0) (replicate (length w) 0) w

@@ -1,4 +1,4 @@
--- What lent words hold of a whole job: the promises of `src/`, which no reader of document 01 needs.
+-- What lent words hold of a whole job: the promises of `src/`, which no reader of docs/RULES.md needs.
 use mathlib.Core.Path.{_≡_}
 use mathlib.Core.List.{List, [], _∷_}
 use Prim.Native.Nat.{ℕ, _+_, _*_}

@@ -1,4 +1,4 @@
-// A job looked at and not built: where it is refused, or how much it says. Document 01's refusals 1 to 9.
+// A job looked at and not built: where it is refused, or how much it says (RULES R1 to R9).
 use crate::early::clear;
 use crate::early::early_no;
 use crate::whole::read_job;

@@ -1,5 +1,5 @@
--- Demand 3 of document 01, of what `optimize` answers and leaves: each sentence a field. (That a living group never has the joined shape is
--- `no-fold` of rule's Theorems.antt, for shapes that differ at the start.) Assumes nothing.
+-- RULES D3, of what `optimize` answers and leaves: a field for each part of it. (That a living group never has the
+-- joined shape is `no-fold` of rule's Theorems.antt, for shapes that differ at the start.) Assumes nothing.
 use mathlib.Core.Path.{_≡_, _∙_}
 use mathlib.Core.List.{List}
 use Prim.Native.Nat.{ℕ, _+_, _-_, _*_, _/_, _≤_, _<_}
@@ -16,19 +16,19 @@ use Rattle.merging.specs.Optimized.{Optimized}
 use Rattle.merging.proofs.Unique.{starting-length}
 
 pub record Demand (t : Tables) (merges weighed before after : ℕ) (w : List ℕ) : Type 0 where
-  -- "each merge's pair is ahead of every living pair and gains at least 1", the log has these merges and no others
+  -- M3: each merge's pair gains and is ahead of every living pair; the log has these merges and no others
   pub each : Merges (start (starting t w)) (merged (starting t w))
-  -- "the total falls by exactly the gain"
+  -- the modelled size falls by the gains of the log
   pub falls : after + saved (merged (starting t w) .log) ≡ before
-  -- "at the end every two living groups gain 0"
+  -- M6: at the end no two living groups gain
   pub done : EachTwo (λ g h. gainOf g h ≡ 0) (merged (starting t w) .living)
-  -- "merges < N, none for N = 0"
+  -- fewer merges than groups, and none of none
   pub fewer-merges : 0 < t .groups → merges < t .groups
   pub none-of-none : t .groups ≡ 0 → merges ≡ 0
-  -- "pairs weighed = N(N-1)/2 + M(N-1) - M(M+1)/2 after M merges and at most (N-1)²"
+  -- M7: pairs weighed, and at most (N-1)²
   pub pairs-weighed : weighed ≡ t .groups * (t .groups - 1) / 2 + merges * (t .groups - 1) - merges * (merges + 1) / 2
   pub pairs-most : weighed ≤ (t .groups - 1) * (t .groups - 1)
-  -- "each starting group is in exactly one living group, whose shape is the join of its starting shapes and whose count is their sum"
+  -- every starting group is in one living group and in no other, which has their shapes joined and their sets together
   pub one-group : (i : ℕ) → i < t .groups → homes i (merged (starting t w) .living) ≡ 1
   pub made-of : All (Made (starting t w)) (merged (starting t w) .living)
 

@@ -1,4 +1,4 @@
--- P8 of document 01 in words: what `optimize` asks can be met. Assumes nothing.
+-- P8 of docs/RULES.md in words: what `optimize` asks can be met. Assumes nothing.
 use mathlib.Core.Path.{_≡_, refl}
 use mathlib.Core.List.{List, [], _∷_}
 use native.Mathlib.Omega.{arith}

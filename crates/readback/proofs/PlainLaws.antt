@@ -1,5 +1,5 @@
--- Mode 1. Document 01: "Mode 1: one group, shape the join of all, rows in order of adding, outer 0. No sets: one null subtable." Its group
--- holds every id in order. Of at most 65,535 sets (one more is SETS_FULL) it is one subtable, and id x is row x of it. Assumes nothing.
+-- Mode 1 (RULES F5). Its group holds every id in order. Of at most 65,535 sets (one more is SETS_FULL) it is one
+-- subtable, and id x is row x of it. Assumes nothing.
 use mathlib.Core.Path.{_≡_, refl, ap, _∙_}
 use mathlib.Core.List.{List, [], _∷_, append-nil}
 use mathlib.Core.Logic.{⊎-elim}
@@ -35,7 +35,7 @@ count-one n h = ⊎-elim
     (λ (p : 1 ≤ n). omega (arith, run-some n (omega arith)))
     (lt-or-ge n 1)
 
--- "A group of more than 65,535 sets is then cut into runs": one of no more is one run
+-- F3: a group of at most 65,535 sets is one run
 pub runs-one : (s : Shape) (xs : List ℕ) → length xs ≤ maxItems → runsOf (record { shape = s; ids = xs }) ≡ one s xs
 unfolding runsOf tabulate
 runs-one s xs h = rw (count-one (length xs) h) (ap (one s) (take-all maxItems xs h))

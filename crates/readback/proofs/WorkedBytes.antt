@@ -1,4 +1,5 @@
--- Document 01's P1 to P5 and P7: store bytes, map words and forecasts by the definitions, as one statement. Assumes nothing.
+-- P1 to P5 and P7 of docs/RULES.md: store bytes, map words and forecasts by the definitions, as one statement. Assumes
+-- nothing.
 use mathlib.Core.Path.{_≡_, refl}
 use mathlib.Core.List.{List, [], _∷_, _++_, map}
 use Prim.Native.Nat.{ℕ, _+_, _-_}

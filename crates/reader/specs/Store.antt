@@ -1,5 +1,6 @@
--- What the bytes of an item variation store mean: the value of one region in one row. Written from OpenType's chapter on common table
--- formats for font variations, and in the order of tests of document 01, "Reading one value". Nothing here knows how a store is written.
+-- What the bytes of an item variation store mean: the value of one region in one row. Written from OpenType's chapter
+-- on common table formats for font variations, and in the order of tests of RULES V1 to V6. Nothing here knows how a
+-- store is written.
 use mathlib.Core.Path.{_≡_}
 use mathlib.Core.Bool.{Bool, true, false, not, _&&_}
 use mathlib.Core.List.{List, [], _∷_}
@@ -31,7 +32,7 @@ axisCount s = be 2 s (listAt s)
 abbrev pub regionCount : List ℕ → ℕ
 regionCount s = be 2 s (listAt s + 2)
 
--- Document 01: "header with its offsets, region list .. runs past the end, format not 1, region list offset 0"
+-- V1: header and list lie inside, the format is 1, and there is a list
 unfoldable pub headerOk : List ℕ → Bool
 headerOk s =
     leb 8 (length s) &&
@@ -49,7 +50,7 @@ abbrev pub absent : Column → Bool
 absent (At j) = false
 absent Missing = true
 
--- Document 01: "a region index not below the list's count or named twice"
+-- V4: each region number is one of the list's, and none occurs twice
 unfoldable pub columnsOk : ℕ → List ℕ → Bool
 columnsOk regions [] = true
 columnsOk regions (x ∷ xs) = ltb x regions && (absent (find x 0 xs) && columnsOk regions xs)
@@ -83,7 +84,7 @@ columnCount s at = be 2 s (at + 4)
 abbrev pub regionsAt : List ℕ → ℕ → List ℕ
 regionsAt s at = words s (at + 6) (columnCount s at)
 
--- Document 01: "the named subtable runs past the end, .. columns of full word width exceed the region count"
+-- V4: the subtable lies inside, and has no more columns of full width than columns
 unfoldable pub subtableOk : List ℕ → ℕ → ℕ → Bool
 subtableOk s at regions =
     leb (at + 6) (length s) &&
@@ -98,7 +99,7 @@ cell s at inner j =
     (be (columnBytes (wordAt s at) j) s
     (at + 6 + 2 * columnCount s at + inner * columnAt (wordAt s at) (columnCount s at) + columnAt (wordAt s at) j))
 
--- "NoColumn when the subtable has no column for it"
+-- V7: NoColumn, or the value that is written
 abbrev pub inColumn : List ℕ → ℕ → ℕ → Column → Reading
 inColumn s at inner Missing = NoColumn
 inColumn s at inner (At j) = Written (cell s at inner j)
@@ -113,8 +114,7 @@ noRow = 21
 abbrev pub noRegion : ℕ
 noRegion = 22
 
--- "20 BAD_STORE .. 21 NO_ROW: outer or inner too large, or a null subtable. 22 NO_REGION. Header and list are tested first, then outer, the
--- subtable, inner, the region."
+-- R20, R21, R22, in the order V1 to V6
 unfoldable pub readSubtable : List ℕ → ℕ → ℕ → ℕ → Reading
 readSubtable s at inner region =
     pick (eqb at 0) (Refused noRow)
@@ -129,7 +129,7 @@ readStore s outer inner region =
     (pick (leb (be 2 s 6) outer) (Refused noRow)
     (readSubtable s (be 4 s (8 + 4 * outer)) inner region))
 
--- Document 01's number of an answer, 0 where nothing is refused, and its value: NoColumn means zero.
+-- The refusal's number of an answer, 0 where nothing is refused, and its value: NoColumn means zero.
 unfoldable pub refusalOf : Reading → ℕ
 refusalOf (Written v) = 0
 refusalOf NoColumn = 0

@@ -111,7 +111,7 @@ module _ (s : Shape) where
   across v w h l m a b =
       all-imp (λ p i. all-imp (λ q j. record { wide = omega (arith, i .width, j .width); first = λ e. absurd (omega (arith, i .width, j .width)) }) m b) l a
 
-  -- "wider first, then by region index"
+  -- C1: the wider column is first, and of equal ones that of the smaller index
   pub columns-ordered : EachTwo (Ahead s) (columnsOf s)
   unfolding columnsOf
   columns-ordered =

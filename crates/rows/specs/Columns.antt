@@ -1,5 +1,4 @@
--- The columns of a shape. Document 01: "Columns: wider first, then by region index; None has no column." and "With a Four column, Four is
--- written in 4 bytes and One and Two in 2; word count is the Fours plus 0x8000. Else Two in 2, One in 1; word count is the Twos."
+-- The columns of a shape (RULES C1), how many bytes each takes (C2), and the word count (C3).
 use mathlib.Core.Bool.{Bool, true, false}
 use mathlib.Core.List.{List, [], _∷_, _++_}
 use Prim.Native.Nat.{ℕ, _+_}

@@ -1,4 +1,4 @@
--- The bytes of one row. Document 01: "When a set is laid into its row, a region with no column in the row is skipped."
+-- The bytes of one row (RULES C4): a region without a column is passed over.
 use mathlib.Core.Path.{_≡_}
 use mathlib.Core.List.{List, [], _∷_, _++_}
 use Prim.Native.Nat.{ℕ, _^_, _≤_, _<_}

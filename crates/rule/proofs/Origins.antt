@@ -1,5 +1,5 @@
--- Where the living groups came from: each starting group is in exactly one of them, whose shape is the join of its starting shapes and whose set
--- count is their sum. Assumes nothing.
+-- Where the living groups came from: every starting group is in one of them and in no other, which has their shapes
+-- joined and as many sets as they together. Assumes nothing.
 use mathlib.Core.Path.{_≡_, refl, sym, ap, ap₂, _∙_}
 use mathlib.Core.Option.{some}
 use mathlib.Core.Logic.{⊎-elim}
@@ -121,7 +121,7 @@ number-made all k (x ∷ xs) h =
       number-made all (suc k) xs (λ j l. let q : k + suc j ≡ suc k + j = omega arith in rw q at (h (suc j) (omega arith))),
     )
 
--- a living group's shape is the join of its starting shapes, and its set count the sum of theirs
+-- a living group has the shapes of its starting groups joined, and as many sets as they together
 pub made : (k : ℕ) (xs : List Group) → All (Made xs) (run k (start xs) .living)
 unfolding start
 made k xs =

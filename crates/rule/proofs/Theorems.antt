@@ -1,4 +1,4 @@
--- The theorems of merging: demand 3 of document 01, over the definition of specs/Model.antt. Assumes nothing.
+-- The theorems of merging: RULES D3, over the definition of specs/Model.antt. Assumes nothing.
 use mathlib.Core.Path.{_≡_, refl, sym, ap, _∙_}
 use mathlib.Core.Logic.{_⊎_, inl, inr, ⊎-elim}
 use mathlib.Core.Option.{Option, none, some}
@@ -270,7 +270,7 @@ module _ (w k : ℕ) (xs : List Group) (p : Proper w xs) where
   unfolding start
   shapes-distinct = run-unlike w k (start xs) (number-all _ 0 xs (p .full)) (number-two _ 0 xs (p .distinct)) .1
 
-  -- "If a living group already has the joined shape, the source folds it in": no living group ever has it
+  -- M8: no living group ever has the joined shape
   pub no-fold : (c : Pair) → choice (run k (start xs) .living) ≡ some c → All (λ h. h .group .shape ≡ join (c .first .group .shape) (c .second .group .shape) → ⊥) (c .rest)
   no-fold c e = merge-unlike w (run k (start xs)) c e run-full shapes-distinct
 

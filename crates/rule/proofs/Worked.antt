@@ -1,4 +1,5 @@
--- P8, P9, P10 and P12 of document 01: what the rule merges there, computed. The one file of this crate that looks into `shapes`.
+-- P8, P9, P10 and P12 of docs/RULES.md: what the rule merges there, computed. The one file of this crate that looks
+-- into `shapes`.
 use mathlib.Core.Path.{_≡_, refl}
 use mathlib.Core.List.{List, [], _∷_, map}
 use Rattle.laws.specs.Pick.{pick}

@@ -1,5 +1,5 @@
--- Merging, as document 01 says it, on lists: numbers, living groups, the best pair, the next unused number. It computes. What a group costs, what
--- two gain and what they become is `shapes`' own; nothing here looks into it. Assumes nothing.
+-- Merging (RULES M1 to M9), on lists: numbers, living groups, the best pair, the next unused number. It computes. What
+-- a group costs, what two gain and what they become is `shapes`' own; nothing here looks into it. Assumes nothing.
 use mathlib.Core.Path.{_≡_}
 use mathlib.Core.Option.{Option, none, some}
 use mathlib.Core.List.{List, [], _∷_, _++_, map}
@@ -54,7 +54,7 @@ unfoldable pub pairs : List Living → List Pair
 pairs [] = []
 pairs (g ∷ l) = map (pairWith g) (outs l) ++ map (keepPair g) (pairs l)
 
--- "join the one of greatest gain, ties to the smallest first number, then the smallest second": the pair a, b is not behind the pair g, h.
+-- M3: the pair a, b is not behind the pair g, h.
 abbrev pub Ahead : Living → Living → Living → Living → Type 0
 Ahead a b g h = (gainOf g h ≤ gainOf a b) × (gainOf g h ≡ gainOf a b → (a .num ≤ g .num) × (a .num ≡ g .num → b .num ≤ h .num))
 
@@ -74,7 +74,7 @@ unfoldable pub best : List Pair → Option Pair
 best [] = none
 best (c ∷ cs) = lead c (best cs)
 
--- "While a living pair has gain above 0"
+-- M3: a gain above 0 is worth a merge
 unfoldable pub worth : Pair → ℕ → Option Pair
 worth c zero = none
 worth c (suc n) = some c
@@ -89,7 +89,7 @@ choice l = ifWorth (best (pairs l))
 
 -- ---- the run
 
--- "The log gets first number, second number, gain."
+-- what the log says of a merge (M5)
 pub record Entry : Type 0 where
   pub first : ℕ
   pub second : ℕ
@@ -105,8 +105,8 @@ pub record State : Type 0 where
 unfoldable pub entry : Pair → Entry
 entry c = record { first = c .first .num; second = c .second .num; gain = gainOf (c .first) (c .second) }
 
--- "Both die; the joined group takes the next unused number and is weighed with each living group." What follows there, "If a living group already
--- has the joined shape, the source folds it in", is no part of this: it never happens (`no-fold` of proofs/Theorems.antt).
+-- M4: both die, and the joined group, under the next unused number, is weighed with each living group. The source's
+-- fold (M8) is no part of this: it never happens (`no-fold` of proofs/Theorems.antt).
 unfoldable pub merge : State → Pair → State
 merge s c =
     record {
@@ -128,12 +128,12 @@ unfoldable pub run : ℕ → State → State
 run zero s = s
 run (suc k) s = run k (step s)
 
--- "number them from 0" (here from k)
+-- M1: numbers from 0 on (here from k)
 unfoldable pub number : ℕ → List Group → List Living
 number k [] = []
 number k (x ∷ xs) = record { num = k; group = x; origins = k ∷ [] } ∷ number (suc k) xs
 
--- "Weigh each pair."
+-- M2: every pair is weighed
 unfoldable pub start : List Group → State
 start xs = record { living = number 0 xs; next = length xs; log = []; weighed = length (pairs (number 0 xs)) }
 

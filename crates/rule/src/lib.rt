@@ -1,1 +1,1 @@
-// The rule of merging on lists. The crate has no code: specs/ has the rule as document 01 says it, proofs/ its theorems.
+// The rule of merging on lists. The crate has no code: specs/ has the rule (RULES M1 to M9), proofs/ its theorems.

@@ -1,5 +1,4 @@
--- What the definitions mean: regions that have one first are those of equal coordinates. Document 01: "Regions are equal when all coordinates
--- are equal." Assumes nothing.
+-- What the definitions mean: regions that have one first are those of equal coordinates (RULES S1). Assumes nothing.
 use mathlib.Core.Path.{_≡_, refl, sym, ap, ap₂, _∙_}
 use mathlib.Core.Bool.{Bool, true, false, _&&_}
 use mathlib.Core.List.{List, [], _∷_}

@@ -156,7 +156,7 @@ ends : (axes mode : ℕ) (job : List ℕ) (records : ℕ) (s : Said) → 0 < axe
     → walk axes mode job job records 0 inAxes ≡ fine s → Counts axes job records s × (s .named ≡ [])
 unfolding firstLike
 ends axes mode job records s some bytes e =
-    walk-keeps axes mode job (λ i. i ≤ 256 * axes) (Counts axes job)
+    walk-keeps axes mode job (λ i. i ≤ maxRegions * axes) (Counts axes job)
     (λ i _ z h. axis-more axes some job (recordAt job i) i (rw (getD-drop (12 * i) job 1 0) (bytes (12 * i + 1))) z)
     (λ i z h. begin axes some job i h z)
     (λ i s _ z c. value-more axes some job i s c (firstLike (s .regions) (regionOf (recordAt job i))) (valueWord (recordAt job i))

@@ -171,13 +171,13 @@ apart l (x ∷ u) f d = (
 -- ---- the law
 
 pub record WellSaid (axes : ℕ) (job : List ℕ) (records : ℕ) (s : Said) : Type 0 where
-  -- "A set drops its zeros and is kept sorted by region index": sorted, no zeros, regions in use
+  -- S3: sorted, no zeros, regions in use
   pub good : Good s
-  -- "signed 32-bit value"
+  -- values of 32 bits (J1)
   pub words-low : All Low (s .sets)
-  -- "start, peak, end (signed 16-bit each)" of each axis
+  -- start, peak and end of each axis, of 16 bits (J1)
   pub coordinates-are : All (Coordinates axes) (s .regions)
-  -- "Regions are equal when all coordinates are equal": no two in use are
+  -- S1: no two regions in use are equal
   pub used-apart : EachTwo (λ x y. getD (s .regions) x [] ≡ getD (s .regions) y [] → ⊥) (s .used)
   -- what is in use are regions of the job; how many there are of everything
   pub counted : Counts axes job records s

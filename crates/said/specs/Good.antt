@@ -1,4 +1,4 @@
--- What is true of the sets of a job after each of its records. Document 01: "A set drops its zeros and is kept sorted by region index."
+-- What is true of the sets of a job after each of its records (RULES S3).
 use mathlib.Core.Path.{_≡_}
 use mathlib.Core.Bool.{true}
 use lib.ListN.{length, getD}

@@ -1,4 +1,4 @@
--- A job, record by record: where it is refused, or what it says. Document 01, "The job" and "Refusal numbers".
+-- A job, record by record: where it is refused, or what it says (RULES J1 to J6, R1 to R9, T1 to T3, T5).
 use mathlib.Core.Bool.{Bool, true, false}
 use mathlib.Core.List.{List, [], _∷_, _++_}
 use Prim.Native.Nat.{ℕ, zero, suc, _+_, _*_, _/_, _%_}
@@ -48,7 +48,7 @@ afterValue s q w = record {
   begun = withValue (indexIn q (withUse (s .used) q)) w (s .begun);
 }
 
--- "An end record is one `add_deltas` call with the values of its set."
+-- an end record ends a set (J6)
 unfoldable pub afterEnd : Said → Said
 afterEnd s = record { regions = s .regions; used = s .used; sets = s .sets ++ (s .begun ∷ []); values = s .values; named = []; begun = [] }
 
@@ -60,7 +60,7 @@ valueStep r s =
 unfoldable pub endStep : ℕ → List ℕ → Said → Step
 endStep mode r s = unless (endNo mode r (length (s .sets))) (inSets (afterEnd s))
 
--- "BAD_RECORD: unknown kind, .. an axis record .. after the first value or end"
+-- R5: an unknown kind, or an axis record that comes too late
 unfoldable pub setStep : ℕ → List ℕ → Said → Step
 setStep mode r s = pick (eqb (kind r) valueKind) (valueStep r s) (pick (eqb (kind r) endKind) (endStep mode r s) (stop badRecord))
 
@@ -68,7 +68,7 @@ setStep mode r s = pick (eqb (kind r) valueKind) (valueStep r s) (pick (eqb (kin
 unfoldable pub regionsOnly : List Region → Said
 regionsOnly regions = record { regions = regions; used = []; sets = []; values = 0; named = []; begun = [] }
 
--- Record i, of the bytes r. "BAD_RECORD: .. a value or end inside an unfinished region"
+-- Record i, of the bytes r. R5: a value or end where a region is not complete
 unfoldable pub step : ℕ → ℕ → List ℕ → List ℕ → ℕ → State → Step
 step axes mode job r i inAxes =
     pick (eqb (kind r) axisKind) (unless (axisNo axes r i) inAxes)
@@ -80,7 +80,7 @@ pub data Outcome : Type 0 where
   refused : ℕ → ℕ → Outcome
   fine : Said → Outcome
 
--- the job ends after i records. "UNFINISHED: the job ends inside a set or a region"; its place is the record count
+-- the job ends after i records. R8: within a region or a set; its place is the record count
 unfoldable pub endedSets : ℕ → Said → List ℕ → Outcome
 endedSets i s [] = fine s
 endedSets i s (q ∷ named) = refused unfinished i
@@ -93,13 +93,14 @@ unfoldable pub follow : ℕ → Step → (State → Outcome) → Outcome
 follow i (stop n) go = refused n i
 follow i (on s) go = go s
 
--- so many records from record i on, from a state: `rest` are the bytes from that record on. "the earliest bad record answers"
+-- so many records from record i on, from a state: `rest` are the bytes from that record on. The first bad one decides
+-- (T2)
 unfoldable pub walk : ℕ → ℕ → List ℕ → List ℕ → ℕ → ℕ → State → Outcome
 walk axes mode job rest zero i s = ended axes job i s
 walk axes mode job rest (suc left) i s =
     follow i (step axes mode job rest i s) (λ s′. walk axes mode job (afterRecord rest) left (i + 1) s′)
 
--- "1 to 4 are tested in that order. Then records from the first on"; the place of 1 to 4 is 0
+-- T1, then T2; the place of R1 to R4 is 0 (T5)
 unfoldable pub outcomeFrom : ℕ → Outcome → Outcome
 outcomeFrom zero o = o
 outcomeFrom (suc n) o = refused (suc n) 0

@@ -1,5 +1,6 @@
--- A record of a job. Document 01: "records of 12 bytes, no header. Numbers are big-endian. Byte 0 is the kind." This file alone knows
--- where in a record things stand, and where in a job a record does. Below, `r` are the bytes from a record's first one on.
+-- A record of a job (RULES J1): 12 bytes, the highest byte of a number first, the kind in byte 0. This file alone knows
+-- where in a record things stand, and where in a job a record does. Below, `r` are the bytes from a record's first one
+-- on.
 use mathlib.Core.Bool.{Bool, _&&_}
 use mathlib.Core.List.{List, [], _∷_}
 use Prim.Native.Nat.{ℕ, _+_, _*_, _/_, _%_}
@@ -71,7 +72,7 @@ endKind = 3
 unfoldable pub zeros : List ℕ → ℕ → ℕ → Bool
 zeros r p n = allBelow n (λ t. eqb (getD r (p + t) 0) 0)
 
--- "1 axis: region, axis, 0, start, peak, end (signed 16-bit each), two zero bytes"
+-- an axis record: region, axis, start, peak, end; its other bytes are 0
 abbrev pub regionOf : List ℕ → ℕ
 regionOf r = getD r 1 0
 
@@ -105,7 +106,7 @@ axisCoords from a = from + recordBytes * a
 abbrev pub coordsLong : ℕ
 coordsLong = 6
 
--- "2 value: region, 0, 0, signed 32-bit value, four zero bytes"
+-- a value record: region and value; its other bytes are 0
 unfoldable pub valueZeros : List ℕ → Bool
 valueZeros r = zeros r 2 2 && zeros r 8 4
 
@@ -113,6 +114,6 @@ valueZeros r = zeros r 2 2 && zeros r 8 4
 unfoldable pub valueWord : List ℕ → ℕ
 valueWord r = word (signed 4 (be 4 r 4))
 
--- "3 end of set: 0, 0, 0, eight zero bytes"
+-- an end record: all bytes but the kind are 0
 unfoldable pub endZeros : List ℕ → Bool
 endZeros r = zeros r 1 11

@@ -1,4 +1,4 @@
--- Refusals: their numbers, and the tests of one record. Document 01, "Refusal numbers".
+-- Refusals: their numbers, and the tests of one record (RULES R1 to R14, T1, T2).
 use mathlib.Core.Bool.{Bool, true, false, not, _&&_}
 use mathlib.Core.List.{List, [], _∷_}
 use mathlib.Core.Path.{_≡_}
@@ -61,7 +61,7 @@ unfoldable pub firstFailed : List (Bool × ℕ) → ℕ
 firstFailed [] = 0
 firstFailed (t ∷ l) = pick (t .0) (firstFailed l) (t .1)
 
--- "The work needed is a published number of words that depends on the record count alone"
+-- the published number of words (J7)
 unfoldable pub publishedWork : ℕ → ℕ
 publishedWork n = 16 * n + min n maxShapes * min n maxShapes
 
@@ -69,7 +69,7 @@ publishedWork n = 16 * n + min n maxShapes * min n maxShapes
 unfoldable pub workWords : ℕ → ℕ
 workWords n = pick (leb n mostRecords) (publishedWork n) 0
 
--- "1 to 4 are tested in that order": axis count, mode, the job's bytes, the words of work and the pair records
+-- T1: axis count, mode, the job's bytes, the words of work and the pair records
 unfoldable pub earlyNo : ℕ → ℕ → ℕ → ℕ → ℕ → ℕ
 earlyNo axes mode bytes work pairs =
     firstFailed
@@ -80,12 +80,12 @@ earlyNo axes mode bytes work pairs =
     ∷ (leb pairRecords pairs, workShort)
     ∷ [])
 
--- Record i, an axis record. "BAD_RECORD: .. a zero byte not zero, an axis record out of its order"; "region 0 axis 0, up to its last axis,
--- then region 1, and so on"
+-- Record i, an axis record. R5: its other bytes are 0, and its numbers are the next ones (J4)
 unfoldable pub axisNo : ℕ → List ℕ → ℕ → ℕ
 axisNo axes r i = firstFailed ((eqb (regionOf r) (i / axes) && eqb (axisOf r) (i % axes) && axisZeros r, badRecord) ∷ [])
 
--- A value record, where there are so many regions, and the set has named its region already or not. "at one record 5 before 6 before 7"
+-- A value record, where there are so many regions, and the set has named its region already or not. R5, R6, R7 in this
+-- order (T2)
 unfoldable pub valueNo : List ℕ → ℕ → Bool → ℕ
 valueNo r regions named =
     firstFailed
@@ -94,6 +94,6 @@ valueNo r regions named =
     ∷ (not named, regionTwice)
     ∷ [])
 
--- An end record after so many others. "SETS_FULL: mode 1, the 65,536th end record"; "5 before 9"
+-- An end record after so many others. R5, then R9 (T2)
 unfoldable pub endNo : ℕ → List ℕ → ℕ → ℕ
 endNo mode r sets = firstFailed ((endZeros r, badRecord) ∷ (not (eqb mode 1 && eqb sets maxItems), setsFull) ∷ [])

@@ -1,4 +1,4 @@
--- What a job says: its regions, and their indexes; its sets. Document 01, "Rules taken from the source".
+-- What a job says: its regions, and their indexes; its sets (RULES S1 to S3).
 use mathlib.Core.Bool.{Bool, true, false, _&&_, _||_}
 use mathlib.Core.List.{List, [], _∷_, _++_}
 use Prim.Native.Nat.{ℕ, zero, suc}
@@ -11,7 +11,7 @@ use Rattle.said.specs.Records.{afterRecord, afterRegion, startOf, peakOf
 
 -- ---- regions
 
--- a region's coordinates: start, peak and end at each axis, "taken as they are"
+-- a region's coordinates: start, peak and end at each axis, whatever they are (J5)
 abbrev pub Region : Type 0
 Region = List ℕ
 
@@ -25,7 +25,7 @@ unfoldable pub regionList : ℕ → ℕ → List ℕ → List Region
 regionList axes zero rest = []
 regionList axes (suc n) rest = coordinates axes rest ∷ regionList axes n (afterRegion axes rest)
 
--- "Regions are equal when all coordinates are equal."
+-- equal regions have equal coordinates (S1)
 unfoldable pub sameRegion : Region → Region → Bool
 sameRegion [] [] = true
 sameRegion [] (y ∷ b) = false
@@ -46,7 +46,7 @@ unfoldable pub has : ℕ → List ℕ → Bool
 has q [] = false
 has q (p ∷ l) = eqb q p || has q l
 
--- "A region gets the next index at its first use in a set, even by a value of 0." The regions in use, by index:
+-- Indexes go by first use, also by a zero (S2). The regions in use, by index:
 unfoldable pub withUse : List ℕ → ℕ → List ℕ
 withUse used q = pick (has q used) used (used ++ (q ∷ []))
 
@@ -62,6 +62,6 @@ unfoldable pub placed : ℕ → ℕ → Set → Set
 placed k w [] = (k, w) ∷ []
 placed k w (e ∷ s) = pick (ltb k (e .0)) ((k, w) ∷ e ∷ s) (e ∷ placed k w s)
 
--- "A set drops its zeros and is kept sorted by region index." The word w of a value for region index k goes into a set:
+-- No zeros, in rising order of region index (S3). The word w of a value for region index k goes into a set:
 unfoldable pub withValue : ℕ → ℕ → Set → Set
 withValue k w s = pick (eqb w zeroWord) s (placed k w s)

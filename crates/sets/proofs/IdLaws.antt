@@ -184,7 +184,7 @@ unfolding distinctFrom
 distinct-append known [] m = refl
 distinct-append known (s ∷ l) m = distinct-append (withSet known s) l m
 
--- THE LAWS of demand: ids are below the number of distinct sets, and equal exactly for equal sets
+-- THE LAWS: ids are below the number of distinct sets, and equal exactly for equal sets
 pub id-below : (sets : List Set) (k : ℕ) → k < length sets → place (getD sets k []) (distinct sets) < length (distinct sets)
 id-below sets k h = all-getD (λ s. place s (distinct sets) < length (distinct sets)) sets k [] (distinct-has [] sets) h
 

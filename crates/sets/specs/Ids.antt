@@ -1,5 +1,4 @@
--- Ids. Document 01: "Mode 0: an equal earlier set gives its id again, else the next id. Mode 1: always the next id. The n-th word of ids is
--- the n-th set's id."
+-- Ids (RULES S4 to S6): in mode 0 equal sets share one, in mode 1 each set has its own.
 use mathlib.Core.List.{List, [], _∷_, _++_}
 use Prim.Native.Nat.{ℕ, suc}
 use lib.ListN.{length}

@@ -1,4 +1,4 @@
--- The order of sets. Document 01: "each group's sets are ordered by their dense signed values from region 0 up". Words are ordered as the
+-- The order of sets (RULES F1): by their values from region 0 up, zero where a set has none. Words are ordered as the
 -- values are (`word-order` of laws).
 use mathlib.Core.Path.{_≡_}
 use mathlib.Core.List.{List, [], _∷_}

@@ -1,4 +1,4 @@
--- A set of adjustments. Document 01: "A set drops its zeros and is kept sorted by region index."
+-- A set of adjustments (RULES S3): no zeros, in rising order of region index.
 use mathlib.Core.Path.{_≡_}
 use mathlib.Core.Bool.{Bool, true, false, _&&_}
 use mathlib.Core.List.{List, [], _∷_}

@@ -1,5 +1,5 @@
--- P8 and P9 of document 01, computed: the starting groups, the group of each id, the final groups with their ids, the sizes; and the theorem, which has
--- the size of what is written. Assumes nothing.
+-- P8 and P9 of docs/RULES.md, computed: the starting groups, the group of each id, the final groups with their ids, the
+-- sizes; and the theorem, which has the size of what is written. Assumes nothing.
 use mathlib.Core.Path.{_≡_, refl}
 use mathlib.Core.List.{List, [], _∷_, map}
 use Prim.Native.Nat.{ℕ, _+_}

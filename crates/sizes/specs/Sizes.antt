@@ -1,5 +1,5 @@
--- The groups of the rule have counts of sets, the final groups have ids: they are the same numbers, so the modelled size is that of the groups that
--- are written. Document 01, "Rules taken from the source". Assumes nothing.
+-- The groups of the rule have counts of sets, the final groups have ids: they are the same numbers, so the modelled
+-- size is that of the groups that are written (RULES M9). Assumes nothing.
 use mathlib.Core.Path.{_≡_}
 use mathlib.Core.List.{List, [], _∷_}
 use Prim.Native.Nat.{ℕ, suc, _≤_, _<_}

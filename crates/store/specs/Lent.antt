@@ -148,7 +148,7 @@ coordsOf src axes w starts regions = tabulate 0 regions (λ r. coordsAt src axes
 abbrev pub headerBytes : ℕ → List ℕ
 headerBytes runs = bytesOf 2 1 ++ (bytesOf 4 (8 + 4 * runs) ++ bytesOf 2 runs)
 
--- groups, sets and coordinates lie in what is lent, within document 01's bounds
+-- groups, sets and coordinates lie in what is lent, within the bounds of J3 and R10
 pub record Ready (src : List ℕ) (axes starts : ℕ) (w : List ℕ) (regions groups count index : ℕ) : Type 0 where
   pub axes-most : axes ≤ mostAxes
   pub regions-most : regions ≤ maxRegions

@@ -30,7 +30,7 @@ runsOf g = tabulate 0 (runCount (length (g .ids))) (λ k. record { shape = g .sh
 unfoldable pub allRuns : List Final → List Final
 allRuns gs = joinAll (map runsOf gs)
 
--- "Outer is the run's position, inner the row's. The id's map word is outer x 65,536 + inner."
+-- outer, inner and the map word (F4)
 unfoldable pub inRun : ℕ → ℕ → List ℕ → List (ℕ × ℕ)
 inRun outer inner [] = []
 inRun outer inner (x ∷ xs) = (x, outer * 65536 + inner) ∷ inRun outer (suc inner) xs
@@ -39,7 +39,7 @@ unfoldable pub idWords : ℕ → List Final → List (ℕ × ℕ)
 idWords outer [] = []
 idWords outer (r ∷ rs) = inRun outer 0 (r .ids) ++ idWords (suc outer) rs
 
--- ---- regions: "Regions no subtable names are dropped, the rest renumbered in order."
+-- ---- regions that are kept (C5)
 
 unfoldable pub names : ℕ → List Final → Bool
 names r [] = false
@@ -70,7 +70,7 @@ madeOf axes coords set gs = record {
 unfoldable pub storeOf : ℕ → List (List ℕ) → (ℕ → Set) → List Final → List ℕ
 storeOf axes coords set gs = place (madeOf axes coords set gs)
 
--- ---- "The forecast is 12 + 6 x axes x regions kept + the model's cost of each final group written + 4 per null subtable."
+-- ---- the forecast (A3)
 
 unfoldable pub modelOf : Final → ℕ
 modelOf g = pick (eqb (length (g .ids)) 0) 4 (groupCost (record { shape = g .shape; sets = length (g .ids) }))

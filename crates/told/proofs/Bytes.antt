@@ -1,4 +1,5 @@
--- Demand 2's first half: from the job's bytes to the sets that it says, every value at its region and zero elsewhere. Assumes nothing.
+-- D2's first half: from the job's bytes to the sets that it says, every value at its region and zero elsewhere. Assumes
+-- nothing.
 use mathlib.Core.Path.{_≡_, refl, sym, ap, _∙_}
 use mathlib.Core.Bool.{true}
 use mathlib.Core.List.{List, [], _∷_}

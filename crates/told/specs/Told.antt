@@ -1,5 +1,5 @@
--- What a taken job says, by its bytes: each value record's word stands in its set, at its region's index, and nothing else does. Document 01,
--- "The job" and "Rules taken from the source". Assumes nothing.
+-- What a taken job says, by its bytes: each value record's word stands in its set, at its region's index, and nothing
+-- else does (RULES J1, J4 to J6, S1 to S3). Assumes nothing.
 use mathlib.Core.Path.{_≡_}
 use mathlib.Core.List.{List, []}
 use Prim.Native.Nat.{ℕ, zero, suc, _*_, _/_, _≤_, _<_}

@@ -117,12 +117,12 @@ distinct-in s t there = distinct-all (λ x. List·Memᴰ x (distinct t)) [] s tt
 abbrev pub notLater : Set → Set → Bool
 notLater a b = isMost (order a b)
 
--- the distinct sets "ordered by their dense signed values from region 0 up"
+-- the distinct sets in the order of their values (F1)
 abbrev pub line : List Set → List Set
 line sets = sorted notLater (distinct sets)
 
 module _ (regions : ℕ) where
-  -- "A set drops its zeros and is kept sorted by region index."
+  -- S3: no zeros, in rising order of region index
   abbrev pub Fine : Set → Type 0
   Fine a = Ascending 0 a × Proper regions a
 

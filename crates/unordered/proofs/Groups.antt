@@ -57,7 +57,7 @@ module _ (n : ℕ) where
           let none = share-ahead n h g gs (m .0) l (flip-less n (g .shape) (h .shape) (l .0) (m .0) o) (b .0) in
           omega (arith, e (h .shape), share-self h))
 
--- THE LAW: "group sets by shape" gives the same groups
+-- THE LAW: the starting groups (M1) are the same
 pub groups-same : (regions : ℕ) (s t : List Set) → All (Fine regions) s → All (Fine regions) t
     → ((x : Set) → List·Memᴰ x s → List·Memᴰ x t) → ((x : Set) → List·Memᴰ x t → List·Memᴰ x s) → groupsOf regions s ≡ groupsOf regions t
 groups-same regions s t p q there back =

@@ -84,15 +84,14 @@ module _ (axes : ℕ) (a b : Lending) (s t : Said) (c d : Report) (same : SameSe
     places = places-same;
   }
 
--- "with equal coordinates": where the regions in use, by first use, have these numbers as coordinates, their bytes are equal
+-- of equal coordinates: where the regions in use, by first use, have these numbers as coordinates, their bytes are
+-- equal
 pub regions-same : (s t : Said) → map (λ q. getD (s .regions) q []) (s .used) ≡ map (λ q. getD (t .regions) q []) (t .used) → coordsOf s ≡ coordsOf t
 unfolding coordsOf
 regions-same s t e =
     sym (map-map regionBytes (λ q. getD (s .regions) q []) (s .used)) ∙ ap (map regionBytes) e ∙ map-map regionBytes (λ q. getD (t .regions) q []) (t .used)
 
--- THE THEOREM: "two accepted jobs over the same axis count, whose sets have the same contents as a collection (repeats ignored) and whose regions come into
--- first use in the same order with equal coordinates, give the same store bytes, log and counts, and equal sets map to equal places", in mode 0,
--- whatever is lent for either
+-- THE THEOREM: RULES U1, in mode 0, whatever is lent for either
 pub unordered : (a b : Lending) (s t : Said) (c d : Report) → a .mode ≡ 0 → b .mode ≡ 0 → a .axes ≡ b .axes → Bytes (a .job) → Bytes (b .job)
     → outcomeOf a ≡ fine s → outcomeOf b ≡ fine t → SameSets s t → answerOf a ≡ Done c → answerOf b ≡ Done d
     → SameBuild a b s t c d

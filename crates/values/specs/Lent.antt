@@ -1,4 +1,4 @@
--- What lent words hold of a job so far: the promises of `src/`, which no reader of document 01 needs.
+-- What lent words hold of a job so far: the promises of `src/`, which no reader of docs/RULES.md needs.
 use mathlib.Core.Path.{_≡_}
 use mathlib.Core.Bool.{false}
 use mathlib.Core.List.{List, [], _∷_}

@@ -1,4 +1,5 @@
--- What lent words hold of a job's regions, and of its sets: the promises of `src/`, which no reader of document 01 needs.
+-- What lent words hold of a job's regions, and of its sets: the promises of `src/`, which no reader of docs/RULES.md
+-- needs.
 use mathlib.Core.Path.{_≡_}
 use mathlib.Core.List.{List, [], _∷_}
 use Prim.Native.Nat.{ℕ, suc, _+_, _-_, _*_, _/_, _≤_, _<_}

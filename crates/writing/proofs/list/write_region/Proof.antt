@@ -5,7 +5,6 @@ use Rattle.laws.specs.Bounded.{tabulate}
 use Rattle.laws.specs.Range.{seg}
 use Rattle.laws.specs.Joining.{joinAll}
 use Rattle.laws.proofs.RangeLaws.{length-seg}
-
 use Rattle.said.specs.Records.{axisCoords, coordsLong}
 use Rattle.store.specs.Lent.{chain, coordsAt}
 use Rattle.rows.proofs.PutLaws.{Putting}
