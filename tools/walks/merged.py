@@ -1,10 +1,10 @@
 """The structs and functions of merging that walks of several crates name."""
 from kinds import BOOL, Fn, PAIR, WORD, struct
 
-TABLES = struct("slots", "tables.Tables", "L", "mach-tables")
+TABLES = struct("slots", "tables.MergeTables", "L", "mach-tables")
 TALLY = struct("waits", "Tally", "Y", "mach-tally")
 
-MERGED = struct("merging", "encoder.Merged", "D", "mach-merged")
+MERGED = struct("merging", "optimizing.Merged", "D", "mach-merged")
 
 LENT = [("pairs", "&mut Pair"), ("work", "& u32"), ("tb", TABLES)]
 ENOUGH = ("enough", "room (tb .groups) ≤ length pairs")
@@ -24,4 +24,4 @@ offer_all = Fn("offer_all", LENT + [("k", WORD), ("at", TALLY)], TALLY, "Offered
 weigh_each = Fn("weigh_each", LENT, TALLY, "Opened tb (r .waiting) (r .weighed) work pairs pairs′", [("opening", "Opening tb work"), ENOUGH], crate="waits", apart=True)
 optimize = Fn("optimize", [("pairs", "&mut Pair"), ("work", "&mut u32"), ("tb", TABLES)], MERGED,
               ["Optimized tb (r .merges) (r .weighed) (r .before) (r .after) work work′", "SameFrom pairs (room (tb .groups)) pairs′"], [("ready", "Ready tb work"), ENOUGH],
-              crate="merging", apart=True, inside="encoder")
+              crate="merging", apart=True, inside="optimizing")

@@ -11,7 +11,7 @@ use Rattle.laws.specs.Signed.{zeroWord}
 use Rattle.sets.specs.Order.{orderNone, orderHead, order}
 use Rattle.sets.specs.Lent.{entries}
 use Rattle.sets.proofs.SetLaws.{by-less, by-more, by-rest, entries-cons}
-use Rattle.comparing.specs.Inner.{Next}
+use Rattle.comparing.specs.LentWay.{Next}
 
 -- the case of two heads
 module _ (w : List ℕ) (a m b n : ℕ) (p : 0 < m) (q : 0 < n) where

@@ -7,7 +7,7 @@ ghost use lib.ListN.{length};
 ghost use Rattle.sets.specs.Set.{wordOf};
 ghost use Rattle.sets.specs.Order.{order, Compared};
 ghost use Rattle.sets.specs.Lent.{entries, setOf, Stored, atMost};
-ghost use Rattle.comparing.specs.Inner.{Next};
+ghost use Rattle.comparing.specs.LentWay.{Next};
 
 // The word of zero, which is what a set has at a region that it does not name.
 const ZERO: u32 = 0x8000_0000;
@@ -70,7 +70,7 @@ fn next(work: &[u32], a: usize, m: usize, b: usize, n: usize) -> Step
 }
 
 // How m entries from index a on stand to n from b on.
-fn walk(work: &[u32], a0: usize, m0: usize, b0: usize, n0: usize) -> Order
+fn along(work: &[u32], a0: usize, m0: usize, b0: usize, n0: usize) -> Order
     requires { ⌜ a0 + 2 * m0 ≤ length (now work) ⌝ }
     requires { ⌜ b0 + 2 * n0 ≤ length (now work) ⌝ }
     ensures { λ r. ⌜ r ≡ order (entries a0 m0 (now (work .entry))) (entries b0 n0 (now (work .entry))) ⌝ }
@@ -106,7 +106,7 @@ pub fn compare(work: &[u32], index: usize, x: usize, y: usize) -> Order
     let m = wide(work[index + 2 * x + 1]);
     let b = wide(work[index + 2 * y]);
     let n = wide(work[index + 2 * y + 1]);
-    walk(work, a, m, b, n)
+    along(work, a, m, b, n)
 }
 
 // Whether set x is at most set y.

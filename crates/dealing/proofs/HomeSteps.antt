@@ -7,10 +7,10 @@ use native.Mathlib.Omega.{arith}
 use lib.ListN.{length, getD, set, length-set}
 use lib.Seq.{getD-set-same, getD-set-other}
 use borrow.Author.Count.{below-more}
-use Rattle.laws.specs.Range.{Apart, Only}
+use Rattle.laws.specs.LentRange.{Apart, Only}
 use Rattle.laws.proofs.RangeLaws.{only-refl, only-trans, only-set}
 use Rattle.dealing.specs.declared.homes.HomeTables.{HomeTables}
-use Rattle.dealing.specs.Homes.{SpotsFit, SpotsAt, slotFrom, heirPlace, HomesFit, HomesAt, HeadsFit, HeadsAt}
+use Rattle.dealing.specs.LentHomes.{SpotsFit, SpotsAt, slotFrom, heirPlace, HomesFit, HomesAt, HeadsFit, HeadsAt}
 
 -- ---- spots
 

@@ -3,7 +3,7 @@ use laws::wide;
 ghost use mathlib.Core.Path.{_≡_};
 ghost use Prim.Native.Nat.{ℕ, _+_, _*_, _<_, _≤_};
 ghost use lib.ListN.{length, getD};
-ghost use Rattle.dealing.specs.Homes.{SpotsFit, SpotsAt, HomesFit, HomesAt, HeadsFit, HeadsAt};
+ghost use Rattle.dealing.specs.LentHomes.{SpotsFit, SpotsAt, HomesFit, HomesAt, HeadsFit, HeadsAt};
 
 // Where the tables lie, of n starting groups: their slots by number from `from` on; what each number was joined into from `into` on; a
 // number's slot plus 1 from `place` on; the place of a slot in the final order from `spot` on; and the final group of a starting slot

@@ -6,7 +6,7 @@ use Prim.Native.Nat.{ℕ, _+_, _-_, _*_, _≤_, _<_}
 use native.Mathlib.Omega.{arith}
 use lib.Dec.{eqb}
 use lib.ListN.{length, getD}
-use Rattle.laws.specs.Range.{Apart, Only, seg}
+use Rattle.laws.specs.LentRange.{Apart, Only, seg}
 use Rattle.laws.specs.Sorting.{sorted, keep}
 use Rattle.laws.specs.Every.{All}
 use Rattle.laws.proofs.Products.{row-fits}
@@ -18,13 +18,13 @@ use Rattle.laws.proofs.Pigeon.{onto}
 use Rattle.dealing.specs.declared.homes.HomeTables.{HomeTables}
 use Rattle.finals.specs.declared.DealTables.{DealTables}
 use Rattle.finals.proofs.RowLaws.{rows-all}
-use Rattle.ordering.specs.Living.{noLater, livingIn, LivingSorted}
-use Rattle.dealing.specs.Homes.{SpotsFit, SpotsAt, HomesFit, HomesAt, HeadsFit, HeadsAt}
+use Rattle.ordering.specs.LentLiving.{noLater, livingIn, LivingSorted}
+use Rattle.dealing.specs.LentHomes.{SpotsFit, SpotsAt, HomesFit, HomesAt, HeadsFit, HeadsAt}
 use Rattle.finals.specs.Lent.{isFirst, homeIn, goesTo, rowsOf, lineIn, DealFit, Dealt}
 use Rattle.encoder.specs.declared.places.Places.{Places}
-use Rattle.encoder.specs.Places.{Laid}
+use Rattle.encoder.specs.LentPlaces.{Laid}
 use Rattle.encoder.specs.Lent.{groupAt}
-use Rattle.encoder.specs.Arranged.{livingAt, lineUp, LineFit, LinedUp, heirSlot, ArrangeFit, Arranged}
+use Rattle.encoder.specs.LentArranged.{livingAt, lineUp, LineFit, LinedUp, heirSlot, ArrangeFit, Arranged}
 
 -- ---- the line of the living
 

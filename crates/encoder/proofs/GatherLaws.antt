@@ -7,7 +7,7 @@ use native.Mathlib.Omega.{arith}
 use lib.ListN.{length, getD}
 use Rattle.laws.specs.Every.{All, EachTwo}
 use Rattle.laws.specs.Bounded.{upTo}
-use Rattle.laws.specs.Range.{Only, seg}
+use Rattle.laws.specs.LentRange.{Only, seg}
 use Rattle.laws.specs.Sorting.{sorted, keep}
 use Rattle.laws.proofs.Cases.{lt-or-ge}
 use Rattle.laws.proofs.RangeLaws.{apart-part, only-trans, only-weaken, seg-ext}
@@ -24,14 +24,14 @@ use Rattle.sets.proofs.HeldLaws.{Kept, kept-only, kept-trans, set-same, sets-sa
 use Rattle.grouping.specs.declared.Added.{Added}
 use Rattle.grouping.specs.declared.Added.the-variants.{Groups, Full}
 use Rattle.groups.specs.Groups.{shapeOf, groupsOf}
-use Rattle.grouping.specs.Grouped as tab
+use Rattle.grouping.specs.LentGroups as tab
 use Rattle.groups.proofs.GroupLaws.{Long, groups-long, groups-unlike, groups-few}
 use Rattle.encoder.specs.declared.places.Places.{Places}
 use Rattle.encoder.specs.declared.encoded.Gathering.{Gathering}
 use Rattle.encoder.specs.declared.encoded.Gathering.the-variants as gathering
-use Rattle.encoder.specs.Places.{Laid}
+use Rattle.encoder.specs.LentPlaces.{Laid}
 use Rattle.encoder.specs.Lent.{Fit}
-use Rattle.encoder.specs.Arranged.{shapesAt, JoinFit, GatheredAt}
+use Rattle.encoder.specs.LentArranged.{shapesAt, JoinFit, GatheredAt}
 use Rattle.encoder.proofs.PlacesLaws.{room-none, room-some}
 
 -- ---- where no region is in use there is one shape

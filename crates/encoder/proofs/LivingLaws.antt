@@ -18,23 +18,23 @@ use Rattle.laws.proofs.Products.{row-fits}
 use Rattle.laws.proofs.SortLaws.{insert-all, sorted-all}
 use Rattle.laws.proofs.SortMap.{sorted-map, sorted-same, length-sorted}
 use Rattle.table.specs.declared.Shapes.{Shapes}
-use Rattle.table.specs.Table.{shapeIn}
-use Rattle.slots.specs.declared.tables.Tables.{Tables}
+use Rattle.table.specs.LentTable.{shapeIn}
+use Rattle.slots.specs.declared.tables.MergeTables.{MergeTables}
 use Rattle.rule.specs.Model.{Living, merged}
 use Rattle.slots.specs.Lent.{groupIn, starting}
 use Rattle.slots.specs.Lent as lent
-use Rattle.waits.specs.Waits.{placeOf, groupOf}
+use Rattle.waits.specs.LentWaits.{placeOf, groupOf}
 use Rattle.rule.specs.Told.{Among}
-use Rattle.merging.specs.Held.{Lives}
-use Rattle.merging.specs.Optimized.{Optimized}
+use Rattle.merging.specs.LentHeld.{Lives}
+use Rattle.merging.specs.LentOptimized.{Optimized}
 use Rattle.rule.proofs.Theorems.{Proper, shapes-distinct, run-next, run-count}
 use Rattle.rule.proofs.Bridge.{Rising, Numbered, run-numbered, has}
 use Rattle.merging.proofs.Unique.{starting-length}
-use Rattle.ordering.specs.Living.{noLater, livingFrom, livingIn, Unlike, Slot, LivingFit}
+use Rattle.ordering.specs.LentLiving.{noLater, livingFrom, livingIn, Unlike, Slot, LivingFit}
 use Rattle.encoder.specs.Packed.{isAhead}
 
 -- the slot of a living group
-abbrev pub slotOf : Tables → List ℕ → Living → ℕ
+abbrev pub slotOf : MergeTables → List ℕ → Living → ℕ
 slotOf t w g = getD w (t .place + g .num) 0 - 1
 
 -- ---- of lists
@@ -133,7 +133,7 @@ module _ (w : List ℕ) (place : ℕ) where
 
 -- ---- after `optimize`
 
-module _ {t : Tables} {j m b a : ℕ} {w w′ : List ℕ} (o : Optimized t j m b a w w′) where
+module _ {t : MergeTables} {j m b a : ℕ} {w w′ : List ℕ} (o : Optimized t j m b a w w′) where
   abbrev living : List Living
   living = merged (starting t w) .living
 

@@ -10,7 +10,7 @@ use borrow.Author.Tests.{ne-eqb}
 use Rattle.laws.specs.Bag.{sum}
 use Rattle.laws.specs.Every.{All}
 use Rattle.laws.specs.Bounded.{tabulate, upTo}
-use Rattle.laws.specs.Range.{Only, seg}
+use Rattle.laws.specs.LentRange.{Only, seg}
 use Rattle.laws.proofs.Cases.{lt-or-ge}
 use Rattle.laws.proofs.ListLaws.{map-self}
 use Rattle.laws.proofs.EveryLaws.{all-imp}
@@ -36,9 +36,9 @@ use Rattle.store.specs.Placing.{Final}
 use Rattle.store.specs.Lent.{finalAt, finalsAt}
 use Rattle.encoder.specs.declared.places.Places.{Places}
 use Rattle.encoder.specs.Packed.{own, oneCost}
-use Rattle.encoder.specs.Places.{Laid}
+use Rattle.encoder.specs.LentPlaces.{Laid}
 use Rattle.encoder.specs.Lent.{groupAt, Fit, relabel, FinalIn, OwnAt}
-use Rattle.encoder.specs.Own.{WordsFit, WordsAt, CostFit, costAt}
+use Rattle.encoder.specs.LentOwn.{WordsFit, WordsAt, CostFit, costAt}
 use Rattle.encoder.proofs.PlacesLaws.{room-one}
 
 -- ---- the three words of a group

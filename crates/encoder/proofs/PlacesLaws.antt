@@ -10,7 +10,7 @@ use Rattle.laws.proofs.Cases.{lt-or-ge}
 use Rattle.laws.proofs.Products.{product, row-next}
 use Rattle.limits.specs.Limits.{mostRecords, maxRegions, maxShapes}
 use Rattle.encoder.specs.declared.places.Places.{Places}
-use Rattle.encoder.specs.Places.{roomFor, PlacesAt, Laid}
+use Rattle.encoder.specs.LentPlaces.{roomFor, PlacesAt, Laid}
 
 -- ---- how many groups there may be
 

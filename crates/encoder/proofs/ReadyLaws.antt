@@ -8,7 +8,7 @@ use lib.Seq.{ext-getD}
 use Rattle.laws.specs.Bag.{weigh}
 use Rattle.laws.specs.Bounded.{tabulate}
 use Rattle.laws.specs.Every.{All, EachTwo}
-use Rattle.laws.specs.Range.{Apart}
+use Rattle.laws.specs.LentRange.{Apart}
 use Rattle.laws.proofs.Products.{product}
 use Rattle.laws.proofs.EveryLaws.{all-imp, all-and, all-getD, two-getD}
 use Rattle.laws.proofs.Pigeon.{onto}
@@ -20,16 +20,16 @@ use Rattle.sets.proofs.IdLaws.{distinct-most}
 use Rattle.sets.proofs.HeldLaws.{sets-length}
 use Rattle.table.specs.declared.Shapes.{Shapes}
 use Rattle.groups.specs.Groups.{Before, groupsOf}
-use Rattle.table.specs.Table as tab
+use Rattle.table.specs.LentTable as tab
 use Rattle.groups.proofs.GroupLaws.{before-unlike, groups-some, groups-long, groups-unlike, groups-count}
 use Rattle.grouping.proofs.AddSteps.{none, groups-length, shape-at}
-use Rattle.slots.specs.declared.tables.Tables.{Tables}
+use Rattle.slots.specs.declared.tables.MergeTables.{MergeTables}
 use Rattle.slots.specs.Lent as merge
-use Rattle.merging.specs.Optimized.{Ready, Optimized}
+use Rattle.merging.specs.LentOptimized.{Ready, Optimized}
 use Rattle.rule.proofs.Theorems.{Proper}
 use Rattle.encoder.specs.declared.places.Places.{Places}
-use Rattle.encoder.specs.Places.{Laid}
-use Rattle.encoder.specs.Arranged.{shapesAt, tablesOf, JoinFit}
+use Rattle.encoder.specs.LentPlaces.{Laid}
+use Rattle.encoder.specs.LentArranged.{shapesAt, tablesOf, JoinFit}
 
 -- the groups stand in the table of shapes as merging reads them
 starting-same : (p : Places) (groups : ℕ) (w : List ℕ) → merge.starting (tablesOf p groups) w ≡ tab.groupsIn (shapesAt p) groups w
@@ -53,7 +53,7 @@ module _ {p : Places} {groups long : ℕ} (lies : Laid p long) (few : groups ≤
     order-end = omega (arith, lies);
     counts-end = omega (arith, lies);
     place-end = omega (arith, lies);
-    rows-end = omega (arith, lies);
+    costs-end = omega (arith, lies);
     columns-end = omega (arith, lies);
     into-end = omega (arith, lies);
     log-end = omega (arith, lies);

@@ -11,7 +11,7 @@ use lib.ListN.{length, getD, length-map}
 use lib.Seq.{ext-getD}
 use Rattle.laws.specs.Every.{All, EachTwo}
 use Rattle.laws.specs.Bounded.{upTo}
-use Rattle.laws.specs.Range.{Apart, Only, seg}
+use Rattle.laws.specs.LentRange.{Apart, Only, seg}
 use Rattle.laws.specs.Sorting.{sorted, keep}
 use Rattle.laws.proofs.Cases.{same-or-not}
 use Rattle.laws.proofs.Products.{row-fits}
@@ -31,15 +31,15 @@ use Rattle.sets.specs.Lent.{setOf, setsIn, isFirst, atMost, Held}
 use Rattle.sets.proofs.IdLaws.{distinct-most}
 use Rattle.sets.proofs.HeldLaws.{Kept, kept-only, set-same, held-kept, sets-length, sets-at}
 use Rattle.groups.specs.Groups.{shapeOf, groupsOf}
-use Rattle.table.specs.Table as tab
+use Rattle.table.specs.LentTable as tab
 use Rattle.groups.proofs.GroupLaws.{groups-unlike}
 use Rattle.grouping.proofs.AddSteps.{none, groups-length, shape-at}
-use Rattle.slots.specs.declared.tables.Tables.{Tables}
+use Rattle.slots.specs.declared.tables.MergeTables.{MergeTables}
 use Rattle.rule.specs.Model.{Living, start, merged, total}
 use Rattle.slots.specs.Lent as merge
 use Rattle.rule.specs.Told.{words}
-use Rattle.merging.specs.Held.{written}
-use Rattle.merging.specs.Optimized.{Optimized}
+use Rattle.merging.specs.LentHeld.{written}
+use Rattle.merging.specs.LentOptimized.{Optimized}
 use Rattle.rule.proofs.Bridge.{has}
 use Rattle.merging.proofs.Unique.{final}
 use Rattle.merging.proofs.Demand.{demand}
@@ -48,9 +48,9 @@ use Rattle.store.specs.Lent.{finalAt, finalsAt}
 use Rattle.encoder.specs.declared.places.Places.{Places}
 use Rattle.encoder.specs.declared.encoded.Encoded.{Encoded}
 use Rattle.encoder.specs.Packed.{noLater, dense, belongs, finalOf, isAhead, finalsOf, isAmong, shared}
-use Rattle.encoder.specs.Places.{Laid}
+use Rattle.encoder.specs.LentPlaces.{Laid}
 use Rattle.encoder.specs.Lent.{relabel, groupAt, FinalIn, PackedAt}
-use Rattle.encoder.specs.Arranged.{shapesAt, tablesOf, livingAt, lineUp, LineFit, heirSlot, ArrangeFit, Arranged, JoinFit, JoinedGroups}
+use Rattle.encoder.specs.LentArranged.{shapesAt, tablesOf, livingAt, lineUp, LineFit, heirSlot, ArrangeFit, Arranged, JoinFit, JoinedGroups}
 use Rattle.encoder.proofs.DenseIds.{set-of-id, dealt-ids}
 use Rattle.encoder.proofs.LivingLaws.{slotOf, living-few, living-shapes, living-line, living-fit, line-long, line-below, line-apart}
 use Rattle.encoder.proofs.NumberLaws.{number-at, among, among-mem, not-among, At, mem-at, at-mem, mem-sorted}
@@ -67,7 +67,7 @@ part : {a n k : ℕ} {c l : ℕ} → Apart a n k 1 → a ≤ c → c + l ≤ a +
 part h x y = apart-part h x y
 
 module _ {p : Places} {groups ids : ℕ} {w : List ℕ} (f : JoinFit p groups ids w) {j m b a : ℕ} {w′ : List ℕ} (o : Optimized (tablesOf p groups) j m b a w w′) where
-  abbrev t : Tables
+  abbrev t : MergeTables
   t = tablesOf p groups
 
   abbrev xs : List Group

@@ -6,7 +6,7 @@ use Prim.Native.Nat.{ℕ, _+_, _*_, _≤_, _<_}
 use lib.ListN.{length, getD}
 use Rattle.laws.specs.Bag.{sum}
 use Rattle.laws.specs.Every.{All}
-use Rattle.laws.specs.Range.{Only, seg}
+use Rattle.laws.specs.LentRange.{Only, seg}
 use Rattle.shapes.specs.Lent.{Narrow}
 use Rattle.sets.specs.Lent.{setOf, setsIn, Held}
 use Rattle.rule.specs.Told.{words}
@@ -14,7 +14,7 @@ use Rattle.store.specs.Placing.{Final}
 use Rattle.store.specs.Lent.{finalAt, finalsAt}
 use Rattle.limits.specs.Limits.{mostRecords, maxRegions, maxShapes}
 use Rattle.encoder.specs.Packed.{Packed, own}
-use Rattle.encoder.specs.Places.{Laid}
+use Rattle.encoder.specs.LentPlaces.{Laid}
 use Rattle.encoder.specs.declared.places.Places.{Places}
 use Rattle.encoder.specs.declared.encoded.Encoded.{Encoded}
 

@@ -1,5 +1,5 @@
 pub mod Packed
-pub mod Places
+pub mod LentPlaces
 pub mod Lent
-pub mod Arranged
-pub mod Own
+pub mod LentArranged
+pub mod LentOwn

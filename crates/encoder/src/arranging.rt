@@ -8,7 +8,7 @@ use dealing::spots;
 use finals::DealTables;
 use ordering::order_living;
 use table::Shapes;
-ghost use Rattle.encoder.specs.Arranged.{LineFit, LinedUp, ArrangeFit, Arranged};
+ghost use Rattle.encoder.specs.LentArranged.{LineFit, LinedUp, ArrangeFit, Arranged};
 
 // The slots of the living of k numbers, in order, from p.costs on; and the place of each there.
 fn line_up(work: &mut [u32], p: Places, groups: usize, k: usize) -> usize

@@ -8,7 +8,7 @@ use shaping::cover;
 ghost use mathlib.Core.Path.{_≡_};
 ghost use Prim.Native.Nat.{_<_};
 ghost use Rattle.encoder.specs.Lent.{Fit, OwnAt};
-ghost use Rattle.encoder.specs.Own.{WordsFit, WordsAt, CostFit, costAt};
+ghost use Rattle.encoder.specs.LentOwn.{WordsFit, WordsAt, CostFit, costAt};
 
 // Writes the three words of a group: where its shape is, where its rows are, how many there are.
 fn put_group(work: &mut [u32], group: usize, shape: usize, rows: usize, n: usize)

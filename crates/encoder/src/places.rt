@@ -3,7 +3,7 @@ use limits::Limits;
 ghost use mathlib.Core.Path.{_≡_};
 ghost use Prim.Native.Nat.{_-_, _*_, _≤_, min};
 ghost use Rattle.limits.specs.Limits.{mostRecords, maxRegions, maxShapes};
-ghost use Rattle.encoder.specs.Places.{roomFor, PlacesAt};
+ghost use Rattle.encoder.specs.LentPlaces.{roomFor, PlacesAt};
 
 // Of so many sets and regions, in this order. `line`, `first`, `ids` and `kinds` have a word for each set: set numbers in the order of the
 // sets, the first like of each, its id, the slot of its shape. Then the shapes, a word a region in each of room + 1 slots, and tables of room

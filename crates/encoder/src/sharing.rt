@@ -7,14 +7,14 @@ use grouping::Added;
 use grouping::group;
 use ids::identify;
 use merging::Merged;
-use slots::Tables;
+use slots::MergeTables;
 use table::Shapes;
 ghost use mathlib.Core.Path.{_≡_};
 ghost use mathlib.Core.List.{List};
 ghost use Prim.Native.Nat.{ℕ};
-ghost use Rattle.merging.specs.Optimized.{Optimized};
+ghost use Rattle.merging.specs.LentOptimized.{Optimized};
 ghost use Rattle.encoder.specs.Lent.{Fit};
-ghost use Rattle.encoder.specs.Arranged.{tablesOf, GatheredAt, JoinFit, RegroupFit, JoinedGroups};
+ghost use Rattle.encoder.specs.LentArranged.{tablesOf, GatheredAt, JoinFit, RegroupFit, JoinedGroups};
 
 // Numbers and groups the sets that are held before the tables.
 pub fn gather(work: &mut [u32], p: Places) -> Gathering
@@ -36,17 +36,17 @@ pub fn gather(work: &mut [u32], p: Places) -> Gathering
 }
 
 // Where merging finds so many groups.
-pub fn tables(p: Places, groups: usize) -> Tables
+pub fn tables(p: Places, groups: usize) -> MergeTables
     ensures { λ r. ⌜ r ≡ tablesOf p groups ⌝ }
 {
-    Tables {
+    MergeTables {
         regions: p.regions,
         groups,
         slots: p.slots,
         order: p.order,
         counts: p.counts,
         place: p.place,
-        rows: p.costs,
+        costs: p.costs,
         columns: p.columns,
         into: p.into,
         log: p.log,

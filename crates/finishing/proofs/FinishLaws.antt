@@ -11,7 +11,7 @@ use borrow.Author.Tests.{le-leb, eq-eqb, ne-eqb}
 use Rattle.laws.specs.Bytes.{over}
 use Rattle.laws.specs.Every.{All}
 use Rattle.laws.specs.Bounded.{tabulate, upTo}
-use Rattle.laws.specs.Range.{seg}
+use Rattle.laws.specs.LentRange.{seg}
 use Rattle.laws.proofs.EveryLaws.{all}
 use Rattle.laws.proofs.BoundedLaws.{length-tabulate}
 use Rattle.laws.proofs.RangeLaws.{length-seg}
@@ -19,9 +19,9 @@ use Rattle.laws.proofs.SortLaws.{keep-same}
 use Rattle.groups.specs.Groups.{maxShapes}
 use Rattle.rule.specs.Told.{words}
 use Rattle.rule.proofs.Theorems.{words-length}
-use Rattle.store.specs.Placing.{Final, allRuns, idWords, names, keptOf, storeOf, forecastOf}
+use Rattle.store.specs.Placing.{Final, allRuns, idWords, names, keptOf, storeOf, forecastOf, stored}
 use Rattle.rows.specs.Lent.{setAt}
-use Rattle.store.specs.Lent.{Drafted, Planned, Ready, coordsAt, coordsOf, finalAt, finalsAt, markedIn, sizesAt, stored}
+use Rattle.store.specs.Lent.{Drafted, Planned, Ready, coordsAt, coordsIn, finalAt, finalsAt, markedIn, sizesAt}
 use Rattle.store.proofs.RegionLaws.{kept-most}
 use Rattle.store.proofs.PlacedLaws.{planned, draft-exact, tables-count}
 use Rattle.said.specs.Refusals.{firstFailed, shapesFull, idsShort, mapShort, logShort, outShort}
@@ -100,7 +100,7 @@ module _ {axes starts : ℕ} {job : List ℕ} {p : Places} {e : Encoded} {w : Li
 
     module _ (k : Packed) (at : PackedAt k p e w) where
       abbrev coords : List (List ℕ)
-      coords = coordsOf job axes w starts (p .regions)
+      coords = coordsIn job axes w starts (p .regions)
 
       abbrev groups : List Final
       groups = finalsAt (p .regions) (p .columns) (e .count) w
@@ -146,7 +146,7 @@ module _ {axes starts : ℕ} {job : List ℕ} {p : Places} {e : Encoded} {w : Li
           ∙ ap (λ (gs : List Final). length (allRuns gs)) (at .finals-are)
 
       kept-are : kept ≡ regionsKept coords k
-      unfolding regionsKept coordsOf
+      unfolding regionsKept coordsIn
       kept-are =
           d .numbered .all
           ∙ ap length (keep-same (markedIn marks) (λ r. names r groups) (upTo (p .regions)) (all (λ r. d .marked .is r) (upTo (p .regions))))

@@ -8,7 +8,7 @@ use lib.ListN.{length, getD, set, length-set}
 use lib.Seq.{getD-set-same, getD-set-other}
 use borrow.Author.Tests.{le-leb, lt-leb}
 use Rattle.laws.specs.Bytes.{over}
-use Rattle.laws.specs.Range.{seg}
+use Rattle.laws.specs.LentRange.{seg}
 use Rattle.laws.proofs.BytesLaws.{over-length}
 use Rattle.laws.proofs.Cases.{lt-or-ge}
 use Rattle.laws.proofs.RangeLaws.{length-seg, seg-none, seg-snoc}

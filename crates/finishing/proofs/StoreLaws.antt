@@ -16,7 +16,7 @@ use Rattle.laws.specs.Bag.{weigh, sum}
 use Rattle.laws.specs.Pick.{pick}
 use Rattle.laws.specs.Every.{All}
 use Rattle.laws.specs.Bounded.{tabulate, upTo}
-use Rattle.laws.specs.Range.{seg}
+use Rattle.laws.specs.LentRange.{seg}
 use Rattle.laws.proofs.EveryLaws.{all, all-append, all-take, all-drop}
 use Rattle.laws.specs.Joining.{joinAll}
 use Rattle.laws.proofs.ListLaws.{map-append, getD-map-in, map-same}
@@ -37,7 +37,7 @@ use Rattle.rows.specs.Row.{Set, rowOf}
 use Rattle.rows.specs.Subtable.{runCount}
 use Rattle.store.specs.Placing.{Final, runsOf, allRuns, names, keptOf, newIndex, slotOf, madeOf, storeOf, modelOf, modelled, forecastOf}
 use Rattle.rows.specs.Lent.{entriesAt, setAt}
-use Rattle.store.specs.Lent.{chain, finalAt, finalsAt, groupSizes, runSizes, sizesAt, tableSize, total}
+use Rattle.store.specs.Lent.{chain, finalAt, finalsAt, groupSizes, runSizes, sizesAt, tableSize, sumOf}
 use Rattle.rows.proofs.CollectLaws.{columns-count, columns-most}
 use Rattle.reader.proofs.ColumnLaws.{at-zero, at-step, bytes-range}
 use Rattle.store.proofs.SizeLaws.{size-none, size-some, runs-few}
@@ -239,12 +239,12 @@ module _ (n row count : ℕ) (few : n ≤ maxRegions) (short : row ≤ rowMost) 
   run-size k = tableSize n row (min maxItems (count - maxItems * k))
 
   -- the items of the runs from k on add up to what is left
-  runs-most : (m k : ℕ) → total (tabulate k m run-size) ≤ headMost * m + rowMost * (count - maxItems * k)
+  runs-most : (m k : ℕ) → sumOf (tabulate k m run-size) ≤ headMost * m + rowMost * (count - maxItems * k)
   unfolding tabulate weigh
   runs-most zero k = omega arith
   runs-most (suc m) k = omega (arith, runs-most m (suc k), table-most n row (min maxItems (count - maxItems * k)) few short)
 
-  sizes-most : count ≤ mostRecords → total (runSizes n row count) ≤ 17 * headMost + rowMost * count
+  sizes-most : count ≤ mostRecords → sumOf (runSizes n row count) ≤ 17 * headMost + rowMost * count
   unfolding runSizes
   sizes-most h = omega (arith, runs-most (runCount count) 0, runs-few count h)
 
@@ -262,11 +262,11 @@ chain-snoc f n =
     ∙ ap (λ (k : ℕ). joinAll (tabulate 0 n f) ++ f k) e
 
 module _ (f : ℕ → List ℕ) (c : ℕ → ℕ) where
-  chain-most : (n : ℕ) → ((g : ℕ) → g < n → total (f g) ≤ 17 * headMost + rowMost * c g) → total (chain f n) ≤ 17 * headMost * n + rowMost * sum c n
+  chain-most : (n : ℕ) → ((g : ℕ) → g < n → sumOf (f g) ≤ 17 * headMost + rowMost * c g) → sumOf (chain f n) ≤ 17 * headMost * n + rowMost * sum c n
   unfolding sum
   chain-most zero h = unfold chain in unfold tabulate in unfold joinAll in unfold weigh in omega arith
   chain-most (suc n) h =
-      omega (arith, ap total (chain-snoc f n) ∙ weigh-append (λ (x : ℕ). x) (chain f n) (f n), h n (omega arith), chain-most n (λ g l. h g (omega arith)))
+      omega (arith, ap sumOf (chain-snoc f n) ∙ weigh-append (λ (x : ℕ). x) (chain f n) (f n), h n (omega arith), chain-most n (λ g l. h g (omega arith)))
 
   chain-few : (n : ℕ) → ((g : ℕ) → g < n → length (f g) ≤ 17) → length (chain f n) ≤ 17 * n
   chain-few zero h = unfold chain in unfold tabulate in unfold joinAll in omega arith
@@ -296,7 +296,7 @@ module _ (k : Packed) (p : Places) (e : Encoded) (w : List ℕ) (packed : Packed
     row-few : columnAt (wordCount (the-group g .shape)) (length (columnsOf (the-group g .shape))) ≤ rowMost
     row-few = omega (arith, row-most (wordCount (the-group g .shape)) (length (columnsOf (the-group g .shape))), columns-few)
 
-    group-most : total (groupSizes (the-group g)) ≤ 17 * headMost + rowMost * sets-of g
+    group-most : sumOf (groupSizes (the-group g)) ≤ 17 * headMost + rowMost * sets-of g
     unfolding groupSizes
     group-most =
         let s = the-group g .shape in
@@ -310,7 +310,7 @@ module _ (k : Packed) (p : Places) (e : Encoded) (w : List ℕ) (packed : Packed
         sizes-few (length (columnsOf s)) (columnAt (wordCount s) (length (columnsOf s))) (length (the-group g .ids)) columns-few row-few sets-few
 
   pub store-small : (axes kept runs : ℕ) → axes ≤ mostAxes → kept ≤ maxRegions → runs ≡ length (sizesAt (p .regions) (p .columns) (e .count) w)
-      → 8 + 4 * runs + (4 + 6 * axes * kept) + total (sizesAt (p .regions) (p .columns) (e .count) w) < 4294967296
+      → 8 + 4 * runs + (4 + 6 * axes * kept) + sumOf (sizesAt (p .regions) (p .columns) (e .count) w) < 4294967296
   unfolding sizesAt
   store-small axes kept runs a b r =
       let most = chain-most (λ g. groupSizes (the-group g)) sets-of (e .count) group-most in

@@ -6,13 +6,13 @@ use native.Mathlib.Omega.{arith}
 use lib.ListN.{length, getD}
 use Rattle.laws.specs.Bytes.{over}
 use Rattle.laws.specs.Every.{All}
-use Rattle.laws.specs.Range.{seg}
+use Rattle.laws.specs.LentRange.{seg}
 use Rattle.laws.proofs.EveryLaws.{all-imp}
 use Rattle.laws.proofs.RangeLaws.{all-seg, seg-all}
 use Rattle.shapes.specs.Lent.{Narrow}
-use Rattle.store.specs.Placing.{Final, allRuns, idWords, forecastOf}
+use Rattle.store.specs.Placing.{Final, allRuns, idWords, forecastOf, stored}
 use Rattle.rows.specs.Lent.{Stored}
-use Rattle.store.specs.Lent.{Handed, IdsBelow, Small, finalAt, finalsAt, stored}
+use Rattle.store.specs.Lent.{Handed, IdsBelow, Small, finalAt, finalsAt}
 use Rattle.encoder.specs.declared.places.Places.{Places}
 use Rattle.encoder.specs.declared.encoded.Encoded.{Encoded}
 use Rattle.encoder.specs.Lent.{relabel}

@@ -8,8 +8,7 @@ use Rattle.laws.specs.Pick.{pick}
 use Rattle.laws.specs.Bytes.{over}
 use Rattle.groups.specs.Groups.{maxShapes}
 use Rattle.rule.specs.Told.{words}
-use Rattle.store.specs.Placing.{storeOf, allRuns, idWords, keptOf, forecastOf}
-use Rattle.store.specs.Lent.{stored}
+use Rattle.store.specs.Placing.{storeOf, allRuns, idWords, keptOf, forecastOf, stored}
 use Rattle.said.specs.Refusals.{firstFailed, shapesFull, idsShort, mapShort, logShort, outShort}
 use Rattle.encoder.specs.Packed.{Packed}
 use Rattle.finishing.specs.Buffers.{Buffers, Lengths, lengths}

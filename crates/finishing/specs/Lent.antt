@@ -5,10 +5,10 @@ use Prim.Native.Nat.{ℕ, _+_, _-_, _*_, _≤_, _<_}
 use lib.Dec.{leb}
 use lib.ListN.{length, getD}
 use Rattle.laws.specs.Bytes.{over}
-use Rattle.laws.specs.Range.{Only, seg}
-use Rattle.store.specs.Placing.{storeOf, allRuns, idWords, forecastOf}
+use Rattle.laws.specs.LentRange.{Only, seg}
+use Rattle.store.specs.Placing.{storeOf, allRuns, idWords, forecastOf, stored}
 use Rattle.rows.specs.Lent.{setAt}
-use Rattle.store.specs.Lent.{Sourced, coordsOf, finalsAt, stored}
+use Rattle.store.specs.Lent.{Sourced, coordsIn, finalsAt}
 use Rattle.said.specs.Refusals.{firstFailed, idsShort, mapShort, logShort, outShort}
 use Rattle.encoder.specs.Packed.{Packed}
 use Rattle.encoder.specs.Lent.{PackedAt, relabel}
@@ -60,7 +60,7 @@ pub record RoomFor (sets distinct groups bytes out ids map log : ℕ) : Type 0 w
 
 -- the store of what is packed in work, by the numbers of sets
 abbrev pub storeIn : ℕ → ℕ → List ℕ → Places → Encoded → List ℕ → List ℕ
-storeIn axes starts job p e w = storeOf axes (coordsOf job axes w starts (p .regions)) (setAt 0 w) (finalsAt (p .regions) (p .columns) (e .count) w)
+storeIn axes starts job p e w = storeOf axes (coordsIn job axes w starts (p .regions)) (setAt 0 w) (finalsAt (p .regions) (p .columns) (e .count) w)
 
 -- the same sets, and what else is asked of them before ids, map and log are written
 pub record WordsFit (p : Places) (e : Encoded) (w : List ℕ) : Type 0 where

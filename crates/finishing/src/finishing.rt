@@ -14,9 +14,9 @@ use writing::write_store;
 ghost use mathlib.Core.Path.{_≡_};
 ghost use Prim.Native.Nat.{_+_, _-_, _*_, _≤_};
 ghost use lib.ListN.{length};
-ghost use Rattle.laws.specs.Range.{seg};
+ghost use Rattle.laws.specs.LentRange.{seg};
 ghost use Rattle.laws.specs.Bytes.{over};
-ghost use Rattle.store.specs.Lent.{Planned, coordsOf};
+ghost use Rattle.store.specs.Lent.{Planned, coordsIn};
 ghost use Rattle.encoder.specs.Packed.{Packed};
 ghost use Rattle.encoder.specs.Lent.{PackedAt};
 ghost use Rattle.finishing.specs.Buffers.{buffers};
@@ -175,7 +175,7 @@ pub fn finish(
     log: &mut [u32],
 ) -> Built
     requires { ⌜ FinishFit axes starts (now job) p e (now work) ⌝ }
-    ensures { λ r. ⌜ ((k : Packed) → PackedAt k p e (now (work .entry)) → Finished axes (coordsOf (now (job .entry)) axes (now (work .entry)) starts (p .regions)) k r (buffers (now (out .entry)) (now (ids .entry)) (now (map .entry)) (now (log .entry))) (buffers (now (out .exit)) (now (ids .exit)) (now (map .exit)) (now (log .exit)))) ⌝ }
+    ensures { λ r. ⌜ ((k : Packed) → PackedAt k p e (now (work .entry)) → Finished axes (coordsIn (now (job .entry)) axes (now (work .entry)) starts (p .regions)) k r (buffers (now (out .entry)) (now (ids .entry)) (now (map .entry)) (now (log .entry))) (buffers (now (out .exit)) (now (ids .exit)) (now (map .exit)) (now (log .exit)))) ⌝ }
 {
     let mut marks = [0u32; Limits::REGIONS];
     let mut numbers = [0u32; Limits::REGIONS];

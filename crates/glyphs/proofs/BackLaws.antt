@@ -20,7 +20,7 @@ use Rattle.laws.proofs.Cases.{lt-or-ge}
 use Rattle.glyphs.specs.declared.read.Entry.{Entry}
 use Rattle.glyphs.specs.declared.read.Entry.the-variants.{Word, Refused}
 use Rattle.glyphs.specs.Packing.{outerOf, innerOf, ored, innerBits, entryOf, bytesFor, mapBits, mapSize, entryFormat, keptOf, countOf, headOf, headFor, headSize, entriesOf, mapBytes}
-use Rattle.glyphs.specs.Reading.{badGlyphMap, formatIn, formIn, startOf, countIn, bitsIn, sizeIn, mapOk, entryNo, placeOf, wordOf, readMap}
+use Rattle.glyphs.specs.Reading.{badGlyphMap, formatIn, formIn, entriesFrom, countIn, bitsIn, sizeIn, mapOk, entryNo, placeOf, wordOf, readMap}
 use Rattle.glyphs.proofs.FormatLaws.{HoldsAll, format-holds, bits-range, size-range}
 use Rattle.glyphs.proofs.KeptLaws.{count-most, count-some, count-same}
 use Rattle.glyphs.proofs.WriteLaws.{size-zero, size-one, head-zero, head-one, head-size, entries-long}
@@ -60,7 +60,7 @@ module _ (format k form n : ℕ) (rest : List ℕ) where
 record Said (form n : ℕ) (s : List ℕ) : Type 0 where
   known : formatIn s < 2
   form-is : formIn s ≡ form
-  start-is : startOf (formatIn s) ≡ headSize n
+  start-is : entriesFrom (formatIn s) ≡ headSize n
   count-is : countIn s ≡ n
 
 module _ (form n : ℕ) (rest : List ℕ) (f : form < 64) where
@@ -193,7 +193,7 @@ module _ (ws : List ℕ) (words : All (λ w. w < 4294967296) ws) (some : 0 < len
   bits-is : bitsIn s ≡ bits
   bits-is = ap (λ (x : ℕ). x % 16 + 1) (head .form-is) ∙ bits-in
 
-  whole : startOf (formatIn s) + countIn s * sizeIn s ≡ length s
+  whole : entriesFrom (formatIn s) + countIn s * sizeIn s ≡ length s
   whole = rw (head .start-is, head .count-is, size-is) (sym (map-long ws))
 
   head-few : 4 ≤ headSize n
@@ -242,5 +242,5 @@ unfolding mapBytes headFor entryFormat mapSize mapBits innerBits leadingZeros co
 empty-map = refl
 
 pub empty-refused : (g : ℕ) → readMap (mapBytes []) g ≡ Refused badGlyphMap
-unfolding readMap mapOk be startOf countIn
+unfolding readMap mapOk be entriesFrom countIn
 empty-refused g = rw empty-map

@@ -13,15 +13,15 @@ use Rattle.laws.proofs.Products.{product, row-fits}
 use Rattle.reader.specs.Store as store
 use Rattle.glyphs.specs.declared.read.Entry.{Entry}
 use Rattle.glyphs.specs.declared.read.Entry.the-variants.{Word, Refused}
-use Rattle.glyphs.specs.Reading.{badGlyphMap, formatIn, formIn, startOf, countIn, bitsIn, sizeIn, mapOk, entryNo, placeOf, wordOf, readMap}
+use Rattle.glyphs.specs.Reading.{badGlyphMap, formatIn, formIn, entriesFrom, countIn, bitsIn, sizeIn, mapOk, entryNo, placeOf, wordOf, readMap}
 
 module _ (format : ℕ) where
-  pub start-zero : format ≡ 0 → 4 ≡ startOf format
-  unfolding startOf
+  pub start-zero : format ≡ 0 → 4 ≡ entriesFrom format
+  unfolding entriesFrom
   start-zero e = rw (eq-eqb format 0 e)
 
-  pub start-one : (format ≡ 0 → ⊥) → 6 ≡ startOf format
-  unfolding startOf
+  pub start-one : (format ≡ 0 → ⊥) → 6 ≡ entriesFrom format
+  unfolding entriesFrom
   start-one d = rw (ne-eqb format 0 d)
 
 module _ (s : List ℕ) where
@@ -37,9 +37,9 @@ pub record MapFits (s : List ℕ) : Type 0 where
   pub head : 4 ≤ length s
   pub format : formatIn s < 2
   pub form : formIn s < 64
-  pub start : startOf (formatIn s) ≤ length s
+  pub start : entriesFrom (formatIn s) ≤ length s
   pub some : countIn s ≡ 0 → ⊥
-  pub whole : startOf (formatIn s) + countIn s * sizeIn s ≤ length s
+  pub whole : entriesFrom (formatIn s) + countIn s * sizeIn s ≤ length s
 
 pub map-fits : (s : List ℕ) → mapOk s ≡ true → MapFits s
 unfolding mapOk
@@ -59,7 +59,7 @@ map-fits s h =
     }
 
 -- the entry of a sound map lies in it
-pub place-inside : (s : List ℕ) (k size at : ℕ) → MapFits s → k < countIn s → size ≡ sizeIn s → at ≡ startOf (formatIn s) → at + k * size + size ≤ length s
+pub place-inside : (s : List ℕ) (k size at : ℕ) → MapFits s → k < countIn s → size ≡ sizeIn s → at ≡ entriesFrom (formatIn s) → at + k * size + size ≤ length s
 place-inside s k size at f h e g = rw (e, g) (omega (arith, f .whole, row-fits (sizeIn s) (countIn s) k h))
 
 module _ (n g : ℕ) where
@@ -87,10 +87,10 @@ module _ (s : List ℕ) (g : ℕ) (ok : mapOk s ≡ true) (e p : ℕ) (f : e ≡
   word-there h = rw (ok, ← f, ← q, le-ltb 65535 (e / p) h)
 
 -- the entry that was read is the one that the definition names
-pub entry-there : (s : List ℕ) (g size at k n r : ℕ) → size ≡ sizeIn s → at ≡ startOf (formatIn s) → n ≡ countIn s → k ≡ entryNo n g
+pub entry-there : (s : List ℕ) (g size at k n r : ℕ) → size ≡ sizeIn s → at ≡ entriesFrom (formatIn s) → n ≡ countIn s → k ≡ entryNo n g
     → store.Word size s (at + k * size) r → store.Word (sizeIn s) s (placeOf s g) r
 unfolding placeOf
 entry-there s g size at k n r p q c e w =
-    let f : at + k * size ≡ startOf (formatIn s) + entryNo (countIn s) g * sizeIn s = rw (q, e, c, p) in
-    subst (λ (x : ℕ). store.Word x s (startOf (formatIn s) + entryNo (countIn s) g * sizeIn s) r) p
+    let f : at + k * size ≡ entriesFrom (formatIn s) + entryNo (countIn s) g * sizeIn s = rw (q, e, c, p) in
+    subst (λ (x : ℕ). store.Word x s (entriesFrom (formatIn s) + entryNo (countIn s) g * sizeIn s) r) p
     (subst (λ (x : ℕ). store.Word size s x r) f w)

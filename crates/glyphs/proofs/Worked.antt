@@ -7,7 +7,7 @@ use Rattle.laws.specs.Bytes.{be, bytesOf}
 use Rattle.glyphs.specs.declared.read.Entry.{Entry}
 use Rattle.glyphs.specs.declared.read.Entry.the-variants.{Word, Refused}
 use Rattle.glyphs.specs.Packing.{ored, innerBits, entryOf, bytesFor, mapBits, mapSize, entryFormat, keptOf, countOf, headFor, entriesOf, mapBytes}
-use Rattle.glyphs.specs.Reading.{startOf, countIn, mapOk, entryNo, placeOf, wordOf, readMap}
+use Rattle.glyphs.specs.Reading.{entriesFrom, countIn, mapOk, entryNo, placeOf, wordOf, readMap}
 
 -- three glyphs of one subtable; three trailing repeats, of which one stays; none; outer numbers, so that an entry takes two bytes
 abbrev lists : List (List ℕ)
@@ -43,5 +43,5 @@ reads =
     ∷ []
 
 pub reads-worked : reads ≡ Word 5 ∷ Word 7 ∷ Word 7 ∷ Word 0x0040_0100 ∷ Refused 42 ∷ Refused 42 ∷ Refused 42 ∷ Refused 42 ∷ Word 1 ∷ []
-unfolding readMap mapOk startOf countIn entryNo placeOf wordOf be
+unfolding readMap mapOk entriesFrom countIn entryNo placeOf wordOf be
 reads-worked = refl

@@ -18,8 +18,8 @@ formatIn s = be 1 s 0
 abbrev pub formIn : List ℕ → ℕ
 formIn s = be 1 s 1
 
-unfoldable pub startOf : ℕ → ℕ
-startOf format = pick (eqb format 0) 4 6
+unfoldable pub entriesFrom : ℕ → ℕ
+entriesFrom format = pick (eqb format 0) 4 6
 
 unfoldable pub countIn : List ℕ → ℕ
 countIn s = pick (eqb (formatIn s) 0) (be 2 s 2) (be 4 s 2)
@@ -37,15 +37,15 @@ mapOk s =
     leb 4 (length s) &&
     (ltb (formatIn s) 2 &&
     (ltb (formIn s) 64 &&
-    (leb (startOf (formatIn s)) (length s) &&
-    (not (eqb (countIn s) 0) && leb (startOf (formatIn s) + countIn s * sizeIn s) (length s)))))
+    (leb (entriesFrom (formatIn s)) (length s) &&
+    (not (eqb (countIn s) 0) && leb (entriesFrom (formatIn s) + countIn s * sizeIn s) (length s)))))
 
 -- the entry of a glyph (G6)
 unfoldable pub entryNo : ℕ → ℕ → ℕ
 entryNo n g = pick (ltb g n) g (n - 1)
 
 unfoldable pub placeOf : List ℕ → ℕ → ℕ
-placeOf s g = startOf (formatIn s) + entryNo (countIn s) g * sizeIn s
+placeOf s g = entriesFrom (formatIn s) + entryNo (countIn s) g * sizeIn s
 
 -- the number of its refusal
 abbrev pub badGlyphMap : ℕ

@@ -7,7 +7,7 @@ ghost use Prim.Native.Nat.{_+_, _*_, _≤_, _<_};
 ghost use lib.ListN.{length};
 ghost use Rattle.laws.specs.Bytes.{be};
 ghost use Rattle.reader.specs.Store.{Word};
-ghost use Rattle.glyphs.specs.Reading.{startOf, countIn, mapOk, sizeIn, entryNo, placeOf, readMap};
+ghost use Rattle.glyphs.specs.Reading.{entriesFrom, countIn, mapOk, sizeIn, entryNo, placeOf, readMap};
 
 // A glyph's word, outer x 65,536 + inner, or a refusal's number.
 pub enum Entry {
@@ -22,7 +22,7 @@ impl Entry {
 
 // Where the entries of a map of this format start.
 fn start(format: usize) -> usize
-    ensures { λ r. ⌜ r ≡ startOf format ⌝ }
+    ensures { λ r. ⌜ r ≡ entriesFrom format ⌝ }
     ensures { λ r. ⌜ (4 ≤ r) × (r ≤ 6) ⌝ }
 {
     if format == 0 {
@@ -34,7 +34,7 @@ fn start(format: usize) -> usize
 // How many entries the map says that it has: a number of two bytes, or of four.
 fn count(s: &[u8]) -> usize
     requires { ⌜ 4 ≤ length (now s) ⌝ }
-    requires { ⌜ startOf (be 1 (now s) 0) ≤ length (now s) ⌝ }
+    requires { ⌜ entriesFrom (be 1 (now s) 0) ≤ length (now s) ⌝ }
     ensures { λ r. ⌜ r ≡ countIn (now (s .entry)) ⌝ }
     ensures { λ r. ⌜ r < 4294967296 ⌝ }
 {

@@ -7,7 +7,7 @@ use native.Mathlib.Omega.{arith}
 use lib.ListN.{length, getD, take, drop, set, length-set}
 use lib.Seq.{ext-getD, getD-set-same, getD-set-other}
 use Rattle.laws.specs.Every.{All, EachTwo}
-use Rattle.laws.specs.Range.{Apart, Outside, Only, seg}
+use Rattle.laws.specs.LentRange.{Apart, Outside, Only, seg}
 use Rattle.laws.proofs.Cases.{Tri, tri, same-or-not}
 use Rattle.laws.proofs.Cases.Tri.{below, same, above}
 use Rattle.laws.proofs.Products.{row-fits}
@@ -21,8 +21,8 @@ use Rattle.shapes.specs.Group.{Group}
 use Rattle.shapes.specs.Lent.{Narrow}
 use Rattle.groups.specs.Groups.{Before, withShape}
 use Rattle.table.specs.declared.Shapes.{Shapes}
-use Rattle.table.specs.Table.{shapeIn, slotIn, groupIn, groupsIn, SlotFits, Searchable, FoundAt, FoundGap, FoundIn, InsertedAt}
-use Rattle.grouping.specs.Grouped.{Laid, Table, JoinFit, JoinedIn, NewFit, NewIn, AddFit, AddedOne, AddedNone}
+use Rattle.table.specs.LentTable.{shapeIn, slotIn, groupIn, groupsIn, SlotFits, Searchable, FoundAt, FoundGap, FoundIn, InsertedAt}
+use Rattle.grouping.specs.LentGroups.{Laid, Table, JoinFit, JoinedIn, NewFit, NewIn, AddFit, AddedOne, AddedNone}
 use Rattle.groups.proofs.GroupLaws.{one, more, Long, with-all, with-before, with-at, with-new, before-unlike}
 use Rattle.table.proofs.TableSteps.{shape-in-length}
 

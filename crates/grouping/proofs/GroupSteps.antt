@@ -10,7 +10,7 @@ use borrow.Author.Count.{below-more}
 use Rattle.laws.specs.Every.{All, EachTwo}
 use Rattle.laws.specs.Bag.{weigh}
 use Rattle.laws.specs.Bounded.{tabulate}
-use Rattle.laws.specs.Range.{Apart, Outside, Only, seg}
+use Rattle.laws.specs.LentRange.{Apart, Outside, Only, seg}
 use Rattle.laws.specs.Signed.{value}
 use Rattle.laws.proofs.Cases.{lt-or-ge}
 use Rattle.laws.proofs.Products.{row-fits}
@@ -26,13 +26,13 @@ use Rattle.shapes.proofs.WidthLaws.{cost-most}
 use Rattle.sets.specs.Set.{Set, wordOf}
 use Rattle.sets.specs.Ids.{place, distinct, distinctFrom}
 use Rattle.groups.specs.Groups.{Before, shapeOf, withShape, groupsFrom, groupsOf}
-use Rattle.sets.specs.Lent.{startOf, countOf, setOf, Stored, Held, setsIn}
+use Rattle.sets.specs.Lent.{entriesAt, countOf, setOf, Stored, Held, setsIn}
 use Rattle.shaping.specs.Lent.{ShapedAt}
 use Rattle.table.specs.declared.Shapes.{Shapes}
 use Rattle.grouping.specs.declared.Added.{Added}
 use Rattle.grouping.specs.declared.Added.the-variants.{Groups, Full}
-use Rattle.table.specs.Table.{shapeIn, slotIn, groupIn, groupsIn}
-use Rattle.grouping.specs.Grouped.{Laid, Table, AddFit, AddedOne, AddedNone, AddedIn, SetFit, SetOne, SetNone, AddedSet, GroupFit, GroupedInto, grouped, Result, GroupedAt}
+use Rattle.table.specs.LentTable.{shapeIn, slotIn, groupIn, groupsIn}
+use Rattle.grouping.specs.LentGroups.{Laid, Table, AddFit, AddedOne, AddedNone, AddedIn, SetFit, SetOne, SetNone, AddedSet, GroupFit, GroupedInto, grouped, Result, GroupedAt}
 use Rattle.sets.proofs.IdLaws.{Grows, grows-here, first-distinct, again-distinct, again-same, distinct-most, distinct-all-of, place-first}
 use Rattle.sets.proofs.HeldLaws.{Kept, kept-only, held-kept, held-stored, set-same, sets-length, sets-at}
 use Rattle.groups.proofs.GroupLaws.{shape-length, with-length, from-length, from-count, from-append}
@@ -59,7 +59,7 @@ module _ {t : Shapes} {index x m kind : ℕ} {w : List ℕ} (f : SetFit t index 
   pub slot-in : t .slots + m * t .regions + t .regions ≤ length w
   slot-in = slot-room laid m (f .table .fits)
 
-  pub entries-before : startOf index x w + 2 * countOf index x w ≤ t .slots + m * t .regions
+  pub entries-before : entriesAt index x w + 2 * countOf index x w ≤ t .slots + m * t .regions
   entries-before = omega (arith, f .before)
 
   module _ {v : List ℕ} (s : ShapedAt index x (t .slots + m * t .regions) (t .regions) w v) where

@@ -1,1 +1,1 @@
-pub mod Grouped
+pub mod LentGroups

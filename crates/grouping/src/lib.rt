@@ -8,7 +8,7 @@ use table::insert_at;
 ghost use mathlib.Core.Path.{_≡_};
 ghost use Prim.Native.Nat.{_+_, _<_, _≤_};
 ghost use lib.ListN.{length, getD};
-ghost use Rattle.grouping.specs.Grouped.{AddFit, AddedIn, JoinFit, JoinedIn, NewFit, NewIn, SetFit, AddedSet, GroupFit, GroupedAt};
+ghost use Rattle.grouping.specs.LentGroups.{AddFit, AddedIn, JoinFit, JoinedIn, NewFit, NewIn, SetFit, AddedSet, GroupFit, GroupedAt};
 
 // How many groups there are, or that there is no room for one more.
 pub enum Added {

@@ -19,7 +19,7 @@ use Rattle.shapes.specs.Group.{Group}
 use Rattle.shapes.proofs.OrderLaws.{order-self, order-equal, order-flip, order-chain}
 use Rattle.sets.specs.Set.{Set, wordOf}
 use Rattle.sets.specs.Ids.{distinct}
-use Rattle.groups.specs.Groups.{shapeOf, Before, placed, withShape, groupsFrom, groupsOf}
+use Rattle.groups.specs.Groups.{shapeOf, Before, putShape, withShape, groupsFrom, groupsOf}
 
 pub shape-length : (regions : ℕ) (s : Set) → length (shapeOf regions s) ≡ regions
 unfolding shapeOf
@@ -33,15 +33,15 @@ abbrev pub more : Group → Group
 more g = record { shape = g .shape; sets = g .sets + 1 }
 
 pub with-less : (g : Group) (gs : List Group) (s : Shape) → order s (g .shape) ≡ Less → withShape (g ∷ gs) s ≡ one s ∷ g ∷ gs
-unfolding withShape placed
+unfolding withShape putShape
 with-less g gs s e = rw e
 
 pub with-equal : (g : Group) (gs : List Group) (s : Shape) → order s (g .shape) ≡ Equal → withShape (g ∷ gs) s ≡ more g ∷ gs
-unfolding withShape placed
+unfolding withShape putShape
 with-equal g gs s e = rw e
 
 pub with-more : (g : Group) (gs : List Group) (s : Shape) → order s (g .shape) ≡ Greater → withShape (g ∷ gs) s ≡ g ∷ withShape gs s
-unfolding withShape placed
+unfolding withShape putShape
 with-more g gs s e = rw e
 
 -- an order, with its equation

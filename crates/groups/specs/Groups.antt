@@ -25,15 +25,15 @@ abbrev pub Before : Group → Group → Type 0
 Before g h = order (g .shape) (h .shape) ≡ Less
 
 -- a shape beside the first group, by their order: before it, in it, or in the groups behind it
-unfoldable pub placed : Order → Shape → Group → List Group → List Group → List Group
-placed Less s g behind later = record { shape = s; sets = 1 } ∷ g ∷ behind
-placed Equal s g behind later = record { shape = g .shape; sets = g .sets + 1 } ∷ behind
-placed Greater s g behind later = g ∷ later
+unfoldable pub putShape : Order → Shape → Group → List Group → List Group → List Group
+putShape Less s g behind later = record { shape = s; sets = 1 } ∷ g ∷ behind
+putShape Equal s g behind later = record { shape = g .shape; sets = g .sets + 1 } ∷ behind
+putShape Greater s g behind later = g ∷ later
 
 -- one more set of a shape
 unfoldable pub withShape : List Group → Shape → List Group
 withShape [] s = record { shape = s; sets = 1 } ∷ []
-withShape (g ∷ groups) s = placed (order s (g .shape)) s g groups (withShape groups s)
+withShape (g ∷ groups) s = putShape (order s (g .shape)) s g groups (withShape groups s)
 
 unfoldable pub groupsFrom : List Group → List Shape → List Group
 groupsFrom groups [] = groups

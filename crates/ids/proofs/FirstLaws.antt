@@ -15,7 +15,7 @@ use Rattle.laws.specs.Every.{All, EachTwo}
 use Rattle.laws.specs.Bounded.{tabulate, upTo}
 use Rattle.laws.specs.Bag.{SameBag}
 use Rattle.laws.specs.Order.{isMost}
-use Rattle.laws.specs.Range.{seg}
+use Rattle.laws.specs.LentRange.{seg}
 use Rattle.laws.specs.Sorting.{sorted, Sorts}
 use Rattle.laws.proofs.Cases.{Tri, tri, lt-or-ge}
 use Rattle.laws.proofs.Cases.Tri.{below, same, above}
@@ -26,7 +26,7 @@ use Rattle.sets.specs.Set.{Set, Ascending, Proper}
 use Rattle.sets.specs.Order.{order}
 use Rattle.sets.specs.Ids.{place}
 use Rattle.sets.specs.Lent.{setOf, Held, setsIn, atMost}
-use Rattle.ids.specs.Inner.{isSame, beginsAt}
+use Rattle.ids.specs.LentFirsts.{isSame, beginsAt}
 use Rattle.sets.proofs.SetLaws.{order-trans, order-total, order-both, order-self, order-equal}
 use Rattle.sets.proofs.IdLaws.{place-first, place-here}
 use Rattle.sets.proofs.HeldLaws.{sets-length, sets-at}

@@ -14,7 +14,7 @@ use Rattle.laws.specs.declared.Order.{Order}
 use Rattle.laws.specs.declared.Order.the-variants.{Less, Equal, Greater}
 use Rattle.laws.specs.Pick.{pick}
 use Rattle.laws.specs.Bounded.{tabulate, upTo}
-use Rattle.laws.specs.Range.{Apart, Outside, Only, seg}
+use Rattle.laws.specs.LentRange.{Apart, Outside, Only, seg}
 use Rattle.laws.specs.Sorting.{sorted}
 use Rattle.laws.proofs.Cases.{same-or-not, lt-or-ge, Which, which}
 use Rattle.laws.proofs.Cases.Which.{holds, fails}
@@ -25,7 +25,7 @@ use Rattle.sets.specs.Set.{Set}
 use Rattle.sets.specs.Order.{order}
 use Rattle.sets.specs.Ids.{place, distinctFrom, distinct}
 use Rattle.sets.specs.Lent.{setOf, Stored, Held, setsIn, atMost, CountedUp}
-use Rattle.ids.specs.Inner.{isSame, beginsAt, FirstsFit, FirstsAt, Resolved, GivesIds}
+use Rattle.ids.specs.LentFirsts.{isSame, beginsAt, FirstsFit, FirstsAt, Resolved, GivesIds}
 use Rattle.sets.proofs.IdLaws.{ids-place, first-id, first-count, again-count, again-same, distinct-all-of}
 use Rattle.sets.proofs.HeldLaws.{Kept, kept-only, set-same, held-kept, held-stored, sets-length, sets-at}
 use Rattle.ids.proofs.FirstLaws.{line-at, order-same, begins-first}

@@ -9,7 +9,7 @@ use lib.ListN.{length, getD}
 use borrow.Author.Tests.{eq-eqb, ne-eqb, eqb-true}
 use Rattle.laws.specs.Every.{All, EachTwo}
 use Rattle.laws.specs.Bounded.{upTo}
-use Rattle.laws.specs.Range.{Apart, seg}
+use Rattle.laws.specs.LentRange.{Apart, seg}
 use Rattle.laws.specs.Sorting.{sorted, keep}
 use Rattle.laws.proofs.Cases.{same-or-not, lt-or-ge, Which, which}
 use Rattle.laws.proofs.Cases.Which.{holds, fails}
@@ -21,8 +21,8 @@ use Rattle.laws.proofs.UpLaws.{up-long, up-at, up-all}
 use Rattle.sets.specs.Set.{Set}
 use Rattle.sets.specs.Ids.{place}
 use Rattle.sets.specs.Lent.{setOf, Ready, SortedAt, Held, setsIn, isFirst, atMost, IdsFit, Identified}
-use Rattle.ids.specs.Inner.{FirstsFit, FirstsAt, Resolved, GivesIds}
-use Rattle.ids.specs.Screened.{isKept, Screened}
+use Rattle.ids.specs.LentFirsts.{FirstsFit, FirstsAt, Resolved, GivesIds}
+use Rattle.ids.specs.LentScreened.{isKept, Screened}
 use Rattle.sets.proofs.IdLaws.{place-first, place-here}
 use Rattle.sets.proofs.HeldLaws.{Kept, kept-only, kept-trans, held-kept, held-ready, set-same, sets-same, most-same, sets-length, sets-at}
 use Rattle.ids.proofs.FirstLaws.{up-two, le-trans, le-total, line-has, line-length}

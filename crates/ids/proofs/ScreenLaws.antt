@@ -12,7 +12,7 @@ use borrow.Author.Tests.{eq-eqb, ne-eqb}
 use borrow.Author.Count.{below-more}
 use Rattle.laws.specs.declared.Order.the-variants.{Equal}
 use Rattle.laws.specs.Bounded.{tabulate, upTo}
-use Rattle.laws.specs.Range.{Only, seg, Zeroed}
+use Rattle.laws.specs.LentRange.{Only, seg, Zeroed}
 use Rattle.laws.specs.Sorting.{keep}
 use Rattle.laws.proofs.Cases.{same-or-not, lt-or-ge}
 use Rattle.laws.proofs.EveryLaws.{all-imp}
@@ -23,7 +23,7 @@ use Rattle.laws.proofs.UpLaws.{up-all, up-snoc}
 use Rattle.sets.specs.Order.{order}
 use Rattle.sets.specs.Lent.{setOf, Stored, IdsFit}
 use Rattle.sets.proofs.HeldLaws.{Kept, kept-only, set-same, held-kept, held-stored}
-use Rattle.ids.specs.Screened.{isKept, Screened}
+use Rattle.ids.specs.LentScreened.{isKept, Screened}
 use Rattle.ids.proofs.FirstLaws.{order-same}
 
 -- ---- keeping what is marked, one more

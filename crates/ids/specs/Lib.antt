@@ -1,2 +1,2 @@
-pub mod Inner
-pub mod Screened
+pub mod LentFirsts
+pub mod LentScreened

@@ -10,10 +10,10 @@ ghost use mathlib.Core.Path.{_≡_};
 ghost use mathlib.Core.List.{List};
 ghost use Prim.Native.Nat.{ℕ, _+_, _-_, _<_, _≤_};
 ghost use lib.ListN.{length, getD};
-ghost use Rattle.laws.specs.Range.{Apart};
+ghost use Rattle.laws.specs.LentRange.{Apart};
 ghost use Rattle.sets.specs.Set.{Set};
 ghost use Rattle.sets.specs.Lent.{Stored, CountedUp, IdsFit, Identified};
-ghost use Rattle.ids.specs.Inner.{beginsAt, FirstsFit, FirstsAt, Resolved, GivesIds};
+ghost use Rattle.ids.specs.LentFirsts.{beginsAt, FirstsFit, FirstsAt, Resolved, GivesIds};
 
 // The numbers 0 up to n: in mode 1 a set's own number is its id.
 pub fn own_ids(work: &mut [u32], at: usize, n: usize)

@@ -11,7 +11,7 @@ ghost use lib.ListN.{length, getD};
 ghost use Rattle.laws.specs.declared.Order.the-variants.{Equal};
 ghost use Rattle.sets.specs.Order.{order};
 ghost use Rattle.sets.specs.Lent.{setOf, Stored, IdsFit};
-ghost use Rattle.ids.specs.Screened.{Screened};
+ghost use Rattle.ids.specs.LentScreened.{Screened};
 
 // A number below n which equal sets have in common.
 fn hash(work: &[u32], index: usize, x: usize, n: usize) -> usize

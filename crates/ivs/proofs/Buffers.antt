@@ -9,7 +9,6 @@ use lib.Dec.{eqb}
 use borrow.Author.Tests.{eq-eqb, ne-eqb}
 use Rattle.laws.specs.Pick.{pick}
 use Rattle.pairs.specs.declared.Pair.{Pair}
-use Rattle.pairs.specs.Queue.{none}
 use Rattle.said.specs.Refusals.{earlyNo}
 use Rattle.said.specs.Job.{Said, Outcome, refused, fine, outcome}
 use Rattle.job.specs.Check.{workLeft}
@@ -18,8 +17,8 @@ use Rattle.finishing.specs.declared.answers.Built.{Built}
 use Rattle.finishing.specs.declared.answers.Built.the-variants.{Refused, Done}
 use Rattle.finishing.specs.Buffers.{Lengths, lengths}
 use Rattle.finishing.specs.Late.{lateNo, buffersLeft}
-use Rattle.build.specs.Lending.{Lending}
-use Rattle.build.specs.Build.{coordsOf, packedOf, leftFrom, pairsLeft, outcomeOf, answerOf, after}
+use Rattle.packer.specs.Lending.{Lending, noPair}
+use Rattle.packer.specs.Build.{coordsInUse, packedOf, leftFrom, pairsLeft, outcomeOf, answerOf, after}
 use Rattle.ivs.proofs.OutcomeRows.{early, outcome-by, outcome-walked, walk-no, early-few, walked-only, job-only, late-many, late, Answers, answers}
 use Rattle.ivs.proofs.OutcomeRows.Answers.{by-job, by-late, done}
 
@@ -79,7 +78,7 @@ left-kept : (c : Lending) → (early c ≡ 0 → ⊥) → (after c .work ≡ c .
 unfolding workLeft pairsLeft
 left-kept c d = (rw (ne-eqb (early c) 0 d), rw (ne-eqb (early c) 0 d))
 
-left-zeros : (c : Lending) → early c ≡ 0 → (after c .work ≡ replicate (length (c .work)) 0) × (after c .pairs ≡ replicate (length (c .pairs)) none)
+left-zeros : (c : Lending) → early c ≡ 0 → (after c .work ≡ replicate (length (c .work)) 0) × (after c .pairs ≡ replicate (length (c .pairs)) noPair)
 unfolding workLeft pairsLeft
 left-zeros c e = (rw (eq-eqb (early c) 0 e), rw (eq-eqb (early c) 0 e))
 
@@ -95,12 +94,12 @@ module _ (c : Lending) where
   pub work-cleared : (n p : ℕ) → 5 ≤ n → answerOf c ≡ Refused n p → after c .work ≡ replicate (length (c .work)) 0
   work-cleared n p h e = left-zeros c (none-early c n p h e) .0
 
-  pub pairs-cleared : (n p : ℕ) → 5 ≤ n → answerOf c ≡ Refused n p → after c .pairs ≡ replicate (length (c .pairs)) none
+  pub pairs-cleared : (n p : ℕ) → 5 ≤ n → answerOf c ≡ Refused n p → after c .pairs ≡ replicate (length (c .pairs)) noPair
   pairs-cleared n p h e = left-zeros c (none-early c n p h e) .1
 
   -- done
   pub work-done : (r : Report) → answerOf c ≡ Done r → after c .work ≡ replicate (length (c .work)) 0
   work-done r e = left-zeros c (done-early c r e) .0
 
-  pub pairs-done : (r : Report) → answerOf c ≡ Done r → after c .pairs ≡ replicate (length (c .pairs)) none
+  pub pairs-done : (r : Report) → answerOf c ≡ Done r → after c .pairs ≡ replicate (length (c .pairs)) noPair
   pairs-done r e = left-zeros c (done-early c r e) .1

@@ -23,10 +23,10 @@ use Rattle.told.specs.Told.{ValueIn, coordinatesAt, indexOf, Told}
 use Rattle.told.proofs.Bytes.{told}
 use Rattle.finishing.specs.declared.answers.Report.{Report}
 use Rattle.finishing.specs.declared.answers.Built.the-variants.{Done}
-use Rattle.build.specs.Lending.{Lending}
-use Rattle.build.specs.Build.{regionBytes, coordsOf, answerOf, after}
+use Rattle.packer.specs.Lending.{Lending}
+use Rattle.packer.specs.Build.{regionBytes, coordsInUse, answerOf, after}
 use Rattle.ivs.specs.SetsRead.{listed, namedBy, valueAt, InStore, SetRead, SetsRead}
-use Rattle.build.proofs.Accepted.{coords-long}
+use Rattle.packer.proofs.Accepted.{coords-long}
 use Rattle.ivs.proofs.Demand2.{demand2}
 use Rattle.ivs.specs.Demand2.{SetBack, RegionBack, InList, Demand2}
 
@@ -51,21 +51,21 @@ value-at job i b = word-signed (be 4 (recordAt job i) 4) (four-low (recordAt job
 -- ---- one set
 
 module _ (axes : ℕ) (job : List ℕ) (s : Said) (bytes : Bytes job) (t : Told axes job s) where
-  coords-at : (r : ℕ) → r < length (s .used) → getD (coordsOf s) r [] ≡ regionBytes (coordinatesAt axes job (getD (s .used) r 0))
-  unfolding coordsOf
+  coords-at : (r : ℕ) → r < length (s .used) → getD (coordsInUse s) r [] ≡ regionBytes (coordinatesAt axes job (getD (s .used) r 0))
+  unfolding coordsInUse
   coords-at r h =
       getD-map-in (λ (q : ℕ). regionBytes (getD (s .regions) q [])) (s .used) r 0 [] h
       ∙ ap regionBytes (t .regions-are (getD (s .used) r 0) (t .used-known r h))
 
-  module _ (store : List ℕ) (n at : ℕ) (h : n < length (s .sets)) (b : SetBack axes (coordsOf s) (getD (s .sets) n []) store at) where
+  module _ (store : List ℕ) (n at : ℕ) (h : n < length (s .sets)) (b : SetBack axes (coordsInUse s) (getD (s .sets) n []) store at) where
     module _ (i : ℕ) (v : ValueIn job n i) where
       abbrev r : ℕ
       r = indexOf s (regionOf (recordAt job i))
 
-      below : r < length (coordsOf s)
+      below : r < length (coordsInUse s)
       below = omega (arith, t .given n i v .index-below, coords-long s)
 
-      named-at : getD (coordsOf s) r [] ≡ namedBy axes job i
+      named-at : getD (coordsInUse s) r [] ≡ namedBy axes job i
       named-at = coords-at r (t .given n i v .index-below) ∙ ap regionBytes (t .given n i v .coordinates-are)
 
       value-is : value (wordOf (getD (s .sets) n []) r) ≡ valueAt job i

@@ -28,8 +28,8 @@ use denote.Triple.Spec.{tripleOf}
 use denote.Triple.Statement.{Contract, Triple}
 use denote.Triple.Clauses.{Lasts, lasts}
 use Rattle.finishing.specs.Buffers.{buffers}
-use Rattle.build.specs.Lending.{lending, leaves}
-use Rattle.build.specs.Build.{Obeys}
+use Rattle.packer.specs.Lending.{lending, leaves}
+use Rattle.packer.specs.Build.{Obeys}
 use Rattle.ivs.specs.Answers.{numberOf, reportWords, filled, numberFew}
 use Rattle.pairs.specs.declared.Pair.{Pair}
 use Rattle.pairs.proofs.Pair as T
@@ -39,9 +39,9 @@ use Rattle.finishing.proofs.answers.Built.Laws as D′
 use Rattle.pairs.proofs.Loan.{Loan, both, Gives, gives, loan-call}
 use Rattle.pairs.proofs.Slices.{ref, Has, Sees, lent-mut, lent-see}
 use Rattle.pairs.proofs.Refs.{HasRef, at-ref, lent-ref}
-use Rattle.build.proofs.build as build
+use Rattle.packer.proofs.build as build
 use Rattle.ivs.proofs.report.tell as tell
-use Rattle.build.proofs.build.Symbol.{name as #build·build}
+use Rattle.packer.proofs.build.Symbol.{name as #packer·build}
 use Rattle.ivs.proofs.report.tell.Symbol.{name as #ivs·tell}
 
 abbrev pub mach : Pair → Val
@@ -55,7 +55,7 @@ module _ {M : Type 1} (𝓤 : URA M) (H : Heap 𝓤) (A : Atoms 𝓤) (mem : Mem
   Tell-of = tripleOf 𝓤 H A tell.signature (tell.spec 𝓤 H A mem run)
 
 module _ {M : Type 1} (𝓤 : URA M) (H : Heap 𝓤) (A : Atoms 𝓤) (W : Given 𝓤 H A) (mem : Memory → SProp 𝓤) (run : Routine → Fun 𝓤) where
-  module _ (C : Calls 𝓤 H) (fm : FmC 𝓤 H (W .laws) C) (known : Triple 𝓤 (C #build·build) (Build-of 𝓤 H A mem run)) (κ : Lft) (θ : Share) (γ : GName) (β ι : ℕ) (ν : ℕ) (job : List ℕ) (κ₂ : Lft) (θ₂ : Share) (γ₂ : GName) (β₂ ι₂ : ℕ) (ν₂ : ℕ) (work : List ℕ) (κ₃ : Lft) (θ₃ : Share) (γ₃ : GName) (β₃ ι₃ : ℕ) (ν₃ : ℕ) (pairs : List Pair) (κ₄ : Lft) (θ₄ : Share) (γ₄ : GName) (β₄ ι₄ : ℕ) (ν₄ : ℕ) (out : List ℕ) (κ₅ : Lft) (θ₅ : Share) (γ₅ : GName) (β₅ ι₅ : ℕ) (ν₅ : ℕ) (ids : List ℕ) (κ₆ : Lft) (θ₆ : Share) (γ₆ : GName) (β₆ ι₆ : ℕ) (ν₆ : ℕ) (map : List ℕ) (κ₇ : Lft) (θ₇ : Share) (γ₇ : GName) (β₇ ι₇ : ℕ) (ν₇ : ℕ) (log : List ℕ) (axes : ℕ) (mode : ℕ) where
+  module _ (C : Calls 𝓤 H) (fm : FmC 𝓤 H (W .laws) C) (known : Triple 𝓤 (C #packer·build) (Build-of 𝓤 H A mem run)) (κ : Lft) (θ : Share) (γ : GName) (β ι : ℕ) (ν : ℕ) (job : List ℕ) (κ₂ : Lft) (θ₂ : Share) (γ₂ : GName) (β₂ ι₂ : ℕ) (ν₂ : ℕ) (work : List ℕ) (κ₃ : Lft) (θ₃ : Share) (γ₃ : GName) (β₃ ι₃ : ℕ) (ν₃ : ℕ) (pairs : List Pair) (κ₄ : Lft) (θ₄ : Share) (γ₄ : GName) (β₄ ι₄ : ℕ) (ν₄ : ℕ) (out : List ℕ) (κ₅ : Lft) (θ₅ : Share) (γ₅ : GName) (β₅ ι₅ : ℕ) (ν₅ : ℕ) (ids : List ℕ) (κ₆ : Lft) (θ₆ : Share) (γ₆ : GName) (β₆ ι₆ : ℕ) (ν₆ : ℕ) (map : List ℕ) (κ₇ : Lft) (θ₇ : Share) (γ₇ : GName) (β₇ ι₇ : ℕ) (ν₇ : ℕ) (log : List ℕ) (axes : ℕ) (mode : ℕ) where
     abbrev Loan-build-see-mut-mut-mut-mut-mut-mut : (long₂ : length work ≡ ν₂) (long₃ : length pairs ≡ ν₃) (long₄ : length out ≡ ν₄) (long₅ : length ids ≡ ν₅) (long₆ : length map ≡ ν₆) (long₇ : length log ≡ ν₇) (sized₂ : Room u32 ν₂) (sized₃ : Room T.the-row ν₃) (sized₄ : Room u8 ν₄) (sized₅ : Room u32 ν₅) (sized₆ : Room u32 ν₆) (sized₇ : Room u32 ν₇) → Loan 𝓤 H A
     Loan-build-see-mut-mut-mut-mut-mut-mut long₂ long₃ long₄ long₅ long₆ long₇ sized₂ sized₃ sized₄ sized₅ sized₆ sized₇ = both 𝓤 H A W (lent-see u8 κ θ γ β ι 𝓤 H A W job ν) (both 𝓤 H A W (lent-mut u32 κ₂ θ₂ γ₂ β₂ ι₂ 𝓤 H A W work ν₂ long₂ sized₂) (both 𝓤 H A W (lent-mut T.the-row κ₃ θ₃ γ₃ β₃ ι₃ 𝓤 H A W pairs ν₃ long₃ sized₃) (both 𝓤 H A W (lent-mut u8 κ₄ θ₄ γ₄ β₄ ι₄ 𝓤 H A W out ν₄ long₄ sized₄) (both 𝓤 H A W (lent-mut u32 κ₅ θ₅ γ₅ β₅ ι₅ 𝓤 H A W ids ν₅ long₅ sized₅) (both 𝓤 H A W (lent-mut u32 κ₆ θ₆ γ₆ β₆ ι₆ 𝓤 H A W map ν₆ long₆ sized₆) (lent-mut u32 κ₇ θ₇ γ₇ β₇ ι₇ 𝓤 H A W log ν₇ long₇ sized₇))))))
 
@@ -149,10 +149,10 @@ module _ {M : Type 1} (𝓤 : URA M) (H : Heap 𝓤) (A : Atoms 𝓤) (W : Given
         join ! $
         keep ! (0 ∷ 2 ∷ []) $ by ! (gives 𝓤 H A W (Loan-build-see-mut-mut-mut-mut-mut-mut long₂ long₃ long₄ long₅ long₆ long₇ sized₂ sized₃ sized₄ sized₅ sized₆ sized₇) D.the-row (λ x r. Obeys (lending axes mode job work pairs (buffers out ids map log)) r (leaves (x .1 .0) (x .1 .1 .0) (buffers (x .1 .1 .1 .0) (x .1 .1 .1 .1 .0) (x .1 .1 .1 .1 .1 .0) (x .1 .1 .1 .1 .1 .1)))) g w r ((tt, (ws .1 .1 .1 .0, (ws .1 .1 .1 .1 .0, (ws .1 .1 .1 .1 .1 .0, (ws .1 .1 .1 .1 .1 .1 .0, (ws .1 .1 .1 .1 .1 .1 .1 .0, ws .1 .1 .1 .1 .1 .1 .1 .1 .0))))))) ((tt, (l₁ ∙ long₂, (l₂ ∙ long₃, (l₃ ∙ long₄, (l₄ ∙ long₅, (l₅ ∙ long₆, l₆ ∙ long₇)))))), e)))))))))))
 
-    pub build-see-mut-mut-mut-mut-mut-mut : (long₂ : length work ≡ ν₂) (long₃ : length pairs ≡ ν₃) (long₄ : length out ≡ ν₄) (long₅ : length ids ≡ ν₅) (long₆ : length map ≡ ν₆) (long₇ : length log ≡ ν₇) (sized₂ : Room u32 ν₂) (sized₃ : Room T.the-row ν₃) (sized₄ : Room u8 ν₄) (sized₅ : Room u32 ν₅) (sized₆ : Room u32 ν₆) (sized₇ : Room u32 ν₇) → axes < 2 ^ 32 → mode < 2 ^ 32 → ent 𝓤 (mean 𝓤 H A (Loan-build-see-mut-mut-mut-mut-mut-mut long₂ long₃ long₄ long₅ long₆ long₇ sized₂ sized₃ sized₄ sized₅ sized₆ sized₇ .held)) (H .⇛ (C #build·build (vint w32 axes ∷ vint w32 mode ∷ sliceVal (β, ι) ν ∷ sliceVal (β₂, ι₂) ν₂ ∷ sliceVal (β₃, ι₃) ν₃ ∷ sliceVal (β₄, ι₄) ν₄ ∷ sliceVal (β₅, ι₅) ν₅ ∷ sliceVal (β₆, ι₆) ν₆ ∷ sliceVal (β₇, ι₇) ν₇ ∷ []) (λ w. mean 𝓤 H A (After-build-see-mut-mut-mut-mut-mut-mut w))))
-    build-see-mut-mut-mut-mut-mut-mut long₂ long₃ long₄ long₅ long₆ long₇ sized₂ sized₃ sized₄ sized₅ sized₆ sized₇ g-axes g-mode = loan-call 𝓤 H A W (Loan-build-see-mut-mut-mut-mut-mut-mut long₂ long₃ long₄ long₅ long₆ long₇ sized₂ sized₃ sized₄ sized₅ sized₆ sized₇) D.the-row (λ x r. Obeys (lending axes mode job work pairs (buffers out ids map log)) r (leaves (x .1 .0) (x .1 .1 .0) (buffers (x .1 .1 .1 .0) (x .1 .1 .1 .1 .0) (x .1 .1 .1 .1 .1 .0) (x .1 .1 .1 .1 .1 .1)))) C fm #build·build (vint w32 axes ∷ vint w32 mode ∷ sliceVal (β, ι) ν ∷ sliceVal (β₂, ι₂) ν₂ ∷ sliceVal (β₃, ι₃) ν₃ ∷ sliceVal (β₄, ι₄) ν₄ ∷ sliceVal (β₅, ι₅) ν₅ ∷ sliceVal (β₆, ι₆) ν₆ ∷ sliceVal (β₇, ι₇) ν₇ ∷ []) (λ g.
+    pub build-see-mut-mut-mut-mut-mut-mut : (long₂ : length work ≡ ν₂) (long₃ : length pairs ≡ ν₃) (long₄ : length out ≡ ν₄) (long₅ : length ids ≡ ν₅) (long₆ : length map ≡ ν₆) (long₇ : length log ≡ ν₇) (sized₂ : Room u32 ν₂) (sized₃ : Room T.the-row ν₃) (sized₄ : Room u8 ν₄) (sized₅ : Room u32 ν₅) (sized₆ : Room u32 ν₆) (sized₇ : Room u32 ν₇) → axes < 2 ^ 32 → mode < 2 ^ 32 → ent 𝓤 (mean 𝓤 H A (Loan-build-see-mut-mut-mut-mut-mut-mut long₂ long₃ long₄ long₅ long₆ long₇ sized₂ sized₃ sized₄ sized₅ sized₆ sized₇ .held)) (H .⇛ (C #packer·build (vint w32 axes ∷ vint w32 mode ∷ sliceVal (β, ι) ν ∷ sliceVal (β₂, ι₂) ν₂ ∷ sliceVal (β₃, ι₃) ν₃ ∷ sliceVal (β₄, ι₄) ν₄ ∷ sliceVal (β₅, ι₅) ν₅ ∷ sliceVal (β₆, ι₆) ν₆ ∷ sliceVal (β₇, ι₇) ν₇ ∷ []) (λ w. mean 𝓤 H A (After-build-see-mut-mut-mut-mut-mut-mut w))))
+    build-see-mut-mut-mut-mut-mut-mut long₂ long₃ long₄ long₅ long₆ long₇ sized₂ sized₃ sized₄ sized₅ sized₆ sized₇ g-axes g-mode = loan-call 𝓤 H A W (Loan-build-see-mut-mut-mut-mut-mut-mut long₂ long₃ long₄ long₅ long₆ long₇ sized₂ sized₃ sized₄ sized₅ sized₆ sized₇) D.the-row (λ x r. Obeys (lending axes mode job work pairs (buffers out ids map log)) r (leaves (x .1 .0) (x .1 .1 .0) (buffers (x .1 .1 .1 .0) (x .1 .1 .1 .1 .0) (x .1 .1 .1 .1 .1 .0) (x .1 .1 .1 .1 .1 .1)))) C fm #packer·build (vint w32 axes ∷ vint w32 mode ∷ sliceVal (β, ι) ν ∷ sliceVal (β₂, ι₂) ν₂ ∷ sliceVal (β₃, ι₃) ν₃ ∷ sliceVal (β₄, ι₄) ν₄ ∷ sliceVal (β₅, ι₅) ν₅ ∷ sliceVal (β₆, ι₆) ν₆ ∷ sliceVal (β₇, ι₇) ν₇ ∷ []) (λ g.
         qed W (Loan-build-see-mut-mut-mut-mut-mut-mut long₂ long₃ long₄ long₅ long₆ long₇ sized₂ sized₃ sized₄ sized₅ sized₆ sized₇ .goes g ∷ []) ∵
-        suffices ! (C #build·build (vint w32 axes ∷ vint w32 mode ∷ sliceVal (β, ι) ν ∷ sliceVal (β₂, ι₂) ν₂ ∷ sliceVal (β₃, ι₃) ν₃ ∷ sliceVal (β₄, ι₄) ν₄ ∷ sliceVal (β₅, ι₅) ν₅ ∷ sliceVal (β₆, ι₆) ν₆ ∷ sliceVal (β₇, ι₇) ν₇ ∷ []) (Build-of 𝓤 H A mem run .post (at-build-see-mut-mut-mut-mut-mut-mut g))) (fm→monoC 𝓤 H (W .laws) C fm #build·build (vint w32 axes ∷ vint w32 mode ∷ sliceVal (β, ι) ν ∷ sliceVal (β₂, ι₂) ν₂ ∷ sliceVal (β₃, ι₃) ν₃ ∷ sliceVal (β₄, ι₄) ν₄ ∷ sliceVal (β₅, ι₅) ν₅ ∷ sliceVal (β₆, ι₆) ν₆ ∷ sliceVal (β₇, ι₇) ν₇ ∷ []) (Build-of 𝓤 H A mem run .post (at-build-see-mut-mut-mut-mut-mut-mut g)) _ (leaves-build-see-mut-mut-mut-mut-mut-mut long₂ long₃ long₄ long₅ long₆ long₇ sized₂ sized₃ sized₄ sized₅ sized₆ sized₇ g)) $
+        suffices ! (C #packer·build (vint w32 axes ∷ vint w32 mode ∷ sliceVal (β, ι) ν ∷ sliceVal (β₂, ι₂) ν₂ ∷ sliceVal (β₃, ι₃) ν₃ ∷ sliceVal (β₄, ι₄) ν₄ ∷ sliceVal (β₅, ι₅) ν₅ ∷ sliceVal (β₆, ι₆) ν₆ ∷ sliceVal (β₇, ι₇) ν₇ ∷ []) (Build-of 𝓤 H A mem run .post (at-build-see-mut-mut-mut-mut-mut-mut g))) (fm→monoC 𝓤 H (W .laws) C fm #packer·build (vint w32 axes ∷ vint w32 mode ∷ sliceVal (β, ι) ν ∷ sliceVal (β₂, ι₂) ν₂ ∷ sliceVal (β₃, ι₃) ν₃ ∷ sliceVal (β₄, ι₄) ν₄ ∷ sliceVal (β₅, ι₅) ν₅ ∷ sliceVal (β₆, ι₆) ν₆ ∷ sliceVal (β₇, ι₇) ν₇ ∷ []) (Build-of 𝓤 H A mem run .post (at-build-see-mut-mut-mut-mut-mut-mut g)) _ (leaves-build-see-mut-mut-mut-mut-mut-mut long₂ long₃ long₄ long₅ long₆ long₇ sized₂ sized₃ sized₄ sized₅ sized₆ sized₇ g)) $
         suffices ! (Build-of 𝓤 H A mem run .pre (at-build-see-mut-mut-mut-mut-mut-mut g)) (known (at-build-see-mut-mut-mut-mut-mut-mut g)) $ split ! $
         split ! $
         move ! (2 ∷ []) $

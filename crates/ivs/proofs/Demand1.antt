@@ -1,6 +1,6 @@
 -- D1 (specs/Demand1.antt), of every call. Assumes nothing.
 use native.Mathlib.Omega.{arith}
-use Rattle.build.specs.Lending.{Lending}
+use Rattle.packer.specs.Lending.{Lending}
 use Rattle.ivs.specs.Demand1.{Table, Kept, Demand1}
 use Rattle.ivs.proofs.Unique.{unique}
 use Rattle.ivs.proofs.OutcomeRows.{numbers}

@@ -15,8 +15,7 @@ use Rattle.sets.specs.Set.{Set, wordOf}
 use Rattle.groups.specs.Groups.{groupsOf, maxShapes}
 use Rattle.reader.specs.declared.reader.Reading.the-variants.{Written, NoColumn}
 use Rattle.reader.specs.Store.{readStore, valueOf, listAt, regionCount}
-use Rattle.store.specs.Placing.{allRuns, idWords, names, keptOf, newIndex}
-use Rattle.store.specs.Lent.{stored}
+use Rattle.store.specs.Placing.{allRuns, idWords, names, keptOf, newIndex, stored}
 use Rattle.said.specs.Records.{recordBytes}
 use Rattle.said.specs.Job.{Said}
 use Rattle.said.proofs.SoundLaws.{Bytes}
@@ -24,12 +23,12 @@ use Rattle.encoder.specs.Packed.{Packed, shared, own}
 use Rattle.finishing.specs.declared.answers.Report.{Report}
 use Rattle.finishing.specs.declared.answers.Built.the-variants.{Done}
 use Rattle.finishing.specs.Late.{storeFor}
-use Rattle.build.specs.Lending.{Lending}
-use Rattle.build.specs.Build.{coordsOf, packedOf, answerOf, after}
-use Rattle.build.proofs.RowsBack.{RowOf, Listed}
-use Rattle.build.proofs.ReadBack.{Sized, GivesBack, shared-back, own-back}
-use Rattle.build.proofs.Accepted.{Accepted, accepted, accepted-sized, coords-once, map-is, store-front, id-at}
-use Rattle.build.proofs.PastLaws.{ids-long}
+use Rattle.packer.specs.Lending.{Lending}
+use Rattle.packer.specs.Build.{coordsInUse, packedOf, answerOf, after}
+use Rattle.packer.proofs.RowsBack.{RowOf, Listed}
+use Rattle.packer.proofs.ReadBack.{Sized, GivesBack, shared-back, own-back}
+use Rattle.packer.proofs.Accepted.{Accepted, accepted, accepted-sized, coords-once, map-is, store-front, id-at}
+use Rattle.packer.proofs.PastLaws.{ids-long}
 use Rattle.ivs.specs.Demand2.{RegionBack, InList, SetBack, Demand2}
 
 -- ---- what a set's row in a store gives back
@@ -109,15 +108,15 @@ module _ (mode : ℕ) (s : Said) where
   unfolding shared
   shared-groups n all h = h
 
-  packed-back : (axes : ℕ) → Sized axes (length (s .used)) (coordsOf s) (s .sets) → packedOf mode s .groups ≤ maxShapes
-      → GivesBack axes (length (s .used)) (coordsOf s) (s .sets) (packedOf mode s)
+  packed-back : (axes : ℕ) → Sized axes (length (s .used)) (coordsInUse s) (s .sets) → packedOf mode s .groups ≤ maxShapes
+      → GivesBack axes (length (s .used)) (coordsInUse s) (s .sets) (packedOf mode s)
   unfolding packedOf
   packed-back axes z h = go (which (eqb mode 0)) h
     where
       go : Which (eqb mode 0) → pick (eqb mode 0) (shared (length (s .used)) (s .sets)) (own (length (s .used)) (s .sets)) .groups ≤ 1024
-          → GivesBack axes (length (s .used)) (coordsOf s) (s .sets) (pick (eqb mode 0) (shared (length (s .used)) (s .sets)) (own (length (s .used)) (s .sets)))
-      go (holds e) h = rw e (shared-back axes (length (s .used)) (coordsOf s) (s .sets) z (shared-groups (length (s .used)) (s .sets) (rw e at h)))
-      go (fails e) h = rw e (own-back axes (length (s .used)) (coordsOf s) (s .sets) z)
+          → GivesBack axes (length (s .used)) (coordsInUse s) (s .sets) (pick (eqb mode 0) (shared (length (s .used)) (s .sets)) (own (length (s .used)) (s .sets)))
+      go (holds e) h = rw e (shared-back axes (length (s .used)) (coordsInUse s) (s .sets) z (shared-groups (length (s .used)) (s .sets) (rw e at h)))
+      go (fails e) h = rw e (own-back axes (length (s .used)) (coordsInUse s) (s .sets) z)
 
 -- THE LAW
 pub demand2 : (c : Lending) (r : Report) → Bytes (c .job) → answerOf c ≡ Done r → Demand2 c r
@@ -144,7 +143,7 @@ demand2 c r bytes e =
     k = packedOf (c .mode) s
 
     coords : List (List ℕ)
-    coords = coordsOf s
+    coords = coordsInUse s
 
     size : Sized (c .axes) (length (s .used)) coords (s .sets)
     size = accepted-sized c r a bytes

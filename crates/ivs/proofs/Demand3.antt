@@ -29,9 +29,9 @@ use Rattle.encoder.specs.Packed.{Packed, shared, own, isAhead, finalOf, finalsO
 use Rattle.finishing.specs.declared.answers.Report.{Report}
 use Rattle.finishing.specs.declared.answers.Built.the-variants.{Done}
 use Rattle.finishing.specs.Late.{storeFor, reportOf}
-use Rattle.build.specs.Lending.{Lending}
-use Rattle.build.specs.Build.{coordsOf, packedOf, outcomeOf, answerOf, after}
-use Rattle.build.proofs.Accepted.{Accepted, accepted, packedIn, log-is, store-front, log-front}
+use Rattle.packer.specs.Lending.{Lending}
+use Rattle.packer.specs.Build.{coordsInUse, packedOf, outcomeOf, answerOf, after}
+use Rattle.packer.proofs.Accepted.{Accepted, accepted, packedIn, log-is, store-front, log-front}
 use Rattle.ivs.proofs.JoinSteps.{joins}
 use Rattle.ivs.specs.Demand3.{homesOf, shapesJoined, MadeOf, Ruled, groupsSaid, Demand3, NoMerging}
 
@@ -109,16 +109,16 @@ module _ (s : Said) where
   unfolding shared
   sets-distinct = ap (λ (p : Packed). p .sets) (shared-is s)
 
-  store-of : (axes : ℕ) → storeFor axes (coordsOf s) (packedOf 0 s) ≡ storeOf axes (coordsOf s) (λ x. getD (distinct (s .sets)) x []) (packedOf 0 s .finals)
+  store-of : (axes : ℕ) → storeFor axes (coordsInUse s) (packedOf 0 s) ≡ storeOf axes (coordsInUse s) (λ x. getD (distinct (s .sets)) x []) (packedOf 0 s .finals)
   unfolding storeFor
-  store-of axes = ap (λ (l : List Set). storeOf axes (coordsOf s) (λ x. getD l x []) (packedOf 0 s .finals)) sets-distinct
+  store-of axes = ap (λ (l : List Set). storeOf axes (coordsInUse s) (λ x. getD l x []) (packedOf 0 s .finals)) sets-distinct
 
   shared-rule : Ruled (groupsSaid s) (shared (length (s .used)) (s .sets) .groups) (length (shared (length (s .used)) (s .sets) .log))
       (shared (length (s .used)) (s .sets) .weighed) (shared (length (s .used)) (s .sets) .before) (shared (length (s .used)) (s .sets) .after)
   unfolding shared
   shared-rule = ruled (groupsSaid s)
 
-  report-rule : (axes : ℕ) (r : Report) → r ≡ reportOf axes (coordsOf s) (packedOf 0 s) → Ruled (groupsSaid s) (r .groups) (r .merges) (r .weighed) (r .before) (r .after)
+  report-rule : (axes : ℕ) (r : Report) → r ≡ reportOf axes (coordsInUse s) (packedOf 0 s) → Ruled (groupsSaid s) (r .groups) (r .merges) (r .weighed) (r .before) (r .after)
   unfolding reportOf
   report-rule axes r e =
       subst (λ (t : Report). Ruled (groupsSaid s) (t .groups) (t .merges) (t .weighed) (t .before) (t .after)) (sym e)
@@ -130,7 +130,7 @@ module _ (c : Lending) (r : Report) (a : Accepted c r) (m : c .mode ≡ 0) where
   packed-is = ap (λ (k : ℕ). packedOf k (a .said)) m
 
   ruled-here : Ruled (groupsSaid (a .said)) (r .groups) (r .merges) (r .weighed) (r .before) (r .after)
-  ruled-here = report-rule (a .said) (c .axes) r (a .report-is ∙ ap (reportOf (c .axes) (coordsOf (a .said))) packed-is)
+  ruled-here = report-rule (a .said) (c .axes) r (a .report-is ∙ ap (reportOf (c .axes) (coordsInUse (a .said))) packed-is)
 
   log-is-here : packedIn c (a .said) .log ≡ merged (groupsSaid (a .said)) .log
   log-is-here = ap (λ (p : Packed). p .log) packed-is ∙ log-is-rule (a .said)
@@ -146,7 +146,7 @@ module _ (c : Lending) (r : Report) (a : Accepted c r) (m : c .mode ≡ 0) where
     no-fold = λ j p e. merging.no-fold (length (a .said .used)) j (groupsSaid (a .said)) (groups-proper (length (a .said .used)) (a .said .sets)) p e;
     log-front = log-front c r a ∙ ap words log-is-here;
     finals-are = finals-living (a .said);
-    written = store-front c r a ∙ ap (storeFor (c .axes) (coordsOf (a .said))) packed-is ∙ store-of (a .said) (c .axes);
+    written = store-front c r a ∙ ap (storeFor (c .axes) (coordsInUse (a .said))) packed-is ∙ store-of (a .said) (c .axes);
     subtables-are = tables-of;
   }
 
@@ -160,7 +160,7 @@ own-is : (s : Said) → packedOf 1 s ≡ own (length (s .used)) (s .sets)
 unfolding packedOf
 own-is s = refl
 
-report-own : (axes : ℕ) (s : Said) (r : Report) → r ≡ reportOf axes (coordsOf s) (packedOf 1 s)
+report-own : (axes : ℕ) (s : Said) (r : Report) → r ≡ reportOf axes (coordsInUse s) (packedOf 1 s)
     → (r .groups ≡ 0) × (r .merges ≡ 0) × (r .weighed ≡ 0) × (r .before ≡ oneCost (length (s .used)) (s .sets)) × (r .after ≡ oneCost (length (s .used)) (s .sets))
 unfolding reportOf own
 report-own axes s r e =
@@ -180,7 +180,7 @@ pub no-merging : (c : Lending) (r : Report) → c .mode ≡ 1 → answerOf c ≡
 no-merging c r m e =
     let a = accepted c r e in
     let p : packedIn c (a .said) ≡ packedOf 1 (a .said) = ap (λ (k : ℕ). packedOf k (a .said)) m in
-    let t = report-own (c .axes) (a .said) r (a .report-is ∙ ap (reportOf (c .axes) (coordsOf (a .said))) p) in
+    let t = report-own (c .axes) (a .said) r (a .report-is ∙ ap (reportOf (c .axes) (coordsInUse (a .said))) p) in
     record {
       said = a .said;
       said-is = a .said-is;

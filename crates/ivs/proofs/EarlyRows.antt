@@ -13,8 +13,8 @@ use Rattle.said.specs.Refusals.{firstFailed, publishedWork, pairRecords, earlyN
 use Rattle.said.specs.Job.{outcome, refused}
 use Rattle.finishing.specs.declared.answers.Built.{Built}
 use Rattle.finishing.specs.declared.answers.Built.the-variants.{Refused}
-use Rattle.build.specs.Lending.{Lending}
-use Rattle.build.specs.Build.{answerOf}
+use Rattle.packer.specs.Lending.{Lending}
+use Rattle.packer.specs.Build.{answerOf}
 use Rattle.ivs.specs.Exactly.{Exactly}
 use Rattle.ivs.specs.Fits.{AxesFit, ModeFit, LengthFit, WorkFit}
 use Rattle.ivs.proofs.FailedLaws.{Tests, this, failed, other, later, passed, one-of-two, second-failed, none-failed, and-false, and-both, and-first, and-second}

@@ -11,8 +11,8 @@ use Rattle.laws.specs.Pick.{pick}
 use Rattle.said.specs.Refusals.{earlyNo}
 use Rattle.said.specs.Job.{Said, State, inAxes, inSets, regionsOnly, Outcome, refused, fine, ended, endedSets}
 use Rattle.finishing.specs.declared.answers.Built.the-variants.{Refused}
-use Rattle.build.specs.Lending.{Lending}
-use Rattle.build.specs.Build.{outcomeOf, answerOf}
+use Rattle.packer.specs.Lending.{Lending}
+use Rattle.packer.specs.Build.{outcomeOf, answerOf}
 use Rattle.ivs.specs.Exactly.{Exactly}
 use Rattle.ivs.proofs.Passing.{Passed, EndsAs, saidAt}
 use Rattle.ivs.specs.Fits.{Fits}

@@ -28,7 +28,7 @@ use Rattle.rows.specs.Row.{wordIn, cellsOf, rowOf}
 use Rattle.rows.specs.Subtable as rows
 use Rattle.stores.specs.Stores as stores
 use Rattle.store.specs.Placing as store
-use Rattle.store.specs.Lent.{stored}
+use Rattle.store.specs.Placing.{stored}
 use Rattle.said.specs.Records.{zeros, axisZeros, valueZeros, endZeros, valueWord}
 use Rattle.said.specs.Refusals.{firstFailed, publishedWork, pairRecords, earlyNo, axisNo, valueNo, endNo}
 use Rattle.said.specs.Sets as said
@@ -41,8 +41,8 @@ use Rattle.finishing.specs.declared.answers.Built.the-variants.{Done}
 use Rattle.pairs.specs.declared.Pair.{Pair}
 use Rattle.finishing.specs.Buffers.{Buffers, buffers, lengths}
 use Rattle.finishing.specs.Late.{storeFor, regionsKept, lateNo, reportOf, lateAnswer, written, buffersLeft}
-use Rattle.build.specs.Lending.{Lending, lending}
-use Rattle.build.specs.Build.{regionBytes, coordsOf, packedOf, answerFrom, leftFrom, outcomeOf, answerOf, after}
+use Rattle.packer.specs.Lending.{Lending, lending}
+use Rattle.packer.specs.Build.{regionBytes, coordsInUse, packedOf, answerFrom, leftFrom, outcomeOf, answerOf, after}
 
 -- ---- jobs of one axis, with R0 and R1: in each set a region number and a value for each value record
 
@@ -295,5 +295,5 @@ pub examples : answers ≡
     ∷ x ∷ x ∷ [])
     (0 ∷ 1 ∷ x ∷ []) (0 ∷ 1 ∷ x ∷ []) (0 ∷ 1 ∷ 9 ∷ x ∷ []) 106
     ∷ []
-unfolding answers setRecords setsRecords jobOf weigh allBelow tabulate be bytesOf compared thenBy isMost fits isZero signed twos word value insert sorted keep widthOf costOf rowCost columns overhead join shapes.widthsOrder shapes.order groupCost joined gain wordOf sameSet sets.byWords sets.orderNone sets.orderHead sets.order place withSet idsFrom distinctFrom groups.shapeOf groups.placed groups.withShape groups.groupsFrom groups.groupsOf coverFrom rule.keepOut rule.outs rule.pairWith rule.keepPair rule.pairs rule.better rule.lead rule.best rule.worth rule.ifWorth rule.choice rule.entry rule.merge rule.follow rule.step rule.run rule.number rule.start rule.merged rule.total words addIf ofWidth columnsOf wordCount bytesFor wordIn cellsOf rowOf joinAll rows.runCount store.runsOf store.allRuns store.inRun store.idWords store.names store.slotOf store.madeOf stores.tableBytes stores.slotBytes stores.offsets stores.listBytes stores.place store.storeOf store.modelOf store.modelled store.forecastOf stored zeros axisZeros valueZeros endZeros valueWord firstFailed publishedWork earlyNo axisNo valueNo endNo said.coordinates said.regionList said.sameRegion said.like said.firstLike said.has said.withUse said.indexIn said.placed said.withValue job.unless job.afterValue job.afterEnd job.valueStep job.endStep job.setStep job.regionsOnly job.step job.endedSets job.ended job.follow job.walk job.outcomeFrom job.outcome workLeft packed.noLater packed.dense packed.sameShape packed.numberOf packed.isAmong packed.belongs packed.finalOf packed.isAhead packed.finalsOf packed.shared packed.oneCost packed.own storeFor regionsKept lateNo reportOf lateAnswer written buffersLeft regionBytes coordsOf packedOf answerFrom leftFrom
+unfolding answers setRecords setsRecords jobOf weigh allBelow tabulate be bytesOf compared thenBy isMost fits isZero signed twos word value insert sorted keep widthOf costOf rowCost columns overhead join shapes.widthsOrder shapes.order groupCost joined gain wordOf sameSet sets.byWords sets.orderNone sets.orderHead sets.order place withSet idsFrom distinctFrom groups.shapeOf groups.putShape groups.withShape groups.groupsFrom groups.groupsOf coverFrom rule.keepOut rule.outs rule.pairWith rule.keepPair rule.pairs rule.better rule.lead rule.best rule.worth rule.ifWorth rule.choice rule.entry rule.merge rule.follow rule.step rule.run rule.number rule.start rule.merged rule.total words addIf ofWidth columnsOf wordCount bytesFor wordIn cellsOf rowOf joinAll rows.runCount store.runsOf store.allRuns store.inRun store.idWords store.names store.slotOf store.madeOf stores.tableBytes stores.slotBytes stores.offsets stores.listBytes stores.place store.storeOf store.modelOf store.modelled store.forecastOf stored zeros axisZeros valueZeros endZeros valueWord firstFailed publishedWork earlyNo axisNo valueNo endNo said.coordinates said.regionList said.sameRegion said.like said.firstLike said.has said.withUse said.indexIn said.withEntry said.withValue job.unless job.afterValue job.afterEnd job.valueStep job.endStep job.setStep job.regionsOnly job.step job.endedSets job.ended job.follow job.recordsFrom job.outcomeFrom job.outcome workLeft packed.noLater packed.dense packed.sameShape packed.numberOf packed.isAmong packed.belongs packed.finalOf packed.isAhead packed.finalsOf packed.shared packed.oneCost packed.own storeFor regionsKept lateNo reportOf lateAnswer written buffersLeft regionBytes coordsInUse packedOf answerFrom leftFrom
 examples = refl

@@ -18,9 +18,9 @@ use Rattle.finishing.specs.declared.answers.Report.{Report}
 use Rattle.finishing.specs.declared.answers.Built.the-variants.{Refused, Done}
 use Rattle.finishing.specs.Buffers.{Lengths, lengths}
 use Rattle.finishing.specs.Late.{lateNo, storeFor, reportOf}
-use Rattle.build.specs.Lending.{Lending}
-use Rattle.build.specs.Build.{coordsOf, packedOf, outcomeOf, answerOf}
-use Rattle.build.proofs.PastLaws.{ids-long}
+use Rattle.packer.specs.Lending.{Lending}
+use Rattle.packer.specs.Build.{coordsInUse, packedOf, outcomeOf, answerOf}
+use Rattle.packer.proofs.PastLaws.{ids-long}
 use Rattle.ivs.specs.Exactly.{Exactly}
 use Rattle.ivs.specs.Counts.{endRecords}
 use Rattle.ivs.specs.Rooms.{Taken, shapeCount, distinctIds, storeBytes, ShapesFit, IdsFit, MapFit, LogFit, OutFit}
@@ -61,7 +61,7 @@ module _ (c : Lending) (s : Said) (ends : length (s .sets) ≡ endRecords (c .jo
   ids-are = ids-long mode s ∙ ends
 
   abbrev outOk : Bool
-  outOk = leb (length (storeFor axes (coordsOf s) k)) (l .out)
+  outOk = leb (length (storeFor axes (coordsInUse s) k)) (l .out)
 
   abbrev logOk : Bool
   logOk = leb (3 * (k .groups - 1)) (l .log)
@@ -166,18 +166,18 @@ module _ (c : Lending) (s : Said) (ends : length (s .sets) ≡ endRecords (c .jo
 
   late-out : Exactly (late c s ≡ 14) (LogFit c s × (l .out < storeBytes axes mode s))
   late-out = record {
-    given = λ b. to13 14 (b .0) (failed 14 [] outOk (lt-leb (length (storeFor axes (coordsOf s) k)) (l .out) (b .1)));
+    given = λ b. to13 14 (b .0) (failed 14 [] outOk (lt-leb (length (storeFor axes (coordsInUse s) k)) (l .out) (b .1)));
     only = λ e.
         let a = past13 14 e (λ z. omega arith) (λ z. omega arith) (λ z. omega arith) (λ z. omega arith) in
-        (a .0, leb-false (length (storeFor axes (coordsOf s) k)) (l .out) (this 14 [] outOk (omega arith) tt (a .1)));
+        (a .0, leb-false (length (storeFor axes (coordsInUse s) k)) (l .out) (this 14 [] outOk (omega arith) tt (a .1)));
   }
 
   late-none : Exactly (late c s ≡ 0) (OutFit c s)
   late-none = record {
-    given = λ b. to13 0 (b .log-fit) (passed 14 [] 0 outOk (le-leb (length (storeFor axes (coordsOf s) k)) (l .out) (b .out-room)) none-failed);
+    given = λ b. to13 0 (b .log-fit) (passed 14 [] 0 outOk (le-leb (length (storeFor axes (coordsInUse s) k)) (l .out) (b .out-room)) none-failed);
     only = λ e.
         let a = past13 0 e (λ z. omega arith) (λ z. omega arith) (λ z. omega arith) (λ z. omega arith) in
-        record { log-fit = a .0; out-room = leb-true (length (storeFor axes (coordsOf s) k)) (l .out) (other 14 [] 0 outOk (λ z. omega arith) (a .1)) };
+        record { log-fit = a .0; out-room = leb-true (length (storeFor axes (coordsInUse s) k)) (l .out) (other 14 [] 0 outOk (λ z. omega arith) (a .1)) };
   }
 
 -- ---- the rows
@@ -220,16 +220,16 @@ module _ (c : Lending) where
 
   -- done: the job is sound, and none of 10 to 14 is given
   pub is-done : (r : Report) → Exactly (answerOf c ≡ Done r)
-      (Taken c (λ s. OutFit c s × (r ≡ reportOf (c .axes) (coordsOf s) (packedOf (c .mode) s))))
+      (Taken c (λ s. OutFit c s × (r ≡ reportOf (c .axes) (coordsInUse s) (packedOf (c .mode) s))))
   is-done r = record {
     given = λ b. answer-done c (b .said) (b .sound) (late-none c (b .said) (ends-of c (b .said) (b .sound)) .given (b .holds .0)) ∙ ap Done (sym (b .holds .1));
     only = λ e. go e (answers c);
   }
     where
       go : answerOf c ≡ Done r → Answers c
-          → Taken c (λ s. OutFit c s × (r ≡ reportOf (c .axes) (coordsOf s) (packedOf (c .mode) s)))
+          → Taken c (λ s. OutFit c s × (r ≡ reportOf (c .axes) (coordsInUse s) (packedOf (c .mode) s)))
       go e (by-job n p f g b) = let z : _≡_ {A = ℕ} 0 1 = cc in absurd (omega arith)
       go e (by-late s f b g) = let z : _≡_ {A = ℕ} 0 1 = cc in absurd (omega arith)
       go e (done s f b g) =
-          let z : r ≡ reportOf (c .axes) (coordsOf s) (packedOf (c .mode) s) = cc in
+          let z : r ≡ reportOf (c .axes) (coordsInUse s) (packedOf (c .mode) s) = cc in
           record { said = s; sound = f; holds = (late-none c s (ends-of c s f) .only b, z) }

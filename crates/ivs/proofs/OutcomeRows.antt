@@ -9,12 +9,12 @@ use borrow.Author.Tests.{eq-eqb, ne-eqb}
 use Rattle.laws.proofs.Cases.{same-or-not}
 use Rattle.said.specs.Records.{recordAt}
 use Rattle.said.specs.Refusals.{earlyNo}
-use Rattle.said.specs.Job.{Said, State, inAxes, inSets, Outcome, refused, fine, ended, endedSets, walk, outcome, outcomeFrom}
+use Rattle.said.specs.Job.{Said, State, inAxes, inSets, Outcome, refused, fine, ended, endedSets, recordsFrom, outcome, outcomeFrom}
 use Rattle.finishing.specs.declared.answers.Built.the-variants.{Refused, Done}
 use Rattle.finishing.specs.Buffers.{Lengths, lengths}
 use Rattle.finishing.specs.Late.{lateNo, lateAnswer, reportOf}
-use Rattle.build.specs.Lending.{Lending}
-use Rattle.build.specs.Build.{coordsOf, packedOf, answerFrom, outcomeOf, answerOf}
+use Rattle.packer.specs.Lending.{Lending}
+use Rattle.packer.specs.Build.{coordsInUse, packedOf, answerFrom, outcomeOf, answerOf}
 use Rattle.ivs.specs.Exactly.{Exactly}
 use Rattle.ivs.proofs.Passing.{StopsAt, EndsAs}
 use Rattle.ivs.proofs.FailedLaws.{among}
@@ -36,7 +36,7 @@ early-few axes mode bytes work pairs =
     (early-some axes mode bytes work pairs)
 
 pub late-many : (axes : ℕ) (s : Said) (mode : ℕ) (l : Lengths)
-    → (lateNo axes (coordsOf s) (packedOf mode s) l ≡ 0) ⊎ ((10 ≤ lateNo axes (coordsOf s) (packedOf mode s) l) × (lateNo axes (coordsOf s) (packedOf mode s) l ≤ 14))
+    → (lateNo axes (coordsInUse s) (packedOf mode s) l ≡ 0) ⊎ ((10 ≤ lateNo axes (coordsInUse s) (packedOf mode s) l) × (lateNo axes (coordsInUse s) (packedOf mode s) l ≤ 14))
 unfolding lateNo
 late-many axes s mode l =
     among 10 14 _ ((omega arith, omega arith), ((omega arith, omega arith), ((omega arith, omega arith), ((omega arith, omega arith), ((omega arith, omega arith), tt)))))
@@ -56,32 +56,32 @@ ended-no axes job k (inSets s) n i e = go (s .named) e
     go [] f = unfold endedSets in (let z : _≡_ {A = ℕ} 0 1 = cc in absurd (omega arith))
     go (q ∷ l) f = unfold endedSets in (let a : n ≡ 8 = cc in let b : i ≡ k = cc in (a, b))
 
--- ---- the walk
+-- ---- the recordsFrom
 
 module _ (axes mode : ℕ) (job : List ℕ) (records : ℕ) where
-  pub stops-only : (n i : ℕ) → (n ≡ 8 → ⊥) → walk axes mode job job records 0 inAxes ≡ refused n i → StopsAt axes mode job records n i
+  pub stops-only : (n i : ℕ) → (n ≡ 8 → ⊥) → recordsFrom axes mode job job records 0 inAxes ≡ refused n i → StopsAt axes mode job records n i
   stops-only n i d e = go (way axes mode job records)
     where
-      go : Way axes mode job records (walk axes mode job job records 0 inAxes) → StopsAt axes mode job records n i
+      go : Way axes mode job records (recordsFrom axes mode job job records 0 inAxes) → StopsAt axes mode job records n i
       go (stopped m j f a) = let x : m ≡ n = cc in let y : j ≡ i = cc in rw (← x, ← y) a
       go (came a) = absurd (d (ended-no axes job records (a .state) n i (a .ends ∙ e) .0))
 
-  -- T2: the first record that stops the walk decides
-  pub earliest : (n i : ℕ) → i < records → Exactly (walk axes mode job job records 0 inAxes ≡ refused n i) (StopsAt axes mode job records n i)
+  -- T2: the first record that stops the recordsFrom decides
+  pub earliest : (n i : ℕ) → i < records → Exactly (recordsFrom axes mode job job records 0 inAxes ≡ refused n i) (StopsAt axes mode job records n i)
   earliest n i h = record { given = λ a. stops-given axes mode job records n i a; only = λ e. go e (way axes mode job records) }
     where
-      go : walk axes mode job job records 0 inAxes ≡ refused n i → Way axes mode job records (walk axes mode job job records 0 inAxes) → StopsAt axes mode job records n i
+      go : recordsFrom axes mode job job records 0 inAxes ≡ refused n i → Way axes mode job records (recordsFrom axes mode job job records 0 inAxes) → StopsAt axes mode job records n i
       go e (stopped m j f a) = let x : m ≡ n = cc in let y : j ≡ i = cc in rw (← x, ← y) a
       go e (came a) = let k = ended-no axes job records (a .state) n i (a .ends ∙ e) .1 in absurd (omega arith)
 
-  pub ends-only : (o : Outcome) → ((n i : ℕ) → o ≡ refused n i → n ≡ 8) → walk axes mode job job records 0 inAxes ≡ o → EndsAs axes mode job records o
+  pub ends-only : (o : Outcome) → ((n i : ℕ) → o ≡ refused n i → n ≡ 8) → recordsFrom axes mode job job records 0 inAxes ≡ o → EndsAs axes mode job records o
   ends-only o d e = go (way axes mode job records)
     where
-      go : Way axes mode job records (walk axes mode job job records 0 inAxes) → EndsAs axes mode job records o
+      go : Way axes mode job records (recordsFrom axes mode job job records 0 inAxes) → EndsAs axes mode job records o
       go (stopped m j f a) = absurd (stop-no axes mode job (recordAt job j) j (a .state) m (a .stops) .not-eight (d m j (sym e ∙ f)))
       go (came a) = record { state = a .state; all-pass = a .all-pass; ends = a .ends ∙ e }
 
-  pub walk-no : (n i : ℕ) → walk axes mode job job records 0 inAxes ≡ refused n i → (5 ≤ n) × (n ≤ 9)
+  pub walk-no : (n i : ℕ) → recordsFrom axes mode job job records 0 inAxes ≡ refused n i → (5 ≤ n) × (n ≤ 9)
   walk-no n i e = ⊎-elim eight record-no (same-or-not n 8)
     where
       eight : n ≡ 8 → (5 ≤ n) × (n ≤ 9)
@@ -97,7 +97,7 @@ module _ (axes mode : ℕ) (job : List ℕ) (records : ℕ) where
 
 module _ (c : Lending) where
   abbrev pub walked : Outcome
-  walked = walk (c .axes) (c .mode) (c .job) (c .job) (length (c .job) / 12) 0 inAxes
+  walked = recordsFrom (c .axes) (c .mode) (c .job) (c .job) (length (c .job) / 12) 0 inAxes
 
   abbrev pub early : ℕ
   early = earlyNo (c .axes) (c .mode) (length (c .job)) (length (c .work)) (length (c .pairs))
@@ -141,7 +141,7 @@ module _ (c : Lending) where
 module _ (c : Lending) where
   -- the number of the tests after the records
   abbrev pub late : Said → ℕ
-  late s = lateNo (c .axes) (coordsOf s) (packedOf (c .mode) s) (lengths (c .lent))
+  late s = lateNo (c .axes) (coordsInUse s) (packedOf (c .mode) s) (lengths (c .lent))
 
   pub answer-refused : (n p : ℕ) → outcomeOf c ≡ refused n p → answerOf c ≡ Refused n p
   unfolding answerOf answerFrom
@@ -151,7 +151,7 @@ module _ (c : Lending) where
   unfolding answerOf answerFrom lateAnswer
   answer-late s n e f h = rw (e, f, ne-eqb n 0 (λ (z : n ≡ 0). omega arith))
 
-  pub answer-done : (s : Said) → outcomeOf c ≡ fine s → late s ≡ 0 → answerOf c ≡ Done (reportOf (c .axes) (coordsOf s) (packedOf (c .mode) s))
+  pub answer-done : (s : Said) → outcomeOf c ≡ fine s → late s ≡ 0 → answerOf c ≡ Done (reportOf (c .axes) (coordsInUse s) (packedOf (c .mode) s))
   unfolding answerOf answerFrom lateAnswer
   answer-done s e f = rw (e, f)
 
@@ -159,7 +159,7 @@ module _ (c : Lending) where
   pub data Answers : Type 0 where
     by-job : (n p : ℕ) → outcomeOf c ≡ refused n p → answerOf c ≡ Refused n p → (0 < n) × (n ≤ 9) → Answers
     by-late : (s : Said) → outcomeOf c ≡ fine s → (10 ≤ late s) × (late s ≤ 14) → answerOf c ≡ Refused (late s) 0 → Answers
-    done : (s : Said) → outcomeOf c ≡ fine s → late s ≡ 0 → answerOf c ≡ Done (reportOf (c .axes) (coordsOf s) (packedOf (c .mode) s)) → Answers
+    done : (s : Said) → outcomeOf c ≡ fine s → late s ≡ 0 → answerOf c ≡ Done (reportOf (c .axes) (coordsInUse s) (packedOf (c .mode) s)) → Answers
 
   pub answers : Answers
   answers = go (outcomeOf c) refl

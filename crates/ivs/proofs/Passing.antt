@@ -30,5 +30,5 @@ saidAt axes job i inAxes = regionsOnly (regionList axes (i / axes) job)
 saidAt axes job i (inSets s) = s
 
 -- record i does not stand inside an unfinished region
-abbrev pub Whole : ℕ → ℕ → State → Type 0
-Whole axes i s = s ≡ inAxes → i % axes ≡ 0
+abbrev pub RegionWhole : ℕ → ℕ → State → Type 0
+RegionWhole axes i s = s ≡ inAxes → i % axes ≡ 0

@@ -4,10 +4,10 @@ use lib.ListN.{length}
 use Rattle.told.proofs.Bytes.{told}
 use Rattle.finishing.specs.declared.answers.Report.{Report}
 use Rattle.finishing.specs.declared.answers.Built.the-variants.{Done}
-use Rattle.build.specs.Lending.{Lending}
-use Rattle.build.specs.Build.{answerOf}
-use Rattle.build.proofs.Accepted.{accepted}
-use Rattle.build.proofs.PastLaws.{out-past, ids-past, map-past, log-past}
+use Rattle.packer.specs.Lending.{Lending}
+use Rattle.packer.specs.Build.{answerOf}
+use Rattle.packer.proofs.Accepted.{accepted}
+use Rattle.packer.proofs.PastLaws.{out-past, ids-past, map-past, log-past}
 use Rattle.ivs.specs.Counts.{endRecords}
 use Rattle.ivs.specs.Past.{PastKept}
 

@@ -15,10 +15,10 @@ use Rattle.told.proofs.WordLaws.{count-here, count-past}
 use Rattle.told.proofs.Bytes.{told}
 use Rattle.finishing.specs.declared.answers.Report.{Report}
 use Rattle.finishing.specs.declared.answers.Built.the-variants.{Done}
-use Rattle.build.specs.Lending.{Lending}
-use Rattle.build.specs.Build.{answerOf}
-use Rattle.build.proofs.Accepted.{accepted}
-use Rattle.build.proofs.PlainBack.{plain-count, plain-id, plain-map, plain-table}
+use Rattle.packer.specs.Lending.{Lending}
+use Rattle.packer.specs.Build.{answerOf}
+use Rattle.packer.proofs.Accepted.{accepted}
+use Rattle.packer.proofs.PlainBack.{plain-count, plain-id, plain-map, plain-table}
 use Rattle.ivs.proofs.Passing.{Passed, saidAt}
 use Rattle.ivs.specs.Plain.{Plain}
 use Rattle.ivs.proofs.FailedLaws.{other, later}

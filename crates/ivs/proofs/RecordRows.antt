@@ -6,8 +6,8 @@ use lib.ListN.{length}
 use Rattle.said.specs.Job.{State, Step, stop, on, step, refused}
 use Rattle.said.specs.Records.{recordAt, recordCount}
 use Rattle.finishing.specs.declared.answers.Built.the-variants.{Refused}
-use Rattle.build.specs.Lending.{Lending}
-use Rattle.build.specs.Build.{answerOf}
+use Rattle.packer.specs.Lending.{Lending}
+use Rattle.packer.specs.Build.{answerOf}
 use Rattle.ivs.specs.Exactly.{Exactly}
 use Rattle.ivs.specs.Counts.{axisRecords, knownRegions, InRegion, BadRecord, ValueHere, UnknownRegion, RegionTwice, SetsFull}
 use Rattle.ivs.specs.Counts.BadRecord.{unknown-kind, axis-zero, value-zero, end-zero, axis-order, axis-late, in-region}

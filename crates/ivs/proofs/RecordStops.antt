@@ -12,7 +12,7 @@ use Rattle.said.specs.Refusals.{axisNo}
 use Rattle.said.specs.Sets.{Region, firstLike}
 use Rattle.said.specs.Job.{Said, State, inAxes, stop, valueStep, endStep, step}
 use Rattle.ivs.specs.Exactly.{Exactly}
-use Rattle.ivs.proofs.Passing.{Passed, saidAt, Whole}
+use Rattle.ivs.proofs.Passing.{Passed, saidAt, RegionWhole}
 use Rattle.ivs.specs.Counts.{axisRecords, knownRegions, InRegion, BadRecord, ValueHere, UnknownRegion, RegionTwice, SetsFull}
 use Rattle.ivs.specs.Counts.BadRecord.{unknown-kind, axis-zero, value-zero, end-zero, axis-order, axis-late, in-region}
 use Rattle.ivs.proofs.StepLaws.{unless-no, unless-stops, Looks, looks, axis-no, valueTold, value-told, value-stops, endTold, end-told, end-stops}
@@ -32,7 +32,7 @@ module _ (axes mode : ℕ) (job : List ℕ) (i : ℕ) (s : State) (m : Means axe
   said = saidAt axes job i s
 
   -- the record is a value or an end, and stands in no unfinished region
-  value-step : kind r ≡ 2 → Whole axes i s → step axes mode job r i s ≡ valueStep r said
+  value-step : kind r ≡ 2 → RegionWhole axes i s → step axes mode job r i s ≡ valueStep r said
   value-step v w = go (looks axes mode job r i s)
     where
       go : Looks axes mode job r i s → step axes mode job r i s ≡ valueStep r said
@@ -43,7 +43,7 @@ module _ (axes mode : ℕ) (job : List ℕ) (i : ℕ) (s : State) (m : Means axe
       go (set-end k x e) = absurd (omega arith)
       go (unknown a b c e) = absurd (b v)
 
-  end-step : kind r ≡ 3 → Whole axes i s → step axes mode job r i s ≡ endStep mode r said
+  end-step : kind r ≡ 3 → RegionWhole axes i s → step axes mode job r i s ≡ endStep mode r said
   end-step v w = go (looks axes mode job r i s)
     where
       go : Looks axes mode job r i s → step axes mode job r i s ≡ endStep mode r said
@@ -56,13 +56,13 @@ module _ (axes mode : ℕ) (job : List ℕ) (i : ℕ) (s : State) (m : Means axe
 
   -- a number above 5 is of a value or an end
   higher : (n : ℕ) → 5 < n → step axes mode job r i s ≡ stop n
-      → ((kind r ≡ 2) × Whole axes i s × (valueTold r said ≡ n)) ⊎ ((kind r ≡ 3) × Whole axes i s × (endTold mode r said ≡ n))
+      → ((kind r ≡ 2) × RegionWhole axes i s × (valueTold r said ≡ n)) ⊎ ((kind r ≡ 3) × RegionWhole axes i s × (endTold mode r said ≡ n))
   higher n h f = go (looks axes mode job r i s)
     where
       five : step axes mode job r i s ≡ stop 5 → ⊥
       five e = let z : 5 ≡ n = cc in omega arith
 
-      go : Looks axes mode job r i s → ((kind r ≡ 2) × Whole axes i s × (valueTold r said ≡ n)) ⊎ ((kind r ≡ 3) × Whole axes i s × (endTold mode r said ≡ n))
+      go : Looks axes mode job r i s → ((kind r ≡ 2) × RegionWhole axes i s × (valueTold r said ≡ n)) ⊎ ((kind r ≡ 3) × RegionWhole axes i s × (endTold mode r said ≡ n))
       go (axis k a e) =
           let u = unless-no (axisNo axes r i) inAxes n (sym e ∙ f) in
           absurd (⊎-elim (λ (z : axisNo axes r i ≡ 0). omega arith) (λ (z : (5 ≤ axisNo axes r i) × (axisNo axes r i ≤ 5)). omega arith) (axis-no axes r i))
@@ -100,7 +100,7 @@ module _ (axes mode : ℕ) (job : List ℕ) (i : ℕ) (s : State) (m : Means axe
   five-axis k a (axis-late x l) = let e = m .in-axes a in absurd (omega arith)
   five-axis k a (in-region x d) = absurd (⊎-elim (λ (y : kind r ≡ 2). omega arith) (λ (y : kind r ≡ 3). omega arith) x)
 
-  five-value : kind r ≡ 2 → Whole axes i s → BadRecord axes job i r → valueTold r said ≡ 5
+  five-value : kind r ≡ 2 → RegionWhole axes i s → BadRecord axes job i r → valueTold r said ≡ 5
   five-value k w (unknown-kind x y z) = absurd (y k)
   five-value k w (axis-zero x z) = absurd (omega arith)
   five-value k w (value-zero x z) = value-five r said .given (not-value r z)
@@ -109,7 +109,7 @@ module _ (axes mode : ℕ) (job : List ℕ) (i : ℕ) (s : State) (m : Means axe
   five-value k w (axis-late x l) = absurd (omega arith)
   five-value k w (in-region x d) = absurd (d (whole-count axes job i s m w))
 
-  five-end : kind r ≡ 3 → Whole axes i s → BadRecord axes job i r → endTold mode r said ≡ 5
+  five-end : kind r ≡ 3 → RegionWhole axes i s → BadRecord axes job i r → endTold mode r said ≡ 5
   five-end k w (unknown-kind x y z) = absurd (z k)
   five-end k w (axis-zero x z) = absurd (omega arith)
   five-end k w (value-zero x z) = absurd (omega arith)
@@ -133,13 +133,13 @@ module _ (axes mode : ℕ) (job : List ℕ) (i : ℕ) (s : State) (m : Means axe
   stops-five = record { given = five-given; only = five-only }
 
   -- 6 and 7 are a value's
-  value-only : (n : ℕ) → 5 < n → n < 9 → step axes mode job r i s ≡ stop n → (kind r ≡ 2) × Whole axes i s × (valueTold r said ≡ n)
+  value-only : (n : ℕ) → 5 < n → n < 9 → step axes mode job r i s ≡ stop n → (kind r ≡ 2) × RegionWhole axes i s × (valueTold r said ≡ n)
   value-only n a b f =
-      ⊎-elim (λ (x : (kind r ≡ 2) × Whole axes i s × (valueTold r said ≡ n)). x)
-      (λ (x : (kind r ≡ 3) × Whole axes i s × (endTold mode r said ≡ n)). absurd (end-other mode r said n a b (x .2)))
+      ⊎-elim (λ (x : (kind r ≡ 2) × RegionWhole axes i s × (valueTold r said ≡ n)). x)
+      (λ (x : (kind r ≡ 3) × RegionWhole axes i s × (endTold mode r said ≡ n)). absurd (end-other mode r said n a b (x .2)))
       (higher n a f)
 
-  value-here : kind r ≡ 2 → Whole axes i s → valueZeros r ≡ true → ValueHere axes job i r
+  value-here : kind r ≡ 2 → RegionWhole axes i s → valueZeros r ≡ true → ValueHere axes job i r
   value-here k w z =
       let a = value-all r z in
       record { is-value = k; zeros-two = a .0; zeros-eight = a .1; whole = whole-count axes job i s m w }
@@ -190,10 +190,10 @@ module _ (axes mode : ℕ) (job : List ℕ) (i : ℕ) (s : State) (m : Means axe
   stops-nine = record {
     given = λ b.
         end-step (b .is-end) (count-whole axes job i s m (b .whole)) ∙ end-stops mode r said 9 (end-nine mode r said .given (all-end r (b .zeros-one), b .mode-one, m .sets-are ∙ b .full)) (omega arith);
-    only = λ f. ⊎-elim (λ (x : (kind r ≡ 2) × Whole axes i s × (valueTold r said ≡ 9)). absurd (value-nine r said (x .2))) full-end (higher 9 (omega arith) f);
+    only = λ f. ⊎-elim (λ (x : (kind r ≡ 2) × RegionWhole axes i s × (valueTold r said ≡ 9)). absurd (value-nine r said (x .2))) full-end (higher 9 (omega arith) f);
   }
     where
-      full-end : (kind r ≡ 3) × Whole axes i s × (endTold mode r said ≡ 9) → SetsFull axes mode job i r
+      full-end : (kind r ≡ 3) × RegionWhole axes i s × (endTold mode r said ≡ 9) → SetsFull axes mode job i r
       full-end x =
           let y = end-nine mode r said .only (x .2) in
           record { is-end = x .0; zeros-one = end-all r (y .0); whole = whole-count axes job i s m (x .1); mode-one = y .1; full = sym (m .sets-are) ∙ y .2 }

@@ -7,9 +7,9 @@ use lib.ListN.{length, set, take, length-set}
 use lib.Seq.{take-all, take-suc-set, append-snoc}
 use Rattle.finishing.specs.declared.answers.Built.{Built}
 use Rattle.finishing.specs.declared.answers.Built.the-variants as built
-use Rattle.build.specs.Lending.{Lending, Left}
+use Rattle.packer.specs.Lending.{Lending, Left}
 use Rattle.ivs.specs.Answers.{numberOf, refusedWords, doneWords, reportWords, filled}
-use Rattle.ivs.specs.Told.{Told}
+use Rattle.ivs.specs.Answered.{Answered}
 use Rattle.ivs.specs.Reported.{Reported}
 
 -- words put over the last ones leave those before
@@ -35,7 +35,7 @@ pub sixteen : (b : Built) (old : List ℕ) → length old ≡ 16 → filled 0 (r
 sixteen b old e = filled-end 0 (reportWords b) old (omega (arith, words-sixteen b))
 
 -- and of what a host is told
-pub reported : {c : Lending} {number : ℕ} {l : Left} {old new : List ℕ} → Told c number l old new → length old ≡ 16 → Reported c number l new
+pub reported : {c : Lending} {number : ℕ} {l : Left} {old new : List ℕ} → Answered c number l old new → length old ≡ 16 → Reported c number l new
 reported {c} {number} {l} {old} {new} t e = record {
   number-is = t .number-is ∙ ap numberOf (t .obeys .answer);
   left-is = t .obeys .left;

@@ -14,8 +14,8 @@ use Rattle.sizes.specs.Sizes.{costOf}
 use Rattle.sizes.proofs.Counted.{sizes}
 use Rattle.finishing.specs.declared.answers.Report.{Report}
 use Rattle.finishing.specs.declared.answers.Built.the-variants.{Done}
-use Rattle.build.specs.Lending.{Lending}
-use Rattle.build.specs.Build.{packedOf, answerOf}
+use Rattle.packer.specs.Lending.{Lending}
+use Rattle.packer.specs.Build.{packedOf, answerOf}
 use Rattle.ivs.specs.Sized.{Sized}
 use Rattle.ivs.proofs.Demand3.{demand3, shared-is}
 

@@ -17,7 +17,7 @@ use Rattle.said.proofs.SaidLaws.{value-known}
 use Rattle.told.proofs.WordLaws.{count-here, count-past, count-most}
 use Rattle.told.specs.Told.{countKind, endsBefore}
 use Rattle.ivs.specs.Exactly.{Exactly}
-use Rattle.ivs.proofs.Passing.{Passed, saidAt, Whole}
+use Rattle.ivs.proofs.Passing.{Passed, saidAt, RegionWhole}
 use Rattle.ivs.specs.Counts.{axisRecords, knownRegions}
 use Rattle.ivs.proofs.StepLaws.{Looks, looks, valueTold, endTold}
 use Rattle.ivs.proofs.StepLaws.Looks.{axis, late, cut, value, set-end, unknown}
@@ -127,11 +127,11 @@ not-axes s e = let z : _≡_ {A = ℕ} 0 1 = cc in omega arith
 
 module _ (axes : ℕ) (job : List ℕ) (i : ℕ) where
   -- inside an unfinished region, by the count of axis records
-  pub whole-count : (t : State) → Means axes job i t → Whole axes i t → axisRecords job i % axes ≡ 0
+  pub whole-count : (t : State) → Means axes job i t → RegionWhole axes i t → axisRecords job i % axes ≡ 0
   whole-count inAxes m w = ap (λ (n : ℕ). n % axes) (m .in-axes refl) ∙ w refl
   whole-count (inSets s) m w = m .in-sets (not-axes s) .1
 
-  pub count-whole : (t : State) → Means axes job i t → axisRecords job i % axes ≡ 0 → Whole axes i t
+  pub count-whole : (t : State) → Means axes job i t → axisRecords job i % axes ≡ 0 → RegionWhole axes i t
   count-whole t m c e = ap (λ (n : ℕ). n % axes) (sym (m .in-axes e)) ∙ c
 
   none-ended : (t : State) → t ≡ inAxes → length (saidAt axes job i t .sets) ≡ 0
@@ -152,13 +152,13 @@ module _ (axes : ℕ) (job : List ℕ) (i : ℕ) where
     regions-same : (kind r ≡ 1 → ⊥) → knownRegions axes job (suc i) ≡ knownRegions axes job i
     regions-same d = ap (λ (n : ℕ). regionList axes (n / axes) job) (count-past 1 job i d)
 
-    past-axes : (kind r ≡ 1 → ⊥) → Whole axes i t → (axisRecords job (suc i) < suc i) × (axisRecords job (suc i) % axes ≡ 0)
+    past-axes : (kind r ≡ 1 → ⊥) → RegionWhole axes i t → (axisRecords job (suc i) < suc i) × (axisRecords job (suc i) % axes ≡ 0)
     past-axes d w =
         let c = count-past 1 job i d in
         let h = count-most 1 job i in
         (omega arith, ap (λ (n : ℕ). n % axes) c ∙ whole-count t m w)
 
-    value-mean : kind r ≡ 2 → Whole axes i t → valueTold r old ≡ 0 → Means axes job (suc i) (inSets (afterValue old q′ (valueWord r)))
+    value-mean : kind r ≡ 2 → RegionWhole axes i t → valueTold r old ≡ 0 → Means axes job (suc i) (inSets (afterValue old q′ (valueWord r)))
     unfolding saidAt afterValue has
     value-mean v w z = record {
       regions-are = m .regions-are ∙ sym (regions-same not-one);
@@ -193,7 +193,7 @@ module _ (axes : ℕ) (job : List ℕ) (i : ℕ) where
             (λ (e : has q (old .named) ≡ true). named-on (knownRegions axes job i) job i q v (m .named-is q .only e))
             (or-cases (eqb q q′) (has q (old .named)) h)
 
-    end-mean : kind r ≡ 3 → Whole axes i t → Means axes job (suc i) (inSets (afterEnd old))
+    end-mean : kind r ≡ 3 → RegionWhole axes i t → Means axes job (suc i) (inSets (afterEnd old))
     unfolding saidAt afterEnd has
     end-mean v w = record {
       regions-are = m .regions-are ∙ sym (regions-same not-one);

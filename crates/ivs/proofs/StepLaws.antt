@@ -13,7 +13,7 @@ use Rattle.said.specs.Records.{kind, regionOf}
 use Rattle.said.specs.Refusals.{firstFailed, axisNo, valueNo, endNo}
 use Rattle.said.specs.Sets.{firstLike, has}
 use Rattle.said.specs.Job.{Said, State, inAxes, inSets, Step, stop, on, unless, valueStep, endStep, setStep, step}
-use Rattle.ivs.proofs.Passing.{saidAt, Whole}
+use Rattle.ivs.proofs.Passing.{saidAt, RegionWhole}
 use Rattle.ivs.proofs.FailedLaws.{among, later, none-failed}
 
 pub unless-no : (k : ℕ) (s : State) (n : ℕ) → unless k s ≡ stop n → (k ≡ n) × (0 < n)
@@ -32,12 +32,12 @@ module _ (axes mode : ℕ) (job r : List ℕ) (i : ℕ) where
     axis : kind r ≡ 1 → s ≡ inAxes → step axes mode job r i s ≡ unless (axisNo axes r i) inAxes → Looks s
     late : kind r ≡ 1 → (s ≡ inAxes → ⊥) → step axes mode job r i s ≡ stop 5 → Looks s
     cut : (kind r ≡ 1 → ⊥) → s ≡ inAxes → (i % axes ≡ 0 → ⊥) → step axes mode job r i s ≡ stop 5 → Looks s
-    value : kind r ≡ 2 → Whole axes i s → step axes mode job r i s ≡ valueStep r (saidAt axes job i s) → Looks s
-    set-end : kind r ≡ 3 → Whole axes i s → step axes mode job r i s ≡ endStep mode r (saidAt axes job i s) → Looks s
+    value : kind r ≡ 2 → RegionWhole axes i s → step axes mode job r i s ≡ valueStep r (saidAt axes job i s) → Looks s
+    set-end : kind r ≡ 3 → RegionWhole axes i s → step axes mode job r i s ≡ endStep mode r (saidAt axes job i s) → Looks s
     unknown : (kind r ≡ 1 → ⊥) → (kind r ≡ 2 → ⊥) → (kind r ≡ 3 → ⊥) → step axes mode job r i s ≡ stop 5 → Looks s
 
   -- not an axis record, and not inside a region
-  sets : (s : State) → (kind r ≡ 1 → ⊥) → Whole axes i s → step axes mode job r i s ≡ setStep mode r (saidAt axes job i s) → Looks s
+  sets : (s : State) → (kind r ≡ 1 → ⊥) → RegionWhole axes i s → step axes mode job r i s ≡ setStep mode r (saidAt axes job i s) → Looks s
   unfolding setStep
   sets s a w e =
       ⊎-elim (λ (v : kind r ≡ 2). value v w (e ∙ rw (eq-eqb (kind r) 2 v)))

@@ -7,8 +7,8 @@ use Rattle.finishing.specs.declared.answers.Report.{Report}
 use Rattle.finishing.specs.declared.answers.Built.{Built}
 use Rattle.finishing.specs.declared.answers.Built.the-variants.{Refused, Done}
 use Rattle.finishing.specs.declared.answers.Built.the-variants as built
-use Rattle.build.specs.Lending.{Lending}
-use Rattle.build.specs.Build.{answerOf}
+use Rattle.packer.specs.Lending.{Lending}
+use Rattle.packer.specs.Build.{answerOf}
 use Rattle.ivs.specs.Answers.{numberOf, refusedWords, doneWords, reportWords, filled, numberFew}
 use Rattle.ivs.proofs.OutcomeRows.{numbers}
 

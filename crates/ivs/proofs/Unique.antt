@@ -4,15 +4,15 @@ use mathlib.Core.Path.{_≡_, sym, ap, ap₂, _∙_}
 use mathlib.Core.List.{List}
 use Prim.Native.Nat.{ℕ}
 use Rattle.finishing.specs.declared.answers.Built.{Built}
-use Rattle.build.specs.Lending.{Lending, Left}
-use Rattle.build.specs.Build.{Obeys}
+use Rattle.packer.specs.Lending.{Lending, Left}
+use Rattle.packer.specs.Build.{Obeys}
 use Rattle.ivs.specs.Answers.{numberOf, reportWords, filled}
-use Rattle.ivs.specs.Told.{Told}
+use Rattle.ivs.specs.Answered.{Answered}
 
 pub unique : {c : Lending} {r s : Built} {a b : Left} → Obeys c r a → Obeys c s b → (r ≡ s) × (a ≡ b)
 unique p q = (p .answer ∙ sym (q .answer), p .left ∙ sym (q .left))
 
-pub told-once : {c : Lending} {m n : ℕ} {a b : Left} {old x y : List ℕ} → Told c m a old x → Told c n b old y → (m ≡ n) × (a ≡ b) × (x ≡ y)
+pub told-once : {c : Lending} {m n : ℕ} {a b : Left} {old x y : List ℕ} → Answered c m a old x → Answered c n b old y → (m ≡ n) × (a ≡ b) × (x ≡ y)
 told-once {c} {m} {n} {a} {b} {old} {x} {y} p q =
     let u = unique (p .obeys) (q .obeys) in
     (p .number-is ∙ ap numberOf (u .0) ∙ sym (q .number-is), u .1, p .report-is ∙ ap (λ (r : Built). filled 0 (reportWords r) old) (u .0) ∙ sym (q .report-is))

@@ -5,15 +5,14 @@ use mathlib.Core.Logic.{_⊎_}
 use Prim.Native.Nat.{ℕ, _-_, _*_, _/_, _%_, _≤_, _<_}
 use lib.ListN.{length, replicate}
 use Rattle.said.specs.Records.{recordAt, recordCount}
-use Rattle.pairs.specs.Queue.{none}
 use Rattle.said.specs.Refusals.{publishedWork, pairRecords}
 use Rattle.said.specs.Job.{Said, fine}
 use Rattle.finishing.specs.declared.answers.Report.{Report}
 use Rattle.finishing.specs.declared.answers.Built.{Built}
 use Rattle.finishing.specs.declared.answers.Built.the-variants.{Refused, Done}
 use Rattle.finishing.specs.Late.{reportOf}
-use Rattle.build.specs.Lending.{Lending, Left}
-use Rattle.build.specs.Build.{coordsOf, packedOf, outcomeOf, answerOf, after, Obeys}
+use Rattle.packer.specs.Lending.{Lending, Left, noPair}
+use Rattle.packer.specs.Build.{coordsInUse, packedOf, outcomeOf, answerOf, after, Obeys}
 use Rattle.ivs.specs.Exactly.{Exactly}
 use Rattle.ivs.specs.Fits.{AxesFit, ModeFit, LengthFit}
 use Rattle.ivs.specs.Counts.{endRecords, BadRecord, UnknownRegion, RegionTwice, SetsFull, Unfinished}
@@ -49,7 +48,7 @@ pub record Table (c : Lending) : Type 0 where
       ((p ≡ 0) × Taken c (λ s. MapFit c s × (c .mode ≡ 0) × (1 ≤ shapeCount (c .mode) s) × (length (c .lent .log) < 3 * (shapeCount (c .mode) s - 1))))
   pub out-short : (p : ℕ) → Row c 14 p ((p ≡ 0) × Taken c (λ s. LogFit c s × (length (c .lent .out) < storeBytes (c .axes) (c .mode) s)))
   -- done exactly where no row is given
-  pub is-done : (r : Report) → Exactly (answerOf c ≡ Done r) (Taken c (λ s. OutFit c s × (r ≡ reportOf (c .axes) (coordsOf s) (packedOf (c .mode) s))))
+  pub is-done : (r : Report) → Exactly (answerOf c ≡ Done r) (Taken c (λ s. OutFit c s × (r ≡ reportOf (c .axes) (coordsInUse s) (packedOf (c .mode) s))))
   -- and there are no other numbers
   pub numbers : (n p : ℕ) → answerOf c ≡ Refused n p → (1 ≤ n) × (n ≤ 14)
   -- a job is taken exactly where it is sound
@@ -65,9 +64,9 @@ pub record Kept (c : Lending) : Type 0 where
   pub work-kept : (n p : ℕ) → n ≤ 4 → answerOf c ≡ Refused n p → after c .work ≡ c .work
   pub pairs-kept : (n p : ℕ) → n ≤ 4 → answerOf c ≡ Refused n p → after c .pairs ≡ c .pairs
   pub work-cleared : (n p : ℕ) → 5 ≤ n → answerOf c ≡ Refused n p → after c .work ≡ replicate (length (c .work)) 0
-  pub pairs-cleared : (n p : ℕ) → 5 ≤ n → answerOf c ≡ Refused n p → after c .pairs ≡ replicate (length (c .pairs)) none
+  pub pairs-cleared : (n p : ℕ) → 5 ≤ n → answerOf c ≡ Refused n p → after c .pairs ≡ replicate (length (c .pairs)) noPair
   pub work-done : (r : Report) → answerOf c ≡ Done r → after c .work ≡ replicate (length (c .work)) 0
-  pub pairs-done : (r : Report) → answerOf c ≡ Done r → after c .pairs ≡ replicate (length (c .pairs)) none
+  pub pairs-done : (r : Report) → answerOf c ≡ Done r → after c .pairs ≡ replicate (length (c .pairs)) noPair
   -- L3: behind what is written all is as it was
   pub past-kept : (r : Report) → answerOf c ≡ Done r → PastKept c r
 

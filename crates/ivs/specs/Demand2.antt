@@ -11,8 +11,8 @@ use Rattle.reader.specs.declared.reader.Reading.the-variants.{Written, NoColumn
 use Rattle.reader.specs.Store.{readStore, valueOf, regionCount}
 use Rattle.said.specs.Job.{Said, fine}
 use Rattle.finishing.specs.declared.answers.Report.{Report}
-use Rattle.build.specs.Lending.{Lending}
-use Rattle.build.specs.Build.{coordsOf, outcomeOf, after}
+use Rattle.packer.specs.Lending.{Lending}
+use Rattle.packer.specs.Build.{coordsInUse, outcomeOf, after}
 use Rattle.ivs.specs.SetsRead.{listed}
 
 -- region q of the store's list, in a row of a set's; `coords` has the coordinates of the regions in use
@@ -49,4 +49,4 @@ pub record Demand2 (c : Lending) (r : Report) : Type 0 where
   pub said : Said
   pub said-is : outcomeOf c ≡ fine said
   pub sets-back : (n : ℕ) → n < length (said .sets)
-      → SetBack (c .axes) (coordsOf said) (getD (said .sets) n []) (take (r .bytes) (after c .lent .out)) (getD (after c .lent .map) (getD (after c .lent .ids) n 0) 0)
+      → SetBack (c .axes) (coordsInUse said) (getD (said .sets) n []) (take (r .bytes) (after c .lent .out)) (getD (after c .lent .map) (getD (after c .lent .ids) n 0) 0)

@@ -21,8 +21,8 @@ use Rattle.said.specs.Job.{Said, fine}
 use Rattle.encoder.specs.Packed.{isAhead, finalOf, oneCost}
 use Rattle.sizes.specs.Sizes.{groupAt}
 use Rattle.finishing.specs.declared.answers.Report.{Report}
-use Rattle.build.specs.Lending.{Lending}
-use Rattle.build.specs.Build.{coordsOf, packedOf, outcomeOf, after}
+use Rattle.packer.specs.Lending.{Lending}
+use Rattle.packer.specs.Build.{coordsInUse, packedOf, outcomeOf, after}
 
 -- ---- the rule on a list of groups
 
@@ -103,7 +103,7 @@ pub record Demand3 (c : Lending) (r : Report) : Type 0 where
   pub finals-are : packedOf 0 said .finals
       ≡ map (finalOf (length (said .used)) (groupsSaid said) (distinct (said .sets))) (sorted isAhead (merged (groupsSaid said) .living))
   pub written : take (r .bytes) (after c .lent .out)
-      ≡ storeOf (c .axes) (coordsOf said) (λ x. getD (distinct (said .sets)) x []) (packedOf 0 said .finals)
+      ≡ storeOf (c .axes) (coordsInUse said) (λ x. getD (distinct (said .sets)) x []) (packedOf 0 said .finals)
   pub subtables-are : r .subtables ≡ length (allRuns (packedOf 0 said .finals))
 
 -- ---- a done build in mode 1 (A2)

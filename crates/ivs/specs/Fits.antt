@@ -4,7 +4,7 @@ use mathlib.Core.Path.{_≡_}
 use Prim.Native.Nat.{ℕ, _/_, _%_, _≤_, _<_}
 use lib.ListN.{length}
 use Rattle.said.specs.Refusals.{publishedWork, pairRecords}
-use Rattle.build.specs.Lending.{Lending}
+use Rattle.packer.specs.Lending.{Lending}
 use Rattle.said.specs.Records.{spareBytes, recordsIn}
 use Rattle.limits.specs.Limits.{mostRecords, mostAxes}
 

@@ -6,7 +6,7 @@ pub mod Fine
 pub mod Rooms
 pub mod Rows
 pub mod GlyphWords
-pub mod Told
+pub mod Answered
 pub mod SetsRead
 pub mod Sized
 pub mod Past

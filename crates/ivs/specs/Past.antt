@@ -3,8 +3,8 @@ use mathlib.Core.Path.{_≡_}
 use Prim.Native.Nat.{_*_}
 use lib.ListN.{drop}
 use Rattle.finishing.specs.declared.answers.Report.{Report}
-use Rattle.build.specs.Lending.{Lending}
-use Rattle.build.specs.Build.{after}
+use Rattle.packer.specs.Lending.{Lending}
+use Rattle.packer.specs.Build.{after}
 use Rattle.ivs.specs.Counts.{endRecords}
 
 pub record PastKept (c : Lending) (r : Report) : Type 0 where

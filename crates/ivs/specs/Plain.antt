@@ -4,8 +4,8 @@ use Prim.Native.Nat.{ℕ, _≤_, _<_}
 use lib.ListN.{getD}
 use Rattle.limits.specs.Limits.{maxItems}
 use Rattle.finishing.specs.declared.answers.Report.{Report}
-use Rattle.build.specs.Lending.{Lending}
-use Rattle.build.specs.Build.{after}
+use Rattle.packer.specs.Lending.{Lending}
+use Rattle.packer.specs.Build.{after}
 use Rattle.ivs.specs.Counts.{endRecords}
 
 pub record Plain (c : Lending) (r : Report) : Type 0 where

@@ -2,8 +2,8 @@
 use mathlib.Core.Path.{_≡_}
 use mathlib.Core.List.{List}
 use Prim.Native.Nat.{ℕ}
-use Rattle.build.specs.Lending.{Lending, Left}
-use Rattle.build.specs.Build.{answerOf, after}
+use Rattle.packer.specs.Lending.{Lending, Left}
+use Rattle.packer.specs.Build.{answerOf, after}
 use Rattle.ivs.specs.Answers.{numberOf, reportWords}
 
 pub record Reported (c : Lending) (number : ℕ) (l : Left) (report : List ℕ) : Type 0 where

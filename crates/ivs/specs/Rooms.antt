@@ -5,8 +5,8 @@ use Prim.Native.Nat.{ℕ, _-_, _*_, _≤_}
 use lib.ListN.{length}
 use Rattle.said.specs.Job.{Said, fine}
 use Rattle.finishing.specs.Late.{storeFor}
-use Rattle.build.specs.Lending.{Lending}
-use Rattle.build.specs.Build.{coordsOf, packedOf, outcomeOf}
+use Rattle.packer.specs.Lending.{Lending}
+use Rattle.packer.specs.Build.{coordsInUse, packedOf, outcomeOf}
 use Rattle.limits.specs.Limits.{maxShapes}
 use Rattle.ivs.specs.Counts.{endRecords}
 
@@ -24,7 +24,7 @@ abbrev pub distinctIds : ℕ → Said → ℕ
 distinctIds mode s = length (packedOf mode s .sets)
 
 abbrev pub storeBytes : ℕ → ℕ → Said → ℕ
-storeBytes axes mode s = length (storeFor axes (coordsOf s) (packedOf mode s))
+storeBytes axes mode s = length (storeFor axes (coordsInUse s) (packedOf mode s))
 
 pub record ShapesFit (mode : ℕ) (s : Said) : Type 0 where
   pub shapes-few : shapeCount mode s ≤ maxShapes

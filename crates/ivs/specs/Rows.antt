@@ -1,7 +1,7 @@
 -- Where a record or the end of a job is refused, and what is so before (T1 to T3). Assumes nothing.
 use Prim.Native.Nat.{ℕ, _<_}
 use Rattle.said.specs.Records.{recordCount}
-use Rattle.build.specs.Lending.{Lending}
+use Rattle.packer.specs.Lending.{Lending}
 use Rattle.ivs.specs.Fits.{Fits}
 use Rattle.ivs.specs.Fine.{AllFine}
 

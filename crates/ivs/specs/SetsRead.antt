@@ -13,8 +13,8 @@ use Rattle.reader.specs.Store.{readStore, valueOf, listAt, regionCount}
 use Rattle.said.specs.Records.{regionOf, recordAt, recordCount}
 use Rattle.told.specs.Told.{endsBefore, ValueIn, coordinatesAt}
 use Rattle.finishing.specs.declared.answers.Report.{Report}
-use Rattle.build.specs.Lending.{Lending}
-use Rattle.build.specs.Build.{regionBytes, after}
+use Rattle.packer.specs.Lending.{Lending}
+use Rattle.packer.specs.Build.{regionBytes, after}
 
 -- the coordinates of region q of a store's list, as they stand there
 abbrev pub listed : ℕ → List ℕ → ℕ → List ℕ

@@ -7,8 +7,8 @@ use Rattle.laws.specs.Bag.{weigh}
 use Rattle.said.specs.Job.{Said, fine}
 use Rattle.sizes.specs.Sizes.{costOf, Sizes}
 use Rattle.finishing.specs.declared.answers.Report.{Report}
-use Rattle.build.specs.Lending.{Lending}
-use Rattle.build.specs.Build.{packedOf, outcomeOf}
+use Rattle.packer.specs.Lending.{Lending}
+use Rattle.packer.specs.Build.{packedOf, outcomeOf}
 
 pub record Sized (c : Lending) (r : Report) : Type 0 where
   pub said : Said

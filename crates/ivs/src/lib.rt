@@ -12,9 +12,9 @@ ghost use Rattle.laws.specs.Signed.{twos};
 ghost use Rattle.said.specs.Refusals.{workWords};
 ghost use Rattle.reader.specs.Store.{readStore};
 ghost use Rattle.finishing.specs.Buffers.{buffers};
-ghost use Rattle.build.specs.Lending.{lending, leaves};
+ghost use Rattle.packer.specs.Lending.{lending, leaves};
 ghost use Rattle.ivs.specs.Answers.{readWord};
-ghost use Rattle.ivs.specs.Told.{Told};
+ghost use Rattle.ivs.specs.Answered.{Answered};
 
 // The words of work that a job of so many records needs; 0 above the record limit.
 #[no_mangle]
@@ -60,8 +60,8 @@ pub extern "C" fn ivs_build(
     log: &mut [u32],
     report: &mut [u64; 16],
 ) -> u32
-    ensures { λ r. ⌜ Told (lending axes mode (now (job .entry)) (now (work .entry)) (now (pairs .entry)) (buffers (now (out .entry)) (now (ids .entry)) (now (map .entry)) (now (log .entry)))) r (leaves (now (work .exit)) (now (pairs .exit)) (buffers (now (out .exit)) (now (ids .exit)) (now (map .exit)) (now (log .exit)))) (now (report .entry)) (now (report .exit)) ⌝ }
+    ensures { λ r. ⌜ Answered (lending axes mode (now (job .entry)) (now (work .entry)) (now (pairs .entry)) (buffers (now (out .entry)) (now (ids .entry)) (now (map .entry)) (now (log .entry)))) r (leaves (now (work .exit)) (now (pairs .exit)) (buffers (now (out .exit)) (now (ids .exit)) (now (map .exit)) (now (log .exit)))) (now (report .entry)) (now (report .exit)) ⌝ }
 {
-    let answer = build::build(axes, mode, job, work, pairs, out, ids, map, log);
+    let answer = packer::build(axes, mode, job, work, pairs, out, ids, map, log);
     tell(report, answer)
 }

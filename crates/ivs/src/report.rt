@@ -1,6 +1,6 @@
 // The report: sixteen numbers, whatever the answer.
-use build::Built;
-use build::Report;
+use packer::Built;
+use packer::Report;
 ghost use mathlib.Core.Path.{_≡_};
 ghost use Prim.Native.Nat.{_≤_};
 ghost use Rattle.ivs.specs.Answers.{numberOf, reportWords, refusedWords, doneWords, filled, numberFew};

@@ -8,10 +8,10 @@ use borrow.Author.Tests.{eq-eqb, ne-eqb}
 use Rattle.sets.proofs.HeldLaws.{sets-length}
 use Rattle.said.specs.Records.{recordsIn, recordCount}
 use Rattle.said.specs.Refusals.{publishedWork, earlyNo}
-use Rattle.said.specs.Job.{Outcome, inAxes, walk, outcomeFrom, outcome}
+use Rattle.said.specs.Job.{Outcome, inAxes, recordsFrom, outcomeFrom, outcome}
 use Rattle.said.specs.Job.{refused, fine}
 use Rattle.job.specs.Lent.{JobRead}
-use Rattle.said.specs.Open.{Open}
+use Rattle.said.specs.LentOpen.{Open}
 use Rattle.job.specs.Check.{checkedOf, workLeft}
 use Rattle.job.specs.declared.checking.Checked.the-variants.{Refused, Sound}
 
@@ -35,7 +35,7 @@ module _ (axes mode : ℕ) (job w : List ℕ) (pairs n : ℕ) (e : n ≡ earlyNo
   pub refused-early : (n ≡ 0 → ⊥) → Refused n 0 ≡ checkedOf (outcome axes mode job (length w) pairs)
   unfolding outcome checkedOf
   refused-early h =
-      let o : Outcome = walk axes mode job job (recordCount job) 0 inAxes in
+      let o : Outcome = recordsFrom axes mode job job (recordCount job) 0 inAxes in
       sym (ap checkedOf (ap (λ k. outcomeFrom k o) (sym e) ∙ early-first n o h))
 
   pub left-early : (n ≡ 0 → ⊥) → w ≡ workLeft axes mode (length job) pairs w
@@ -46,7 +46,7 @@ module _ (axes mode : ℕ) (job w : List ℕ) (pairs n : ℕ) (e : n ≡ earlyNo
   unfolding workLeft
   left-zeros z long w′ l c = c ∙ rw (← e, eq-eqb n 0 z, l) refl
 
-  outcome-walk : n ≡ 0 → outcome axes mode job (length w) pairs ≡ walk axes mode job job (recordCount job) 0 inAxes
+  outcome-walk : n ≡ 0 → outcome axes mode job (length w) pairs ≡ recordsFrom axes mode job job (recordCount job) 0 inAxes
   unfolding outcome
   outcome-walk z = none-early _ _ (sym e ∙ z)
 

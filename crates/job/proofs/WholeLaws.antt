@@ -6,18 +6,18 @@ use native.Mathlib.Nat.{mul-left-comm, mul-le-mul-left, div-mul-le-self, div-le-
 use native.Mathlib.Omega.{arith}
 use lib.ListN.{length, getD}
 use lib.Seq.{ext-getD}
-use Rattle.laws.specs.Range.{seg, Zeroed}
+use Rattle.laws.specs.LentRange.{seg, Zeroed}
 use Rattle.laws.proofs.EveryLaws.{all-getD}
 use Rattle.laws.proofs.RangeLaws.{only-refl, only-trans, only-weaken, length-seg, getD-seg}
 use Rattle.sets.specs.Set.{Ascending, Proper}
 use Rattle.sets.specs.Lent.{entries, setsIn}
 use Rattle.sets.proofs.HeldLaws.{sets-length, sets-at}
-use Rattle.values.specs.declared.tables.Tables.{Tables}
+use Rattle.values.specs.declared.tables.SetTables.{SetTables}
 use Rattle.said.specs.Sets.{regionList, firstLike, has}
 use Rattle.said.specs.Job.{regionsOnly}
-use Rattle.walk.specs.Inner.{AxesRead}
+use Rattle.job_scan.specs.LentAxes.{AxesRead}
 use Rattle.values.specs.Lent.{slotIn, Holds}
-use Rattle.walk.specs.Lent.{FirstsOf, Room, SetsHeld, SetsRead}
+use Rattle.job_scan.specs.Lent.{FirstsOf, Room, SetsHeld, SetsRead}
 use Rattle.limits.specs.Limits.{mostRecords}
 use Rattle.job.specs.Lent.{tablesAt, Prepared, JobHeld, JobRead}
 use Rattle.said.specs.Refusals.{publishedWork}
@@ -92,7 +92,7 @@ regions-fit a b records h = omega (arith, div-le-self a b)
 -- ---- after the last record
 
 module _ (axes mode : ℕ) (job : List ℕ) (records nr at : ℕ) (old mid new : List ℕ) (a : AxesRead axes job records nr at) (p : Prepared axes (at / axes) records job old mid) where
-  abbrev tables : Tables
+  abbrev tables : SetTables
   tables = tablesAt records axes (at / axes)
 
   module _ (nr′ at′ sets values uses : ℕ) (r : SetsRead axes mode job records at tables mid new nr′ at′ sets values uses) (g : nr ≡ 0)
@@ -141,19 +141,19 @@ pub job-refused : (axes mode : ℕ) (job : List ℕ) (records nr at : ℕ) (old 
 job-refused axes mode job records nr at old a z = record { bad = λ d. a .bad d mode; good = λ e. absurd (z e); only = only-refl ((0, 16 * records) ∷ []) old }
 
 -- the tables as the code makes them
-pub ready : (t : Tables) (axes regions records : ℕ) (job old new : List ℕ) → t ≡ tablesAt records axes regions → Prepared axes regions records job old new
+pub ready : (t : SetTables) (axes regions records : ℕ) (job old new : List ℕ) → t ≡ tablesAt records axes regions → Prepared axes regions records job old new
     → Room t records (length new) × Holds new t (regionsOnly (regionList axes regions job)) 0 0 (t .body) 0
 unfolding tablesAt
 ready t axes regions records job old new e p =
-    subst (λ (x : Tables). Room x records (length new) × Holds new x (regionsOnly (regionList axes regions job)) 0 0 (x .body) 0) (sym e) (p .room, p .holds)
+    subst (λ (x : SetTables). Room x records (length new) × Holds new x (regionsOnly (regionList axes regions job)) 0 0 (x .body) 0) (sym e) (p .room, p .holds)
 
-pub job-read-by : (t : Tables) (axes mode : ℕ) (job : List ℕ) (records nr at : ℕ) (old mid new : List ℕ) → t ≡ tablesAt records axes (at / axes)
+pub job-read-by : (t : SetTables) (axes mode : ℕ) (job : List ℕ) (records nr at : ℕ) (old mid new : List ℕ) → t ≡ tablesAt records axes (at / axes)
     → AxesRead axes job records nr at → Prepared axes (at / axes) records job old mid
     → (nr′ at′ sets values uses : ℕ) → SetsRead axes mode job records at t mid new nr′ at′ sets values uses → nr ≡ 0 → 16 * records ≤ length old
     → JobRead axes mode job records old new nr′ at′ (at / axes) sets values uses
 job-read-by t axes mode job records nr at old mid new e a p nr′ at′ sets values uses r g room =
     job-read axes mode job records nr at old mid new a p nr′ at′ sets values uses
-    (subst (λ (x : Tables). SetsRead axes mode job records at x mid new nr′ at′ sets values uses) e r) g room
+    (subst (λ (x : SetTables). SetsRead axes mode job records at x mid new nr′ at′ sets values uses) e r) g room
     (omega (arith, span at axes 6, a .within)) (regions-fit at axes records (a .within))
 
 -- the published work has the words of the tables

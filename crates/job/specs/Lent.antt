@@ -3,16 +3,16 @@ use mathlib.Core.Path.{_≡_}
 use mathlib.Core.List.{List, [], _∷_}
 use Prim.Native.Nat.{ℕ, _+_, _*_}
 use lib.ListN.{length}
-use Rattle.laws.specs.Range.{Only, seg}
+use Rattle.laws.specs.LentRange.{Only, seg}
 use Rattle.sets.specs.Lent.{Held, setsIn}
-use Rattle.said.specs.Job.{Said, inAxes, regionsOnly, refused, fine, walk}
-use Rattle.values.specs.declared.tables.Tables.{Tables}
+use Rattle.said.specs.Job.{Said, inAxes, regionsOnly, refused, fine, recordsFrom}
+use Rattle.values.specs.declared.tables.SetTables.{SetTables}
 use Rattle.said.specs.Sets.{regionList}
 use Rattle.values.specs.Lent.{Holds}
-use Rattle.walk.specs.Lent.{Room}
+use Rattle.job_scan.specs.Lent.{Room}
 
 -- the offsets of the tables for a job of n records and so many regions: sets below word 4 n, regions in use from there on
-unfoldable pub tablesAt : ℕ → ℕ → ℕ → Tables
+unfoldable pub tablesAt : ℕ → ℕ → ℕ → SetTables
 tablesAt n axes regions = record {
   rows = 0;
   body = 2 * n;
@@ -27,7 +27,7 @@ tablesAt n axes regions = record {
 -- zeros, and from there on by region index the regions in use.
 pub record JobHeld (axes mode : ℕ) (job : List ℕ) (records : ℕ) (new : List ℕ) (regions sets values uses : ℕ) : Type 0 where
   pub said : Said
-  pub is : walk axes mode job job records 0 inAxes ≡ fine said
+  pub is : recordsFrom axes mode job job records 0 inAxes ≡ fine said
   pub regions-are : length (said .regions) ≡ regions
   pub sets-are : setsIn 0 sets new ≡ said .sets
   pub values-are : said .values ≡ values
@@ -36,7 +36,7 @@ pub record JobHeld (axes mode : ℕ) (job : List ℕ) (records : ℕ) (new : Lis
   pub held : Held new 0 sets uses (4 * records)
 
 pub record JobRead (axes mode : ℕ) (job : List ℕ) (records : ℕ) (old new : List ℕ) (no at regions sets values uses : ℕ) : Type 0 where
-  pub bad : (no ≡ 0 → ⊥) → walk axes mode job job records 0 inAxes ≡ refused no at
+  pub bad : (no ≡ 0 → ⊥) → recordsFrom axes mode job job records 0 inAxes ≡ refused no at
   pub good : no ≡ 0 → JobHeld axes mode job records new regions sets values uses
   pub only : Only ((0, 16 * records) ∷ []) old new
 

@@ -1,5 +1,5 @@
 // A job looked at and not built: where it is refused, or how much it says (RULES R1 to R9).
-use crate::early::clear;
+use crate::early::clear_work;
 use crate::early::early_no;
 use crate::whole::read_job;
 use laws::wide;
@@ -26,7 +26,7 @@ pub fn check(axes: u32, mode: u32, job: &[u8], work: &mut [u32], pairs: usize) -
     }
     let a = wide(axes);
     let r = read_job(job, a, mode, records_in(job.len()), work);
-    clear(work);
+    clear_work(work);
     if r.no != 0 {
         return Checked::Refused(r.no, r.at);
     }

@@ -8,7 +8,7 @@ ghost use mathlib.Core.List.{List};
 ghost use Prim.Native.Nat.{ℕ, _<_, _≤_};
 ghost use lib.ListN.{length, replicate};
 ghost use Rattle.said.specs.Refusals.{publishedWork, workWords, earlyNo};
-ghost use Rattle.said.specs.Open.{Open};
+ghost use Rattle.said.specs.LentOpen.{Open};
 ghost use Rattle.limits.specs.Limits.{mostRecords};
 
 // The words of work that a job of so many records needs.
@@ -63,7 +63,7 @@ pub fn early_no(axes: u32, mode: u32, bytes: usize, work: usize, pairs: usize) -
 }
 
 // All words zero.
-pub fn clear(work: &mut [u32])
+pub fn clear_work(work: &mut [u32])
     ensures { λ _. ⌜ now (work .exit) ≡ replicate (length (now (work .entry))) 0 ⌝ }
 {
     let mut i = 0;

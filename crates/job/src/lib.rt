@@ -5,7 +5,7 @@ mod whole;
 
 pub use checking::Checked;
 pub use checking::check;
-pub use early::clear;
+pub use early::clear_work;
 pub use early::early_no;
 pub use early::work_words;
 pub use whole::JobEnd;

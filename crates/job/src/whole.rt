@@ -1,9 +1,9 @@
 // A job's records, whole: axis records, first regions, sets.
+use job_scan::axes_end;
+use job_scan::find_firsts;
+use job_scan::read_sets;
 use laws::zero_part;
-use values::Tables;
-use walk::axes_end;
-use walk::find_firsts;
-use walk::read_sets;
+use values::SetTables;
 ghost use mathlib.Core.Path.{_≡_};
 ghost use Prim.Native.Nat.{ℕ, _+_, _*_, _/_, _%_, _<_, _≤_};
 ghost use lib.ListN.{length};
@@ -35,11 +35,11 @@ fn prepare(job: &[u8], axes: usize, regions: usize, records: usize, work: &mut [
 }
 
 // Where the tables stand for a job of so many records.
-fn tables_at(records: usize, axes: usize, regions: usize) -> Tables
+fn tables_at(records: usize, axes: usize, regions: usize) -> SetTables
     requires { ⌜ (records ≤ mostRecords) × (axes ≤ mostAxes) × (regions * (6 * axes) ≤ 6 * records) × (regions ≤ records) ⌝ }
     ensures { λ r. ⌜ r ≡ tablesAt records axes regions ⌝ }
 {
-    Tables {
+    SetTables {
         rows: 0,
         body: 2 * records,
         used: 4 * records,

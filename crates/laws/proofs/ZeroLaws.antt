@@ -6,7 +6,7 @@ use native.Mathlib.Omega.{arith}
 use lib.ListN.{length, getD, set, replicate, length-replicate, getD-replicate}
 use lib.Seq.{ext-getD, getD-set-same, getD-set-other}
 use borrow.Author.Count.{below-more}
-use Rattle.laws.specs.Range.{Only, Zeroed, seg}
+use Rattle.laws.specs.LentRange.{Only, Zeroed, seg}
 use Rattle.laws.proofs.RangeLaws.{only-refl, only-trans, only-set, length-seg, getD-seg}
 
 -- the first i of n words are zero

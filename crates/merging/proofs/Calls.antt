@@ -13,7 +13,7 @@ use base.Logic.{SProp, ent, guard, emp}
 use base.Fml.{Lft, GName, Share, ftrue, flft}
 use prog.Memory.{Memory}
 use prog.Routine.{Routine}
-use prog.Wp.{Heap, Calls, Tables as AllCalls}
+use prog.Wp.{Heap, Calls}
 use ghost.Atoms.{Atoms, sem}
 use contract.Monad.{Fun, fact, factI}
 use types.Kit.{Given, Item, ‵, raw, given, some, later, _⊛_, mean, _$_, _∵_, !, qed, by, move, keep, use0, split, join, pick, check, fsplit, fjoin, feqL, suffices, frame, await, updating, now as at-once, show, done}
@@ -30,21 +30,21 @@ use denote.Triple.Statement.{Contract, Triple}
 use denote.Triple.Clauses.{Lasts, lasts}
 use Rattle.laws.specs.Bag.{sum, weigh}
 use Rattle.shapes.specs.Group.{groupCost}
-use Rattle.pairs.specs.Queue.{HeapOrdered, Popped}
+use Rattle.pairs.specs.LentQueue.{HeapOrdered, Popped}
 use Rattle.slots.specs.Lent.{Laid, Shaped, Sound, Dealt, MeasuredAll, starting}
-use Rattle.waits.specs.Waits.{room, alive, Asked, OfferedAll, Opening, Opened, BothLive, Numbered, KeptLiving}
-use Rattle.merging.specs.Held.{Joinable, JoinedAt, SomeStanding, Turned, Tidied, Ran}
-use Rattle.merging.specs.Optimized.{Settled, Onward, Finished}
+use Rattle.waits.specs.LentWaits.{room, alive, Asked, OfferedAll, Opening, Opened, BothLive, Numbered, KeptLiving}
+use Rattle.merging.specs.LentHeld.{Joinable, JoinedAt, SomeStanding, Turned, Tidied, Ran}
+use Rattle.merging.specs.LentOptimized.{GroupsPlaced, Onward, AllResolved}
 use Rattle.pairs.specs.declared.Pair.{Pair}
 use Rattle.pairs.proofs.Pair as T
 use Rattle.pairs.proofs.Pair.Laws as T′
-use Rattle.slots.specs.declared.tables.Tables.{Tables}
-use Rattle.slots.proofs.tables.Tables as L
-use Rattle.slots.proofs.tables.Tables.Laws as L′
+use Rattle.slots.specs.declared.tables.MergeTables.{MergeTables}
+use Rattle.slots.proofs.tables.MergeTables as L
+use Rattle.slots.proofs.tables.MergeTables.Laws as L′
 use Rattle.waits.specs.declared.Tally.{Tally}
 use Rattle.waits.proofs.Tally as Y
 use Rattle.waits.proofs.Tally.Laws as Y′
-use Rattle.merging.specs.declared.encoder.Merged.{Merged}
+use Rattle.merging.specs.declared.optimizing.Merged.{Merged}
 use Rattle.merging.specs.declared.run.Progress.{Progress}
 use Rattle.merging.proofs.run.Progress as Z
 use Rattle.merging.proofs.run.Progress.Laws as Z′
@@ -57,8 +57,8 @@ use Rattle.waits.proofs.living as living
 use Rattle.waits.proofs.keep_living as keep-living
 use Rattle.slots.proofs.measure_all as measure-all
 use Rattle.slots.proofs.size as size
-use Rattle.merging.proofs.encoder.settle as settle
-use Rattle.merging.proofs.encoder.finish as finish
+use Rattle.merging.proofs.optimizing.place_groups as place-groups
+use Rattle.merging.proofs.optimizing.resolve_all as resolve-all
 use Rattle.merging.proofs.run.join as join
 use Rattle.merging.proofs.run.turn as turn
 use Rattle.merging.proofs.run.crowded as crowded
@@ -71,8 +71,8 @@ use Rattle.waits.proofs.living.Symbol.{name as #waits·living}
 use Rattle.waits.proofs.keep_living.Symbol.{name as #waits·keep-living}
 use Rattle.slots.proofs.measure_all.Symbol.{name as #slots·measure-all}
 use Rattle.slots.proofs.size.Symbol.{name as #slots·size}
-use Rattle.merging.proofs.encoder.settle.Symbol.{name as #merging·settle}
-use Rattle.merging.proofs.encoder.finish.Symbol.{name as #merging·finish}
+use Rattle.merging.proofs.optimizing.place_groups.Symbol.{name as #merging·place-groups}
+use Rattle.merging.proofs.optimizing.resolve_all.Symbol.{name as #merging·resolve-all}
 use Rattle.merging.proofs.run.join.Symbol.{name as #merging·join}
 use Rattle.merging.proofs.run.turn.Symbol.{name as #merging·turn}
 use Rattle.merging.proofs.run.crowded.Symbol.{name as #merging·crowded}
@@ -82,8 +82,8 @@ use Rattle.merging.proofs.run.join_all.Symbol.{name as #merging·join-a
 abbrev pub mach : Pair → Val
 mach x = vstruct (vcons (vint w32 (x .gain)) (vcons (vint w32 (x .first)) (vcons (vint w32 (x .second)) vnil)))
 
-abbrev pub mach-tables : Tables → Val
-mach-tables x = vstruct (vcons (vint w64 (x .regions)) (vcons (vint w64 (x .groups)) (vcons (vint w64 (x .slots)) (vcons (vint w64 (x .order)) (vcons (vint w64 (x .counts)) (vcons (vint w64 (x .place)) (vcons (vint w64 (x .rows)) (vcons (vint w64 (x .columns)) (vcons (vint w64 (x .into)) (vcons (vint w64 (x .log)) vnil))))))))))
+abbrev pub mach-tables : MergeTables → Val
+mach-tables x = vstruct (vcons (vint w64 (x .regions)) (vcons (vint w64 (x .groups)) (vcons (vint w64 (x .slots)) (vcons (vint w64 (x .order)) (vcons (vint w64 (x .counts)) (vcons (vint w64 (x .place)) (vcons (vint w64 (x .costs)) (vcons (vint w64 (x .columns)) (vcons (vint w64 (x .into)) (vcons (vint w64 (x .log)) vnil))))))))))
 
 abbrev pub mach-tally : Tally → Val
 mach-tally x = vstruct (vcons (vint w64 (x .waiting)) (vcons (vint w64 (x .weighed)) vnil))
@@ -116,11 +116,11 @@ module _ {M : Type 1} (𝓤 : URA M) (H : Heap 𝓤) (A : Atoms 𝓤) (mem : Mem
   abbrev pub Size-of : Contract 𝓤
   Size-of = tripleOf 𝓤 H A size.signature (size.spec 𝓤 H A mem run)
 
-  abbrev pub Settle-of : Contract 𝓤
-  Settle-of = tripleOf 𝓤 H A settle.signature (settle.spec 𝓤 H A mem run)
+  abbrev pub PlaceGroups-of : Contract 𝓤
+  PlaceGroups-of = tripleOf 𝓤 H A place-groups.signature (place-groups.spec 𝓤 H A mem run)
 
-  abbrev pub Finish-of : Contract 𝓤
-  Finish-of = tripleOf 𝓤 H A finish.signature (finish.spec 𝓤 H A mem run)
+  abbrev pub ResolveAll-of : Contract 𝓤
+  ResolveAll-of = tripleOf 𝓤 H A resolve-all.signature (resolve-all.spec 𝓤 H A mem run)
 
   abbrev pub Join-of : Contract 𝓤
   Join-of = tripleOf 𝓤 H A join.signature (join.spec 𝓤 H A mem run)
@@ -185,7 +185,7 @@ module _ {M : Type 1} (𝓤 : URA M) (H : Heap 𝓤) (A : Atoms 𝓤) (W : Given
         frame ! $
         use0 W (raw (fact 𝓤 ((count ≤ length pairs) × (0 < count) × (HeapOrdered pairs count)))) (factI 𝓤 ((count ≤ length pairs) × (0 < count) × (HeapOrdered pairs count)) (emp 𝓤) l) $ done !)
 
-  module _ (C : Calls 𝓤 H) (fm : FmC 𝓤 H (W .laws) C) (known : Triple 𝓤 (C #waits·offer-all) (OfferAll-of 𝓤 H A mem run)) (κ : Lft) (θ : Share) (γ : GName) (β ι : ℕ) (ν : ℕ) (pairs : List Pair) (κ₂ : Lft) (θ₂ : Share) (γ₂ : GName) (β₂ ι₂ : ℕ) (ν₂ : ℕ) (work : List ℕ) (tb : Tables) (k : ℕ) (at : Tally) where
+  module _ (C : Calls 𝓤 H) (fm : FmC 𝓤 H (W .laws) C) (known : Triple 𝓤 (C #waits·offer-all) (OfferAll-of 𝓤 H A mem run)) (κ : Lft) (θ : Share) (γ : GName) (β ι : ℕ) (ν : ℕ) (pairs : List Pair) (κ₂ : Lft) (θ₂ : Share) (γ₂ : GName) (β₂ ι₂ : ℕ) (ν₂ : ℕ) (work : List ℕ) (tb : MergeTables) (k : ℕ) (at : Tally) where
     abbrev Loan-offer-all-call : (long : length pairs ≡ ν) (long₂ : length work ≡ ν₂) (sized : Room T.the-row ν) → Loan 𝓤 H A
     Loan-offer-all-call long long₂ sized = both 𝓤 H A W (lent-mut T.the-row κ θ γ β ι 𝓤 H A W pairs ν long sized) (lent-shr u32 κ₂ θ₂ γ₂ β₂ ι₂ 𝓤 H A W work ν₂ long₂)
 
@@ -246,7 +246,7 @@ module _ {M : Type 1} (𝓤 : URA M) (H : Heap 𝓤) (A : Atoms 𝓤) (W : Given
         frame ! $
         use0 W (raw (fact 𝓤 (room (tb .groups) ≤ length pairs))) (factI 𝓤 (room (tb .groups) ≤ length pairs) (emp 𝓤) (l .3)) $ use0 W (raw (fact 𝓤 (at .weighed + sum (alive tb work) k ≤ room (tb .groups)))) (factI 𝓤 (at .weighed + sum (alive tb work) k ≤ room (tb .groups)) (emp 𝓤) (l .2)) $ use0 W (raw (fact 𝓤 (at .waiting + sum (alive tb work) k ≤ room (tb .groups)))) (factI 𝓤 (at .waiting + sum (alive tb work) k ≤ room (tb .groups)) (emp 𝓤) (l .1)) $ use0 W (raw (fact 𝓤 (Asked tb k 0 (at .waiting) work pairs))) (factI 𝓤 (Asked tb k 0 (at .waiting) work pairs) (emp 𝓤) (l .0)) $ done !)
 
-  module _ (C : Calls 𝓤 H) (fm : FmC 𝓤 H (W .laws) C) (known : Triple 𝓤 (C #waits·weigh-each) (WeighEach-of 𝓤 H A mem run)) (κ : Lft) (θ : Share) (γ : GName) (β ι : ℕ) (ν : ℕ) (pairs : List Pair) (κ₂ : Lft) (θ₂ : Share) (γ₂ : GName) (β₂ ι₂ : ℕ) (ν₂ : ℕ) (work : List ℕ) (tb : Tables) where
+  module _ (C : Calls 𝓤 H) (fm : FmC 𝓤 H (W .laws) C) (known : Triple 𝓤 (C #waits·weigh-each) (WeighEach-of 𝓤 H A mem run)) (κ : Lft) (θ : Share) (γ : GName) (β ι : ℕ) (ν : ℕ) (pairs : List Pair) (κ₂ : Lft) (θ₂ : Share) (γ₂ : GName) (β₂ ι₂ : ℕ) (ν₂ : ℕ) (work : List ℕ) (tb : MergeTables) where
     abbrev Loan-weigh-each-call : (long : length pairs ≡ ν) (long₂ : length work ≡ ν₂) (sized : Room T.the-row ν) → Loan 𝓤 H A
     Loan-weigh-each-call long long₂ sized = both 𝓤 H A W (lent-mut T.the-row κ θ γ β ι 𝓤 H A W pairs ν long sized) (lent-shr u32 κ₂ θ₂ γ₂ β₂ ι₂ 𝓤 H A W work ν₂ long₂)
 
@@ -303,7 +303,7 @@ module _ {M : Type 1} (𝓤 : URA M) (H : Heap 𝓤) (A : Atoms 𝓤) (W : Given
         frame ! $
         use0 W (raw (fact 𝓤 (room (tb .groups) ≤ length pairs))) (factI 𝓤 (room (tb .groups) ≤ length pairs) (emp 𝓤) (l .1)) $ use0 W (raw (fact 𝓤 (Opening tb work))) (factI 𝓤 (Opening tb work) (emp 𝓤) (l .0)) $ done !)
 
-  module _ (C : Calls 𝓤 H) (fm : FmC 𝓤 H (W .laws) C) (known : Triple 𝓤 (C #waits·living) (Living-of 𝓤 H A mem run)) (κ : Lft) (θ : Share) (γ : GName) (β ι : ℕ) (ν : ℕ) (work : List ℕ) (tb : Tables) (p : Pair) where
+  module _ (C : Calls 𝓤 H) (fm : FmC 𝓤 H (W .laws) C) (known : Triple 𝓤 (C #waits·living) (Living-of 𝓤 H A mem run)) (κ : Lft) (θ : Share) (γ : GName) (β ι : ℕ) (ν : ℕ) (work : List ℕ) (tb : MergeTables) (p : Pair) where
     abbrev Loan-living-call : (long : length work ≡ ν) → Loan 𝓤 H A
     Loan-living-call long = lent-shr u32 κ θ γ β ι 𝓤 H A W work ν long
 
@@ -346,7 +346,7 @@ module _ {M : Type 1} (𝓤 : URA M) (H : Heap 𝓤) (A : Atoms 𝓤) (W : Given
         frame ! $
         use0 W (raw (fact 𝓤 (p .second < 2 * tb .groups))) (factI 𝓤 (p .second < 2 * tb .groups) (emp 𝓤) (l .2)) $ use0 W (raw (fact 𝓤 (p .first < 2 * tb .groups))) (factI 𝓤 (p .first < 2 * tb .groups) (emp 𝓤) (l .1)) $ use0 W (raw (fact 𝓤 (Laid tb (length work)))) (factI 𝓤 (Laid tb (length work)) (emp 𝓤) (l .0)) $ done !)
 
-  module _ (C : Calls 𝓤 H) (fm : FmC 𝓤 H (W .laws) C) (known : Triple 𝓤 (C #waits·keep-living) (KeepLiving-of 𝓤 H A mem run)) (κ : Lft) (θ : Share) (γ : GName) (β ι : ℕ) (ν : ℕ) (pairs : List Pair) (κ₂ : Lft) (θ₂ : Share) (γ₂ : GName) (β₂ ι₂ : ℕ) (ν₂ : ℕ) (work : List ℕ) (tb : Tables) (n : ℕ) where
+  module _ (C : Calls 𝓤 H) (fm : FmC 𝓤 H (W .laws) C) (known : Triple 𝓤 (C #waits·keep-living) (KeepLiving-of 𝓤 H A mem run)) (κ : Lft) (θ : Share) (γ : GName) (β ι : ℕ) (ν : ℕ) (pairs : List Pair) (κ₂ : Lft) (θ₂ : Share) (γ₂ : GName) (β₂ ι₂ : ℕ) (ν₂ : ℕ) (work : List ℕ) (tb : MergeTables) (n : ℕ) where
     abbrev Loan-keep-living-mut-see : (long : length pairs ≡ ν) (sized : Room T.the-row ν) → Loan 𝓤 H A
     Loan-keep-living-mut-see long sized = both 𝓤 H A W (lent-mut T.the-row κ θ γ β ι 𝓤 H A W pairs ν long sized) (lent-see u32 κ₂ θ₂ γ₂ β₂ ι₂ 𝓤 H A W work ν₂)
 
@@ -405,7 +405,7 @@ module _ {M : Type 1} (𝓤 : URA M) (H : Heap 𝓤) (A : Atoms 𝓤) (W : Given
         frame ! $
         use0 W (raw (fact 𝓤 (Numbered tb n pairs))) (factI 𝓤 (Numbered tb n pairs) (emp 𝓤) (l .2)) $ use0 W (raw (fact 𝓤 (n ≤ length pairs))) (factI 𝓤 (n ≤ length pairs) (emp 𝓤) (l .1)) $ use0 W (raw (fact 𝓤 (Laid tb (length work)))) (factI 𝓤 (Laid tb (length work)) (emp 𝓤) (l .0)) $ done !)
 
-  module _ (C : Calls 𝓤 H) (fm : FmC 𝓤 H (W .laws) C) (known : Triple 𝓤 (C #slots·measure-all) (MeasureAll-of 𝓤 H A mem run)) (κ : Lft) (θ : Share) (γ : GName) (β ι : ℕ) (ν : ℕ) (work : List ℕ) (tb : Tables) where
+  module _ (C : Calls 𝓤 H) (fm : FmC 𝓤 H (W .laws) C) (known : Triple 𝓤 (C #slots·measure-all) (MeasureAll-of 𝓤 H A mem run)) (κ : Lft) (θ : Share) (γ : GName) (β ι : ℕ) (ν : ℕ) (work : List ℕ) (tb : MergeTables) where
     abbrev Loan-measure-all-call : (long : length work ≡ ν) (sized : Room u32 ν) → Loan 𝓤 H A
     Loan-measure-all-call long sized = lent-mut u32 κ θ γ β ι 𝓤 H A W work ν long sized
 
@@ -452,7 +452,7 @@ module _ {M : Type 1} (𝓤 : URA M) (H : Heap 𝓤) (A : Atoms 𝓤) (W : Given
         frame ! $
         use0 W (raw (fact 𝓤 (Shaped tb work))) (factI 𝓤 (Shaped tb work) (emp 𝓤) l) $ done !)
 
-  module _ (C : Calls 𝓤 H) (fm : FmC 𝓤 H (W .laws) C) (known : Triple 𝓤 (C #slots·size) (Size-of 𝓤 H A mem run)) (κ : Lft) (θ : Share) (γ : GName) (β ι : ℕ) (ν : ℕ) (work : List ℕ) (tb : Tables) where
+  module _ (C : Calls 𝓤 H) (fm : FmC 𝓤 H (W .laws) C) (known : Triple 𝓤 (C #slots·size) (Size-of 𝓤 H A mem run)) (κ : Lft) (θ : Share) (γ : GName) (β ι : ℕ) (ν : ℕ) (work : List ℕ) (tb : MergeTables) where
     abbrev Loan-size-call : (long : length work ≡ ν) → Loan 𝓤 H A
     Loan-size-call long = lent-shr u32 κ θ γ β ι 𝓤 H A W work ν long
 
@@ -493,23 +493,23 @@ module _ {M : Type 1} (𝓤 : URA M) (H : Heap 𝓤) (A : Atoms 𝓤) (W : Given
         frame ! $
         use0 W (raw (fact 𝓤 (Dealt tb work))) (factI 𝓤 (Dealt tb work) (emp 𝓤) (l .1)) $ use0 W (raw (fact 𝓤 (Sound tb work))) (factI 𝓤 (Sound tb work) (emp 𝓤) (l .0)) $ done !)
 
-  module _ (C : Calls 𝓤 H) (fm : FmC 𝓤 H (W .laws) C) (known : Triple 𝓤 (C #merging·settle) (Settle-of 𝓤 H A mem run)) (κ : Lft) (θ : Share) (γ : GName) (β ι : ℕ) (ν : ℕ) (work : List ℕ) (tb : Tables) where
-    abbrev Loan-settle-call : (long : length work ≡ ν) (sized : Room u32 ν) → Loan 𝓤 H A
-    Loan-settle-call long sized = lent-mut u32 κ θ γ β ι 𝓤 H A W work ν long sized
+  module _ (C : Calls 𝓤 H) (fm : FmC 𝓤 H (W .laws) C) (known : Triple 𝓤 (C #merging·place-groups) (PlaceGroups-of 𝓤 H A mem run)) (κ : Lft) (θ : Share) (γ : GName) (β ι : ℕ) (ν : ℕ) (work : List ℕ) (tb : MergeTables) where
+    abbrev Loan-place-groups-call : (long : length work ≡ ν) (sized : Room u32 ν) → Loan 𝓤 H A
+    Loan-place-groups-call long sized = lent-mut u32 κ θ γ β ι 𝓤 H A W work ν long sized
 
-    abbrev pub After-settle-call : Val → Item 𝓤
-    After-settle-call w = later (some (λ (r : Unit {0}). some (λ (x : List ℕ). given (((length (x) ≡ ν)) × (Settled tb work x)) (Has u32 κ θ γ β ι 𝓤 ν (x) ⊛ ‵ (Nothing .own r (w ∷ []))))))
+    abbrev pub After-place-groups-call : Val → Item 𝓤
+    After-place-groups-call w = later (some (λ (r : Unit {0}). some (λ (x : List ℕ). given (((length (x) ≡ ν)) × (GroupsPlaced tb work x)) (Has u32 κ θ γ β ι 𝓤 ν (x) ⊛ ‵ (Nothing .own r (w ∷ []))))))
 
-    abbrev at-settle-call : (g : (ℕ × GName)) → Settle-of 𝓤 H A mem run .Ghost
-    at-settle-call g = (((g .0 ∷ [], tt), (fullShare, tt), tt, (ref u32 κ θ γ β ι (g .1) work, (tb, tt)), (sliceVal (β, ι) ν ∷ [], (mach-tables tb ∷ [], tt))), tt)
+    abbrev at-place-groups-call : (g : (ℕ × GName)) → PlaceGroups-of 𝓤 H A mem run .Ghost
+    at-place-groups-call g = (((g .0 ∷ [], tt), (fullShare, tt), tt, (ref u32 κ θ γ β ι (g .1) work, (tb, tt)), (sliceVal (β, ι) ν ∷ [], (mach-tables tb ∷ [], tt))), tt)
 
-    leaves-settle-call : (long : length work ≡ ν) (sized : Room u32 ν) → (g : (ℕ × GName)) → (w : Val) → ent 𝓤 (Settle-of 𝓤 H A mem run .post (at-settle-call g) w) (mean 𝓤 H A (Gives 𝓤 H A W (Loan-settle-call long sized) Nothing (λ x r. Settled tb work x) g w))
-    leaves-settle-call long sized g w =
+    leaves-place-groups-call : (long : length work ≡ ν) (sized : Room u32 ν) → (g : (ℕ × GName)) → (w : Val) → ent 𝓤 (PlaceGroups-of 𝓤 H A mem run .post (at-place-groups-call g) w) (mean 𝓤 H A (Gives 𝓤 H A W (Loan-place-groups-call long sized) Nothing (λ x r. GroupsPlaced tb work x) g w))
+    leaves-place-groups-call long sized g w =
         qed W (later (some (λ (r : Unit {0}). ((‵ (flft (g .0 ∷ []) fullShare) ⊛ ‵ ftrue) ⊛ ‵ (Nothing .own r (w ∷ [])))
-        ⊛ some (λ (ws : Lasts settle.ended (g .0 ∷ [], tt) (at-settle-call g .0 .3)). ‵ (lasts settle.ended (g .0 ∷ [], tt) (at-settle-call g .0 .3) ws) ⊛ raw (fact 𝓤 (Settled tb work (ws .0)))))) ∷ []) ∵
+        ⊛ some (λ (ws : Lasts place-groups.ended (g .0 ∷ [], tt) (at-place-groups-call g .0 .3)). ‵ (lasts place-groups.ended (g .0 ∷ [], tt) (at-place-groups-call g .0 .3) ws) ⊛ raw (fact 𝓤 (GroupsPlaced tb work (ws .0)))))) ∷ []) ∵
         updating ! $ await ! tt $ pick ! (λ r. split ! $ move ! (1 ∷ []) $ pick ! (λ ws. split ! $
         move ! (1 ∷ []) $
-        heard ! (Settled tb work (ws .0)) (λ e.
+        heard ! (GroupsPlaced tb work (ws .0)) (λ e.
         fsplit ! $
         fsplit ! $
         move ! (1 ∷ []) $
@@ -520,13 +520,13 @@ module _ {M : Type 1} (𝓤 : URA M) (H : Heap 𝓤) (A : Atoms 𝓤) (W : Given
         at-once ! $
         move ! (0 ∷ 3 ∷ []) $
         join ! $
-        keep ! (0 ∷ 2 ∷ []) $ by ! (gives 𝓤 H A W (Loan-settle-call long sized) Nothing (λ x r. Settled tb work x) g w r (ws .0) (l₀ ∙ long, e))))))
+        keep ! (0 ∷ 2 ∷ []) $ by ! (gives 𝓤 H A W (Loan-place-groups-call long sized) Nothing (λ x r. GroupsPlaced tb work x) g w r (ws .0) (l₀ ∙ long, e))))))
 
-    pub settle-call : (long : length work ≡ ν) (sized : Room u32 ν) → Is L.the-row tb (mach-tables tb ∷ []) → ((Laid tb (length work)) × (Dealt tb work)) → ent 𝓤 (mean 𝓤 H A (Loan-settle-call long sized .held)) (H .⇛ (C #merging·settle (sliceVal (β, ι) ν ∷ mach-tables tb ∷ []) (λ w. mean 𝓤 H A (After-settle-call w))))
-    settle-call long sized g-tb l = loan-call 𝓤 H A W (Loan-settle-call long sized) Nothing (λ x r. Settled tb work x) C fm #merging·settle (sliceVal (β, ι) ν ∷ mach-tables tb ∷ []) (λ g.
-        qed W (Loan-settle-call long sized .goes g ∷ []) ∵
-        suffices ! (C #merging·settle (sliceVal (β, ι) ν ∷ mach-tables tb ∷ []) (Settle-of 𝓤 H A mem run .post (at-settle-call g))) (fm→monoC 𝓤 H (W .laws) C fm #merging·settle (sliceVal (β, ι) ν ∷ mach-tables tb ∷ []) (Settle-of 𝓤 H A mem run .post (at-settle-call g)) _ (leaves-settle-call long sized g)) $
-        suffices ! (Settle-of 𝓤 H A mem run .pre (at-settle-call g)) (known (at-settle-call g)) $ split ! $
+    pub place-groups-call : (long : length work ≡ ν) (sized : Room u32 ν) → Is L.the-row tb (mach-tables tb ∷ []) → ((Laid tb (length work)) × (Dealt tb work)) → ent 𝓤 (mean 𝓤 H A (Loan-place-groups-call long sized .held)) (H .⇛ (C #merging·place-groups (sliceVal (β, ι) ν ∷ mach-tables tb ∷ []) (λ w. mean 𝓤 H A (After-place-groups-call w))))
+    place-groups-call long sized g-tb l = loan-call 𝓤 H A W (Loan-place-groups-call long sized) Nothing (λ x r. GroupsPlaced tb work x) C fm #merging·place-groups (sliceVal (β, ι) ν ∷ mach-tables tb ∷ []) (λ g.
+        qed W (Loan-place-groups-call long sized .goes g ∷ []) ∵
+        suffices ! (C #merging·place-groups (sliceVal (β, ι) ν ∷ mach-tables tb ∷ []) (PlaceGroups-of 𝓤 H A mem run .post (at-place-groups-call g))) (fm→monoC 𝓤 H (W .laws) C fm #merging·place-groups (sliceVal (β, ι) ν ∷ mach-tables tb ∷ []) (PlaceGroups-of 𝓤 H A mem run .post (at-place-groups-call g)) _ (leaves-place-groups-call long sized g)) $
+        suffices ! (PlaceGroups-of 𝓤 H A mem run .pre (at-place-groups-call g)) (known (at-place-groups-call g)) $ split ! $
         nothing ! $
         move ! (1 ∷ 0 ∷ []) $
         join ! $
@@ -540,23 +540,23 @@ module _ {M : Type 1} (𝓤 : URA M) (H : Heap 𝓤) (A : Atoms 𝓤) (W : Given
         frame ! $
         use0 W (raw (fact 𝓤 (Dealt tb work))) (factI 𝓤 (Dealt tb work) (emp 𝓤) (l .1)) $ use0 W (raw (fact 𝓤 (Laid tb (length work)))) (factI 𝓤 (Laid tb (length work)) (emp 𝓤) (l .0)) $ done !)
 
-  module _ (C : Calls 𝓤 H) (fm : FmC 𝓤 H (W .laws) C) (known : Triple 𝓤 (C #merging·finish) (Finish-of 𝓤 H A mem run)) (κ : Lft) (θ : Share) (γ : GName) (β ι : ℕ) (ν : ℕ) (work : List ℕ) (tb : Tables) (k : ℕ) where
-    abbrev Loan-finish-call : (long : length work ≡ ν) (sized : Room u32 ν) → Loan 𝓤 H A
-    Loan-finish-call long sized = lent-mut u32 κ θ γ β ι 𝓤 H A W work ν long sized
+  module _ (C : Calls 𝓤 H) (fm : FmC 𝓤 H (W .laws) C) (known : Triple 𝓤 (C #merging·resolve-all) (ResolveAll-of 𝓤 H A mem run)) (κ : Lft) (θ : Share) (γ : GName) (β ι : ℕ) (ν : ℕ) (work : List ℕ) (tb : MergeTables) (k : ℕ) where
+    abbrev Loan-resolve-all-call : (long : length work ≡ ν) (sized : Room u32 ν) → Loan 𝓤 H A
+    Loan-resolve-all-call long sized = lent-mut u32 κ θ γ β ι 𝓤 H A W work ν long sized
 
-    abbrev pub After-finish-call : Val → Item 𝓤
-    After-finish-call w = later (some (λ (r : Unit {0}). some (λ (x : List ℕ). given (((length (x) ≡ ν)) × (Finished tb k work x)) (Has u32 κ θ γ β ι 𝓤 ν (x) ⊛ ‵ (Nothing .own r (w ∷ []))))))
+    abbrev pub After-resolve-all-call : Val → Item 𝓤
+    After-resolve-all-call w = later (some (λ (r : Unit {0}). some (λ (x : List ℕ). given (((length (x) ≡ ν)) × (AllResolved tb k work x)) (Has u32 κ θ γ β ι 𝓤 ν (x) ⊛ ‵ (Nothing .own r (w ∷ []))))))
 
-    abbrev at-finish-call : (g : (ℕ × GName)) → Finish-of 𝓤 H A mem run .Ghost
-    at-finish-call g = (((g .0 ∷ [], tt), (fullShare, tt), tt, (ref u32 κ θ γ β ι (g .1) work, (tb, (k, tt))), (sliceVal (β, ι) ν ∷ [], (mach-tables tb ∷ [], (vint w64 k ∷ [], tt)))), tt)
+    abbrev at-resolve-all-call : (g : (ℕ × GName)) → ResolveAll-of 𝓤 H A mem run .Ghost
+    at-resolve-all-call g = (((g .0 ∷ [], tt), (fullShare, tt), tt, (ref u32 κ θ γ β ι (g .1) work, (tb, (k, tt))), (sliceVal (β, ι) ν ∷ [], (mach-tables tb ∷ [], (vint w64 k ∷ [], tt)))), tt)
 
-    leaves-finish-call : (long : length work ≡ ν) (sized : Room u32 ν) → (g : (ℕ × GName)) → (w : Val) → ent 𝓤 (Finish-of 𝓤 H A mem run .post (at-finish-call g) w) (mean 𝓤 H A (Gives 𝓤 H A W (Loan-finish-call long sized) Nothing (λ x r. Finished tb k work x) g w))
-    leaves-finish-call long sized g w =
+    leaves-resolve-all-call : (long : length work ≡ ν) (sized : Room u32 ν) → (g : (ℕ × GName)) → (w : Val) → ent 𝓤 (ResolveAll-of 𝓤 H A mem run .post (at-resolve-all-call g) w) (mean 𝓤 H A (Gives 𝓤 H A W (Loan-resolve-all-call long sized) Nothing (λ x r. AllResolved tb k work x) g w))
+    leaves-resolve-all-call long sized g w =
         qed W (later (some (λ (r : Unit {0}). ((‵ (flft (g .0 ∷ []) fullShare) ⊛ ‵ ftrue) ⊛ ‵ (Nothing .own r (w ∷ [])))
-        ⊛ some (λ (ws : Lasts finish.ended (g .0 ∷ [], tt) (at-finish-call g .0 .3)). ‵ (lasts finish.ended (g .0 ∷ [], tt) (at-finish-call g .0 .3) ws) ⊛ raw (fact 𝓤 (Finished tb k work (ws .0)))))) ∷ []) ∵
+        ⊛ some (λ (ws : Lasts resolve-all.ended (g .0 ∷ [], tt) (at-resolve-all-call g .0 .3)). ‵ (lasts resolve-all.ended (g .0 ∷ [], tt) (at-resolve-all-call g .0 .3) ws) ⊛ raw (fact 𝓤 (AllResolved tb k work (ws .0)))))) ∷ []) ∵
         updating ! $ await ! tt $ pick ! (λ r. split ! $ move ! (1 ∷ []) $ pick ! (λ ws. split ! $
         move ! (1 ∷ []) $
-        heard ! (Finished tb k work (ws .0)) (λ e.
+        heard ! (AllResolved tb k work (ws .0)) (λ e.
         fsplit ! $
         fsplit ! $
         move ! (1 ∷ []) $
@@ -567,13 +567,13 @@ module _ {M : Type 1} (𝓤 : URA M) (H : Heap 𝓤) (A : Atoms 𝓤) (W : Given
         at-once ! $
         move ! (0 ∷ 3 ∷ []) $
         join ! $
-        keep ! (0 ∷ 2 ∷ []) $ by ! (gives 𝓤 H A W (Loan-finish-call long sized) Nothing (λ x r. Finished tb k work x) g w r (ws .0) (l₀ ∙ long, e))))))
+        keep ! (0 ∷ 2 ∷ []) $ by ! (gives 𝓤 H A W (Loan-resolve-all-call long sized) Nothing (λ x r. AllResolved tb k work x) g w r (ws .0) (l₀ ∙ long, e))))))
 
-    pub finish-call : (long : length work ≡ ν) (sized : Room u32 ν) → Is L.the-row tb (mach-tables tb ∷ []) → k < 2 ^ 64 → (Onward tb k work) → ent 𝓤 (mean 𝓤 H A (Loan-finish-call long sized .held)) (H .⇛ (C #merging·finish (sliceVal (β, ι) ν ∷ mach-tables tb ∷ vint w64 k ∷ []) (λ w. mean 𝓤 H A (After-finish-call w))))
-    finish-call long sized g-tb g-k l = loan-call 𝓤 H A W (Loan-finish-call long sized) Nothing (λ x r. Finished tb k work x) C fm #merging·finish (sliceVal (β, ι) ν ∷ mach-tables tb ∷ vint w64 k ∷ []) (λ g.
-        qed W (Loan-finish-call long sized .goes g ∷ []) ∵
-        suffices ! (C #merging·finish (sliceVal (β, ι) ν ∷ mach-tables tb ∷ vint w64 k ∷ []) (Finish-of 𝓤 H A mem run .post (at-finish-call g))) (fm→monoC 𝓤 H (W .laws) C fm #merging·finish (sliceVal (β, ι) ν ∷ mach-tables tb ∷ vint w64 k ∷ []) (Finish-of 𝓤 H A mem run .post (at-finish-call g)) _ (leaves-finish-call long sized g)) $
-        suffices ! (Finish-of 𝓤 H A mem run .pre (at-finish-call g)) (known (at-finish-call g)) $ split ! $
+    pub resolve-all-call : (long : length work ≡ ν) (sized : Room u32 ν) → Is L.the-row tb (mach-tables tb ∷ []) → k < 2 ^ 64 → (Onward tb k work) → ent 𝓤 (mean 𝓤 H A (Loan-resolve-all-call long sized .held)) (H .⇛ (C #merging·resolve-all (sliceVal (β, ι) ν ∷ mach-tables tb ∷ vint w64 k ∷ []) (λ w. mean 𝓤 H A (After-resolve-all-call w))))
+    resolve-all-call long sized g-tb g-k l = loan-call 𝓤 H A W (Loan-resolve-all-call long sized) Nothing (λ x r. AllResolved tb k work x) C fm #merging·resolve-all (sliceVal (β, ι) ν ∷ mach-tables tb ∷ vint w64 k ∷ []) (λ g.
+        qed W (Loan-resolve-all-call long sized .goes g ∷ []) ∵
+        suffices ! (C #merging·resolve-all (sliceVal (β, ι) ν ∷ mach-tables tb ∷ vint w64 k ∷ []) (ResolveAll-of 𝓤 H A mem run .post (at-resolve-all-call g))) (fm→monoC 𝓤 H (W .laws) C fm #merging·resolve-all (sliceVal (β, ι) ν ∷ mach-tables tb ∷ vint w64 k ∷ []) (ResolveAll-of 𝓤 H A mem run .post (at-resolve-all-call g)) _ (leaves-resolve-all-call long sized g)) $
+        suffices ! (ResolveAll-of 𝓤 H A mem run .pre (at-resolve-all-call g)) (known (at-resolve-all-call g)) $ split ! $
         nothing ! $
         move ! (1 ∷ 0 ∷ []) $
         join ! $
@@ -589,7 +589,7 @@ module _ {M : Type 1} (𝓤 : URA M) (H : Heap 𝓤) (A : Atoms 𝓤) (W : Given
         frame ! $
         use0 W (raw (fact 𝓤 (Onward tb k work))) (factI 𝓤 (Onward tb k work) (emp 𝓤) l) $ done !)
 
-  module _ (C : Calls 𝓤 H) (fm : FmC 𝓤 H (W .laws) C) (known : Triple 𝓤 (C #merging·join) (Join-of 𝓤 H A mem run)) (κ : Lft) (θ : Share) (γ : GName) (β ι : ℕ) (ν : ℕ) (work : List ℕ) (tb : Tables) (s : Progress) (p : Pair) where
+  module _ (C : Calls 𝓤 H) (fm : FmC 𝓤 H (W .laws) C) (known : Triple 𝓤 (C #merging·join) (Join-of 𝓤 H A mem run)) (κ : Lft) (θ : Share) (γ : GName) (β ι : ℕ) (ν : ℕ) (work : List ℕ) (tb : MergeTables) (s : Progress) (p : Pair) where
     abbrev Loan-join-call : (long : length work ≡ ν) (sized : Room u32 ν) → Loan 𝓤 H A
     Loan-join-call long sized = lent-mut u32 κ θ γ β ι 𝓤 H A W work ν long sized
 
@@ -640,7 +640,7 @@ module _ {M : Type 1} (𝓤 : URA M) (H : Heap 𝓤) (A : Atoms 𝓤) (W : Given
         frame ! $
         use0 W (raw (fact 𝓤 (p .gain ≤ s .size))) (factI 𝓤 (p .gain ≤ s .size) (emp 𝓤) (l .1)) $ use0 W (raw (fact 𝓤 (Joinable tb (s .merges) p work))) (factI 𝓤 (Joinable tb (s .merges) p work) (emp 𝓤) (l .0)) $ done !)
 
-  module _ (C : Calls 𝓤 H) (fm : FmC 𝓤 H (W .laws) C) (known : Triple 𝓤 (C #merging·turn) (Turn-of 𝓤 H A mem run)) (κ : Lft) (θ : Share) (γ : GName) (β ι : ℕ) (ν : ℕ) (pairs : List Pair) (κ₂ : Lft) (θ₂ : Share) (γ₂ : GName) (β₂ ι₂ : ℕ) (ν₂ : ℕ) (work : List ℕ) (tb : Tables) (s : Progress) where
+  module _ (C : Calls 𝓤 H) (fm : FmC 𝓤 H (W .laws) C) (known : Triple 𝓤 (C #merging·turn) (Turn-of 𝓤 H A mem run)) (κ : Lft) (θ : Share) (γ : GName) (β ι : ℕ) (ν : ℕ) (pairs : List Pair) (κ₂ : Lft) (θ₂ : Share) (γ₂ : GName) (β₂ ι₂ : ℕ) (ν₂ : ℕ) (work : List ℕ) (tb : MergeTables) (s : Progress) where
     abbrev Loan-turn-call : (long : length pairs ≡ ν) (long₂ : length work ≡ ν₂) (sized : Room T.the-row ν) (sized₂ : Room u32 ν₂) → Loan 𝓤 H A
     Loan-turn-call long long₂ sized sized₂ = both 𝓤 H A W (lent-mut T.the-row κ θ γ β ι 𝓤 H A W pairs ν long sized) (lent-mut u32 κ₂ θ₂ γ₂ β₂ ι₂ 𝓤 H A W work ν₂ long₂ sized₂)
 
@@ -707,7 +707,7 @@ module _ {M : Type 1} (𝓤 : URA M) (H : Heap 𝓤) (A : Atoms 𝓤) (W : Given
         frame ! $
         use0 W (raw (fact 𝓤 (room (tb .groups) ≤ length pairs))) (factI 𝓤 (room (tb .groups) ≤ length pairs) (emp 𝓤) (l .2)) $ use0 W (raw (fact 𝓤 (0 < s .waiting))) (factI 𝓤 (0 < s .waiting) (emp 𝓤) (l .1)) $ use0 W (raw (fact 𝓤 (SomeStanding tb (s .waiting) (s .weighed) (s .merges) (s .size) work pairs))) (factI 𝓤 (SomeStanding tb (s .waiting) (s .weighed) (s .merges) (s .size) work pairs) (emp 𝓤) (l .0)) $ done !)
 
-  module _ (C : Calls 𝓤 H) (fm : FmC 𝓤 H (W .laws) C) (known : Triple 𝓤 (C #merging·crowded) (Crowded-of 𝓤 H A mem run)) (tb : Tables) (s : Progress) where
+  module _ (C : Calls 𝓤 H) (fm : FmC 𝓤 H (W .laws) C) (known : Triple 𝓤 (C #merging·crowded) (Crowded-of 𝓤 H A mem run)) (tb : MergeTables) (s : Progress) where
     abbrev pub After-crowded-call : Val → Item 𝓤
     After-crowded-call w = later (some (λ (r : Bool). given (r ≡ ltb ((tb .groups - s .merges) * (tb .groups - s .merges)) (s .waiting)) (‵ (Boolean .own r (w ∷ [])))))
 
@@ -741,7 +741,7 @@ module _ {M : Type 1} (𝓤 : URA M) (H : Heap 𝓤) (A : Atoms 𝓤) (W : Given
         frame ! $
         use0 W (raw (fact 𝓤 (s .merges ≤ tb .groups))) (factI 𝓤 (s .merges ≤ tb .groups) (emp 𝓤) (l .1)) $ use0 W (raw (fact 𝓤 (tb .groups ≤ 1024))) (factI 𝓤 (tb .groups ≤ 1024) (emp 𝓤) (l .0)) $ done !
 
-  module _ (C : Calls 𝓤 H) (fm : FmC 𝓤 H (W .laws) C) (known : Triple 𝓤 (C #merging·tidy) (Tidy-of 𝓤 H A mem run)) (κ : Lft) (θ : Share) (γ : GName) (β ι : ℕ) (ν : ℕ) (pairs : List Pair) (κ₂ : Lft) (θ₂ : Share) (γ₂ : GName) (β₂ ι₂ : ℕ) (ν₂ : ℕ) (work : List ℕ) (tb : Tables) (s : Progress) where
+  module _ (C : Calls 𝓤 H) (fm : FmC 𝓤 H (W .laws) C) (known : Triple 𝓤 (C #merging·tidy) (Tidy-of 𝓤 H A mem run)) (κ : Lft) (θ : Share) (γ : GName) (β ι : ℕ) (ν : ℕ) (pairs : List Pair) (κ₂ : Lft) (θ₂ : Share) (γ₂ : GName) (β₂ ι₂ : ℕ) (ν₂ : ℕ) (work : List ℕ) (tb : MergeTables) (s : Progress) where
     abbrev Loan-tidy-call : (long : length pairs ≡ ν) (long₂ : length work ≡ ν₂) (sized : Room T.the-row ν) → Loan 𝓤 H A
     Loan-tidy-call long long₂ sized = both 𝓤 H A W (lent-mut T.the-row κ θ γ β ι 𝓤 H A W pairs ν long sized) (lent-shr u32 κ₂ θ₂ γ₂ β₂ ι₂ 𝓤 H A W work ν₂ long₂)
 
@@ -800,7 +800,7 @@ module _ {M : Type 1} (𝓤 : URA M) (H : Heap 𝓤) (A : Atoms 𝓤) (W : Given
         frame ! $
         use0 W (raw (fact 𝓤 (room (tb .groups) ≤ length pairs))) (factI 𝓤 (room (tb .groups) ≤ length pairs) (emp 𝓤) (l .1)) $ use0 W (raw (fact 𝓤 (SomeStanding tb (s .waiting) (s .weighed) (s .merges) (s .size) work pairs))) (factI 𝓤 (SomeStanding tb (s .waiting) (s .weighed) (s .merges) (s .size) work pairs) (emp 𝓤) (l .0)) $ done !)
 
-  module _ (C : Calls 𝓤 H) (fm : FmC 𝓤 H (W .laws) C) (known : Triple 𝓤 (C #merging·join-all) (JoinAll-of 𝓤 H A mem run)) (κ : Lft) (θ : Share) (γ : GName) (β ι : ℕ) (ν : ℕ) (pairs : List Pair) (κ₂ : Lft) (θ₂ : Share) (γ₂ : GName) (β₂ ι₂ : ℕ) (ν₂ : ℕ) (work : List ℕ) (tb : Tables) (start : Progress) where
+  module _ (C : Calls 𝓤 H) (fm : FmC 𝓤 H (W .laws) C) (known : Triple 𝓤 (C #merging·join-all) (JoinAll-of 𝓤 H A mem run)) (κ : Lft) (θ : Share) (γ : GName) (β ι : ℕ) (ν : ℕ) (pairs : List Pair) (κ₂ : Lft) (θ₂ : Share) (γ₂ : GName) (β₂ ι₂ : ℕ) (ν₂ : ℕ) (work : List ℕ) (tb : MergeTables) (start : Progress) where
     abbrev Loan-join-all-call : (long : length pairs ≡ ν) (long₂ : length work ≡ ν₂) (sized : Room T.the-row ν) (sized₂ : Room u32 ν₂) → Loan 𝓤 H A
     Loan-join-all-call long long₂ sized sized₂ = both 𝓤 H A W (lent-mut T.the-row κ θ γ β ι 𝓤 H A W pairs ν long sized) (lent-mut u32 κ₂ θ₂ γ₂ β₂ ι₂ 𝓤 H A W work ν₂ long₂ sized₂)
 

@@ -10,12 +10,12 @@ use Rattle.shapes.specs.Group.{Group}
 use Rattle.rule.specs.Model.{gainOf, start, merged}
 use Rattle.rule.proofs.Theorems.{Merges, saved, merged-merges, run-total, all-gains-zero, fewer, none-of-none, merged-few, merged-weighed}
 use Rattle.rule.proofs.Origins.{homes, one-home, Made, made}
-use Rattle.slots.specs.declared.tables.Tables.{Tables}
+use Rattle.slots.specs.declared.tables.MergeTables.{MergeTables}
 use Rattle.slots.specs.Lent.{starting}
-use Rattle.merging.specs.Optimized.{Optimized}
+use Rattle.merging.specs.LentOptimized.{Optimized}
 use Rattle.merging.proofs.Unique.{starting-length}
 
-pub record Demand (t : Tables) (merges weighed before after : ℕ) (w : List ℕ) : Type 0 where
+pub record Demand (t : MergeTables) (merges weighed before after : ℕ) (w : List ℕ) : Type 0 where
   -- M3: each merge's pair gains and is ahead of every living pair; the log has these merges and no others
   pub each : Merges (start (starting t w)) (merged (starting t w))
   -- the modelled size falls by the gains of the log
@@ -32,13 +32,13 @@ pub record Demand (t : Tables) (merges weighed before after : ℕ) (w : List ℕ
   pub one-group : (i : ℕ) → i < t .groups → homes i (merged (starting t w) .living) ≡ 1
   pub made-of : All (Made (starting t w)) (merged (starting t w) .living)
 
-few : (t : Tables) (w : List ℕ) (m : ℕ) → m ≡ merged (starting t w) .weighed → m ≤ (t .groups - 1) * (t .groups - 1)
+few : (t : MergeTables) (w : List ℕ) (m : ℕ) → m ≡ merged (starting t w) .weighed → m ≤ (t .groups - 1) * (t .groups - 1)
 few t w m e = let f = rw (starting-length t w) at (merged-few (starting t w)) in omega arith
 
 weighed-by : (n j m : ℕ) (xs : List Group) → length xs ≡ n → j ≡ length (merged xs .log) → m ≡ merged xs .weighed → m ≡ n * (n - 1) / 2 + j * (n - 1) - j * (j + 1) / 2
 weighed-by n j m xs e f g = rw (← e, f) (g ∙ merged-weighed xs)
 
-pub demand : (t : Tables) (j m b a : ℕ) (w w′ : List ℕ) → Optimized t j m b a w w′ → Demand t j m b a w
+pub demand : (t : MergeTables) (j m b a : ℕ) (w w′ : List ℕ) → Optimized t j m b a w w′ → Demand t j m b a w
 unfolding merged
 demand t j m b a w w′ o =
     let xs = starting t w in

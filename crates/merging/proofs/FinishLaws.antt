@@ -6,15 +6,15 @@ use Prim.Native.Nat.{ℕ, _+_, _-_, _*_, _≤_, _<_}
 use native.Mathlib.Omega.{arith}
 use lib.ListN.{length, getD, set}
 use lib.Seq.{getD-set-same, getD-set-other}
-use Rattle.laws.specs.Range.{Only}
+use Rattle.laws.specs.LentRange.{Only}
 use Rattle.laws.proofs.Cases.{same-or-not}
 use Rattle.laws.proofs.RangeLaws.{only-refl, only-trans, only-set, only-weaken, apart-part}
-use Rattle.slots.specs.declared.tables.Tables.{Tables}
+use Rattle.slots.specs.declared.tables.MergeTables.{MergeTables}
 use Rattle.slots.specs.Lent.{Laid}
-use Rattle.waits.specs.Waits.{placeOf}
-use Rattle.merging.specs.Held.{Reaches}
-use Rattle.merging.specs.Held.Reaches.{here, onto}
-use Rattle.merging.specs.Optimized.{Settled, Onward, Resolved, Finished}
+use Rattle.waits.specs.LentWaits.{placeOf}
+use Rattle.merging.specs.LentHeld.{Reaches}
+use Rattle.merging.specs.LentHeld.Reaches.{here, onto}
+use Rattle.merging.specs.LentOptimized.{GroupsPlaced, Onward, Resolved, AllResolved}
 use Rattle.slots.proofs.SlotLaws.{laid-kept}
 
 -- ---- the first i of n places, at p, are one more than the words at o
@@ -44,12 +44,12 @@ module _ (n p o : ℕ) (w₀ : List ℕ) where
               (same-or-not k i);
         }
 
-pub settled : (t : Tables) (w₀ w : List ℕ) (i : ℕ) → Settling (t .groups) (t .place) (t .order) w₀ w i → t .groups ≤ i → Settled t w₀ w
+pub settled : (t : MergeTables) (w₀ w : List ℕ) (i : ℕ) → Settling (t .groups) (t .place) (t .order) w₀ w i → t .groups ≤ i → GroupsPlaced t w₀ w
 settled t w₀ w i s l = record { only = s .only; is = λ k q. s .done k (omega (arith, s .within)) }
 
 -- ---- one heir
 
-pub resolved-dead : (t : Tables) (w : List ℕ) (c : ℕ) → Laid t (length w) → c < 2 * t .groups → placeOf t w c ≡ 0
+pub resolved-dead : (t : MergeTables) (w : List ℕ) (c : ℕ) → Laid t (length w) → c < 2 * t .groups → placeOf t w c ≡ 0
     → Resolved t c w (set w (t .into + c) (getD w (t .into + getD w (t .into + c) 0) 0))
 resolved-dead t w c h l e =
     let v = getD w (t .into + getD w (t .into + c) 0) 0 in
@@ -59,7 +59,7 @@ resolved-dead t w c h l e =
       alive = λ n. absurd (n e);
     }
 
-pub resolved-alive : (t : Tables) (w : List ℕ) (c : ℕ) → Laid t (length w) → c < 2 * t .groups → (placeOf t w c ≡ 0 → ⊥) → Resolved t c w (set w (t .into + c) c)
+pub resolved-alive : (t : MergeTables) (w : List ℕ) (c : ℕ) → Laid t (length w) → c < 2 * t .groups → (placeOf t w c ≡ 0 → ⊥) → Resolved t c w (set w (t .into + c) c)
 resolved-alive t w c h l n = record {
   only = only-set ((t .into + c, 1) ∷ []) w (t .into + c) c (λ o. omega (arith, o .0 .apart (omega arith)));
   dead = λ e. absurd (n e);
@@ -68,17 +68,17 @@ resolved-alive t w c h l n = record {
 
 -- ---- all of them, from the last down
 
-pub record Finishing (t : Tables) (k : ℕ) (w₀ w : List ℕ) (c : ℕ) : Type 0 where
+pub record Finishing (t : MergeTables) (k : ℕ) (w₀ w : List ℕ) (c : ℕ) : Type 0 where
   pub within : c ≤ k
   pub only : Only ((t .into, 2 * t .groups) ∷ []) w₀ w
   pub left : (i : ℕ) → i < c → getD w (t .into + i) 0 ≡ getD w₀ (t .into + i) 0
   pub done : (i d : ℕ) → c ≤ i → Reaches t k w₀ i d → getD w (t .into + i) 0 ≡ d
 
-pub reaches-below : (t : Tables) (k : ℕ) (w : List ℕ) (i d : ℕ) → Reaches t k w i d → i < k
+pub reaches-below : (t : MergeTables) (k : ℕ) (w : List ℕ) (i d : ℕ) → Reaches t k w i d → i < k
 reaches-below t k w i d (here c l a) = l
 reaches-below t k w i d (onto c e l a r) = l
 
-module _ (t : Tables) (k : ℕ) (w₀ : List ℕ) (h : Onward t k w₀) where
+module _ (t : MergeTables) (k : ℕ) (w₀ : List ℕ) (h : Onward t k w₀) where
   pub finishing-start : Finishing t k w₀ w₀ k
   finishing-start = record {
     within = omega arith;
@@ -124,5 +124,5 @@ module _ (t : Tables) (k : ℕ) (w₀ : List ℕ) (h : Onward t k w₀) where
                 (same-or-not i (c - 1));
           }
 
-  pub finishing-done : (w : List ℕ) (c : ℕ) → Finishing t k w₀ w c → c ≤ 0 → Finished t k w₀ w
+  pub finishing-done : (w : List ℕ) (c : ℕ) → Finishing t k w₀ w c → c ≤ 0 → AllResolved t k w₀ w
   finishing-done w c f l = record { only = f .only; is = λ i d r. f .done i d (omega arith) r }

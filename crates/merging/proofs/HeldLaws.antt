@@ -10,25 +10,25 @@ use Rattle.shapes.specs.Group.{Group}
 use Rattle.rule.specs.Model.{start, run}
 use Rattle.rule.proofs.Theorems.{run-count, fewer}
 use Rattle.pairs.specs.declared.Pair.{Pair}
-use Rattle.pairs.specs.Queue.{Popped}
+use Rattle.pairs.specs.LentQueue.{Popped}
 use Rattle.pairs.proofs.Content.{take-best, take-keeps, take-only}
-use Rattle.slots.specs.declared.tables.Tables.{Tables}
-use Rattle.waits.specs.Waits.{placeOf, pairOf}
-use Rattle.merging.specs.Held.{Held, Standing, Chosen}
+use Rattle.slots.specs.declared.tables.MergeTables.{MergeTables}
+use Rattle.waits.specs.LentWaits.{placeOf, pairOf}
+use Rattle.merging.specs.LentHeld.{Held, Standing, Chosen}
 
 -- ---- as many merges as groups, at most
 
-pub merges-few : (t : Tables) (xs : List Group) (j : ℕ) (w : List ℕ) → length xs ≡ t .groups → Held t (run j (start xs)) j w → t .groups + j ≤ 2 * t .groups
+pub merges-few : (t : MergeTables) (xs : List Group) (j : ℕ) (w : List ℕ) → length xs ≡ t .groups → Held t (run j (start xs)) j w → t .groups + j ≤ 2 * t .groups
 merges-few t xs j w e h = omega (arith, run-count j xs, h .log-long)
 
 -- fewer than groups, where there are any
-pub merges-less : (t : Tables) (xs : List Group) (j : ℕ) (w : List ℕ) → length xs ≡ t .groups → Held t (run j (start xs)) j w → j ≤ t .groups - 1
+pub merges-less : (t : MergeTables) (xs : List Group) (j : ℕ) (w : List ℕ) → length xs ≡ t .groups → Held t (run j (start xs)) j w → j ≤ t .groups - 1
 merges-less t xs j w e h =
     ⊎-elim (λ (z : t .groups ≡ 0). omega (arith, run-count j xs, h .log-long)) (λ n. omega (arith, fewer j xs (omega arith), h .log-long)) (same-or-not (t .groups) 0)
 
 -- ---- the best pair was taken
 
-pub chosen-taken : (t : Tables) (xs : List Group) (n m j z : ℕ) (p : Pair) (w : List ℕ) (ps ps′ : List Pair) → Standing t xs n m j z w ps → Popped ps n p ps′ → Chosen t xs (n - 1) m j z p w ps′
+pub chosen-taken : (t : MergeTables) (xs : List Group) (n m j z : ℕ) (p : Pair) (w : List ℕ) (ps ps′ : List Pair) → Standing t xs n m j z w ps → Popped ps n p ps′ → Chosen t xs (n - 1) m j z p w ps′
 chosen-taken t xs n m j z p w ps ps′ s q = record {
   many = s .many;
   sets-few = s .sets-few;
@@ -45,7 +45,7 @@ chosen-taken t xs n m j z p w ps ps′ s q = record {
 
 -- ---- one of its two is dead
 
-pub chosen-dead : (t : Tables) (xs : List Group) (n m j z : ℕ) (p : Pair) (w : List ℕ) (ps : List Pair) → Chosen t xs n m j z p w ps
+pub chosen-dead : (t : MergeTables) (xs : List Group) (n m j z : ℕ) (p : Pair) (w : List ℕ) (ps : List Pair) → Chosen t xs n m j z p w ps
     → (placeOf t w (p .first) ≡ 0) ⊎ (placeOf t w (p .second) ≡ 0) → Standing t xs n m j z w ps
 chosen-dead t xs n m j z p w ps c d = record {
   many = c .many;

@@ -5,16 +5,16 @@ use mathlib.Core.List.{List, [], _∷_}
 use Prim.Native.Nat.{ℕ, _+_, _-_, _*_, _≤_, _<_}
 use native.Mathlib.Omega.{arith}
 use lib.ListN.{length, getD}
-use Rattle.laws.specs.Range.{Only, Outside, Apart, seg}
+use Rattle.laws.specs.LentRange.{Only, Outside, Apart, seg}
 use Rattle.laws.proofs.Products.{row-fits}
 use Rattle.laws.proofs.RangeLaws.{only-trans, only-weaken, only-seg, apart-part, outside-at}
 use Rattle.shapes.specs.Group.{joined}
 use Rattle.shapes.specs.Lent.{Narrow}
 use Rattle.pairs.specs.declared.Pair.{Pair}
-use Rattle.slots.specs.declared.tables.Tables.{Tables}
+use Rattle.slots.specs.declared.tables.MergeTables.{MergeTables}
 use Rattle.slots.specs.Lent.{Laid, groupIn, Sound, JoinedIn}
-use Rattle.waits.specs.Waits.{placeOf, groupOf}
-use Rattle.merging.specs.Held.{written, Retired, Noted, Joinable, PairJoined}
+use Rattle.waits.specs.LentWaits.{placeOf, groupOf}
+use Rattle.merging.specs.LentHeld.{written, Retired, Noted, Joinable, PairJoined}
 use Rattle.slots.proofs.TableLaws.{slot-end}
 use Rattle.slots.proofs.SlotLaws.{shape-kept, laid-kept, slots-apart}
 use Rattle.waits.proofs.WaitLaws.{group-kept}
@@ -24,11 +24,11 @@ use Rattle.waits.proofs.WaitLaws.{group-kept}
 abbrev pub Untouched : List (ℕ × ℕ) → ℕ → ℕ → Type 0
 Untouched rs a n = (k : ℕ) → a ≤ k → k < a + n → Outside rs k
 
-module _ {rs : List (ℕ × ℕ)} (t : Tables) (w w′ : List ℕ) (h : Laid t (length w)) (o : Only rs w w′) where
+module _ {rs : List (ℕ × ℕ)} (t : MergeTables) (w w′ : List ℕ) (h : Laid t (length w)) (o : Only rs w w′) where
   slot-out : Untouched rs (t .slots) (t .groups * t .regions) → (s : ℕ) → s < t .groups → Untouched rs (t .slots + s * t .regions) (t .regions)
   slot-out u s l k p q = let e = row-fits (t .regions) (t .groups) s l in u k (omega arith) (omega arith)
 
-  pub frame-sound : Untouched rs (t .slots) (t .groups * t .regions) → Untouched rs (t .rows) (t .groups) → Untouched rs (t .columns) (t .groups) → Sound t w → Sound t w′
+  pub frame-sound : Untouched rs (t .slots) (t .groups * t .regions) → Untouched rs (t .costs) (t .groups) → Untouched rs (t .columns) (t .groups) → Sound t w → Sound t w′
   frame-sound u r c s = record {
     shaped = record {
       laid = laid-kept t w w′ h o;
@@ -36,7 +36,7 @@ module _ {rs : List (ℕ × ℕ)} (t : Tables) (w w′ : List ℕ) (h : Laid t (
     };
     measured = λ k l.
         let e = shape-kept t w w′ k h l o (slot-out u k l) in
-        let p = o .kept (t .rows + k) (r (t .rows + k) (omega arith) (omega arith)) in
+        let p = o .kept (t .costs + k) (r (t .costs + k) (omega arith) (omega arith)) in
         let q = o .kept (t .columns + k) (c (t .columns + k) (omega arith) (omega arith)) in
         rw (e, p, q) (s .measured k l);
   }
@@ -46,7 +46,7 @@ module _ {rs : List (ℕ × ℕ)} (t : Tables) (w w′ : List ℕ) (h : Laid t (
 
 -- ---- joining
 
-pub join-pair-asks : (t : Tables) (j : ℕ) (p : Pair) (w : List ℕ) → Joinable t j p w
+pub join-pair-asks : (t : MergeTables) (j : ℕ) (p : Pair) (w : List ℕ) → Joinable t j p w
     → Sound t w × ((placeOf t w (p .first) - 1 < t .groups) × ((placeOf t w (p .second) - 1 < t .groups) × ((placeOf t w (p .first) - 1 ≢ placeOf t w (p .second) - 1)
     × (groupIn t w (placeOf t w (p .first) - 1) .sets + groupIn t w (placeOf t w (p .second) - 1) .sets < 4294967296))))
 unfolding groupOf
@@ -55,7 +55,7 @@ join-pair-asks t j p w h = (
   (omega (arith, h .first-lives, h .first-slot), (omega (arith, h .second-lives, h .second-slot), (λ e. h .apart (omega (arith, h .first-lives, h .second-lives)), h .sets-few))),
 )
 
-module _ (t : Tables) (j : ℕ) (p : Pair) (w w₁ w₂ w₃ : List ℕ) (h : Joinable t j p w)
+module _ (t : MergeTables) (j : ℕ) (p : Pair) (w w₁ w₂ w₃ : List ℕ) (h : Joinable t j p w)
     (x : JoinedIn t (placeOf t w (p .first) - 1) (placeOf t w (p .second) - 1) w w₁)
     (y : Retired t (p .first) (p .second) (t .groups + j) (placeOf t w (p .first)) w₁ w₂)
     (z : Noted t j p w₂ w₃) where
@@ -75,10 +75,10 @@ module _ (t : Tables) (j : ℕ) (p : Pair) (w w₁ w₂ w₃ : List ℕ) (h : Jo
   lies₂ = laid-kept t w₁ w₂ lies₁ (y .only)
 
   -- the words of the first step lie in the slots, the counts, the rows and the columns
-  past : (k : ℕ) → t .place ≤ k → k < t .rows → Outside ((t .slots + slot * t .regions, t .regions) ∷ (t .counts + slot, 1) ∷ (t .rows + slot, 1) ∷ (t .columns + slot, 1) ∷ []) k
+  past : (k : ℕ) → t .place ≤ k → k < t .costs → Outside ((t .slots + slot * t .regions, t .regions) ∷ (t .counts + slot, 1) ∷ (t .costs + slot, 1) ∷ (t .columns + slot, 1) ∷ []) k
   past k a b = let e = slot-end t (length w) slot lies within in let l = within in omega (arith, lies)
 
-  far : (k : ℕ) → t .into ≤ k → Outside ((t .slots + slot * t .regions, t .regions) ∷ (t .counts + slot, 1) ∷ (t .rows + slot, 1) ∷ (t .columns + slot, 1) ∷ []) k
+  far : (k : ℕ) → t .into ≤ k → Outside ((t .slots + slot * t .regions, t .regions) ∷ (t .counts + slot, 1) ∷ (t .costs + slot, 1) ∷ (t .columns + slot, 1) ∷ []) k
   far k a = let e = slot-end t (length w) slot lies within in let l = within in omega (arith, lies)
 
   place₁ : (c : ℕ) → c < 2 * t .groups → placeOf t w₁ c ≡ placeOf t w c
@@ -113,7 +113,7 @@ module _ (t : Tables) (j : ℕ) (p : Pair) (w w₁ w₂ w₃ : List ℕ) (h : Jo
       outside-slot : (k : ℕ) → t .slots + s * t .regions ≤ k → k < t .slots + s * t .regions + t .regions → Apart (t .slots + slot * t .regions) (t .regions) k 1
       outside-slot k a b = outside-at (slots-apart t slot s (λ e. n (sym e))) a b
 
-      rest : (k : ℕ) → t .slots + s * t .regions ≤ k → k < t .slots + s * t .regions + t .regions → Outside ((t .counts + slot, 1) ∷ (t .rows + slot, 1) ∷ (t .columns + slot, 1) ∷ []) k
+      rest : (k : ℕ) → t .slots + s * t .regions ≤ k → k < t .slots + s * t .regions + t .regions → Outside ((t .counts + slot, 1) ∷ (t .costs + slot, 1) ∷ (t .columns + slot, 1) ∷ []) k
       rest k a b = let e = slot-end t (length w) s lies l in let i = within in omega (arith, lies)
 
   all-only : Only (written t) w w₃

@@ -8,7 +8,7 @@ use native.Mathlib.Omega.{arith}
 use lib.ListN.{length, getD, length-append}
 use Rattle.laws.specs.Bag.{sum}
 use Rattle.laws.specs.Every.{All}
-use Rattle.laws.specs.Range.{seg}
+use Rattle.laws.specs.LentRange.{seg}
 use Rattle.laws.proofs.Cases.{same-or-not, Tri, tri}
 use Rattle.laws.proofs.Cases.Tri.{below, same, above}
 use Rattle.laws.proofs.BagLaws.{sum-next, sum-two}
@@ -21,16 +21,16 @@ use Rattle.rule.proofs.PairLaws.{pairs-sum, pairs-length}
 use Rattle.rule.proofs.Theorems.{run-sets, run-count, weighed-most, merge-total}
 use Rattle.rule.proofs.Bridge.{Rising, run-numbered, has, pair-of, pairs-has, choice-is, without, without-all, without-mem, two-intro, step-is, run-step}
 use Rattle.pairs.specs.declared.Pair.{Pair as Waiting}
-use Rattle.pairs.specs.Queue.{Has}
-use Rattle.slots.specs.declared.tables.Tables.{Tables}
+use Rattle.pairs.specs.LentQueue.{Has}
+use Rattle.slots.specs.declared.tables.MergeTables.{MergeTables}
 use Rattle.slots.specs.Lent.{groupIn}
-use Rattle.waits.specs.Waits.{room, placeOf, groupOf, alive, pairOf, Placed, Reached, Waits, Asked, OfferedAll}
-use Rattle.merging.specs.Held.{Lives, Reaches, Held, Standing, Chosen, Joinable, PairJoined}
-use Rattle.merging.specs.Held.Reaches.{here, onto}
+use Rattle.waits.specs.LentWaits.{room, placeOf, groupOf, alive, pairOf, Placed, Reached, Waits, Asked, OfferedAll}
+use Rattle.merging.specs.LentHeld.{Lives, Reaches, Held, Standing, Chosen, Joinable, PairJoined}
+use Rattle.merging.specs.LentHeld.Reaches.{here, onto}
 use Rattle.waits.proofs.WaitLaws.{room-is, alive-none, alive-one, alive-same, waits-next}
 use Rattle.merging.proofs.HeldLaws.{merges-few}
 
-module _ (t : Tables) (xs : List Group) (n m j z : ℕ) (p : Waiting) (w : List ℕ) (ps : List Waiting) (c : Chosen t xs n m j z p w ps)
+module _ (t : MergeTables) (xs : List Group) (n m j z : ℕ) (p : Waiting) (w : List ℕ) (ps : List Waiting) (c : Chosen t xs n m j z p w ps)
     (x : 0 < placeOf t w (p .first)) (y : 0 < placeOf t w (p .second)) where
   abbrev k : ℕ
   k = t .groups + j

@@ -9,7 +9,7 @@ use lib.ListN.{length, getD}
 use Rattle.laws.specs.Bag.{weigh}
 use Rattle.laws.specs.Bounded.{tabulate}
 use Rattle.laws.specs.Every.{All}
-use Rattle.laws.specs.Range.{seg}
+use Rattle.laws.specs.LentRange.{seg}
 use Rattle.laws.proofs.Cases.{same-or-not}
 use Rattle.laws.proofs.EveryLaws.{all-imp}
 use Rattle.laws.proofs.BoundedLaws.{tabulate-same, length-tabulate}
@@ -18,14 +18,14 @@ use Rattle.shapes.specs.Group.{Group, groupCost}
 use Rattle.rule.specs.Model.{Living, State, number, start, run, merged, total}
 use Rattle.rule.specs.Told.{Among, words}
 use Rattle.rule.proofs.Theorems.{pairs-count, number-length}
-use Rattle.slots.specs.declared.tables.Tables.{Tables}
+use Rattle.slots.specs.declared.tables.MergeTables.{MergeTables}
 use Rattle.slots.specs.Lent.{Laid, Sound, Dealt, MeasuredAll, groupIn, starting}
 use Rattle.pairs.specs.declared.Pair.{Pair}
-use Rattle.pairs.specs.Queue.{SameFrom}
-use Rattle.waits.specs.Waits.{room, placeOf, groupOf, alive, Opening, Opened}
-use Rattle.merging.specs.Held.{Lives, Held, Standing, Ran}
-use Rattle.merging.specs.Held.Reaches.{here}
-use Rattle.merging.specs.Optimized.{Ready, Optimized, Settled, Onward, Finished}
+use Rattle.pairs.specs.LentQueue.{SameFrom}
+use Rattle.waits.specs.LentWaits.{room, placeOf, groupOf, alive, Opening, Opened}
+use Rattle.merging.specs.LentHeld.{Lives, Held, Standing, Ran}
+use Rattle.merging.specs.LentHeld.Reaches.{here}
+use Rattle.merging.specs.LentOptimized.{Ready, Optimized, GroupsPlaced, Onward, AllResolved}
 use Rattle.slots.proofs.SlotLaws.{laid-kept}
 use Rattle.waits.proofs.WaitLaws.{group-of-kept, alive-one, sum-ones}
 use Rattle.merging.proofs.JoinLaws.{frame-sound, frame-groups}
@@ -59,7 +59,7 @@ number-total k (x ∷ xs) = ap (λ (i : ℕ). groupCost x + i) (number-total (su
 
 -- ---- the beginning
 
-module _ (t : Tables) (w w₁ : List ℕ) (h : Ready t w) (q : MeasuredAll t w w₁) where
+module _ (t : MergeTables) (w w₁ : List ℕ) (h : Ready t w) (q : MeasuredAll t w w₁) where
   lies : Laid t (length w)
   lies = h .shaped .laid
 
@@ -84,7 +84,7 @@ module _ (t : Tables) (w w₁ : List ℕ) (h : Ready t w) (q : MeasuredAll t w w
       tabulate-same 0 (t .groups) (λ i. groupIn t w₁ (getD w₁ (t .order + i) 0)) (λ i. groupIn t w (getD w (t .order + i) 0))
       (λ i a b. let l : i < t .groups = omega arith in ap (groupIn t w₁) (order₁ i l) ∙ groups₁ (getD w (t .order + i) 0) (h .dealt .within i l))
 
-  module _ (w₂ : List ℕ) (s : Settled t w₁ w₂) where
+  module _ (w₂ : List ℕ) (s : GroupsPlaced t w₁ w₂) where
     lies₂ : Laid t (length w₂)
     lies₂ = laid-kept t w₁ w₂ lies₁ (s .only)
 
@@ -172,11 +172,11 @@ module _ (t : Tables) (w w₁ : List ℕ) (h : Ready t w) (q : MeasuredAll t w w
 
 -- ---- the end
 
-module _ {t : Tables} {xs : List Group} {n m j z : ℕ} {w : List ℕ} {ps : List Pair} (s : Standing t xs n m j z w ps) where
+module _ {t : MergeTables} {xs : List Group} {n m j z : ℕ} {w : List ℕ} {ps : List Pair} (s : Standing t xs n m j z w ps) where
   pub onward : Onward t (t .groups + j) w
   onward = record { laid = s .held .sound .shaped .laid; most = merges-few t xs j w (s .many) (s .held); later = s .held .onward }
 
-  module _ (w′ : List ℕ) (f : Finished t (t .groups + j) w w′) where
+  module _ (w′ : List ℕ) (f : AllResolved t (t .groups + j) w w′) where
     sits : Laid t (length w)
     sits = s .held .sound .shaped .laid
 
@@ -220,8 +220,8 @@ module _ {t : Tables} {xs : List Group} {n m j z : ℕ} {w : List ℕ} {ps : Lis
     end-homes : All (λ g. All (λ i. getD w′ (t .into + i) 0 ≡ g .num) (g .origins)) (run j (start xs) .living)
     end-homes = all-imp (λ g. all-imp (λ i r. f .is i (g .num) r) (g .origins)) (run j (start xs) .living) (s .held .homes)
 
-module _ {t : Tables} {w w₁ w₂ : List ℕ} {ps ps₁ : List Pair} {z n m : ℕ} (h : Ready t w) (q : MeasuredAll t w w₁) (e : z ≡ weigh groupCost (starting t w₁))
-    (s : Settled t w₁ w₂) (o : Opened t n m w₂ ps ps₁) where
+module _ {t : MergeTables} {w w₁ w₂ : List ℕ} {ps ps₁ : List Pair} {z n m : ℕ} (h : Ready t w) (q : MeasuredAll t w w₁) (e : z ≡ weigh groupCost (starting t w₁))
+    (s : GroupsPlaced t w₁ w₂) (o : Opened t n m w₂ ps ps₁) where
   pub optimize-begun : Standing t (starting t w) n m 0 z w₂ ps₁
   optimize-begun = begun t w w₁ h q w₂ s n m ps ps₁ o z e
 
@@ -238,7 +238,7 @@ module _ {t : Tables} {w w₁ w₂ : List ℕ} {ps ps₁ : List Pair} {z n m : �
     pub optimize-rest : SameFrom ps (room (t .groups)) ps₂
     optimize-rest i l = r .rest i l ∙ o .rest i l
 
-    pub optimized : {w₅ : List ℕ} → Finished t (t .groups + j) w₄ w₅ → Optimized t j m′ z z′ w w₅
+    pub optimized : {w₅ : List ℕ} → AllResolved t (t .groups + j) w₄ w₅ → Optimized t j m′ z z′ w w₅
     unfolding run
     optimized {w₅} f =
         let xs = starting t w in

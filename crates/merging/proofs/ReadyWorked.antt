@@ -6,15 +6,15 @@ use Prim.Native.Nat.{ℕ, zero, suc, _+_, _≤_, _<_}
 use lib.ListN.{getD}
 use Rattle.laws.specs.Bag.{weigh}
 use Rattle.laws.specs.Bounded.{tabulate}
-use Rattle.laws.specs.Range.{seg}
+use Rattle.laws.specs.LentRange.{seg}
 use Rattle.shapes.specs.Lent.{Narrow}
 use Rattle.rule.proofs.Worked.{of}
-use Rattle.slots.specs.declared.tables.Tables.{Tables}
+use Rattle.slots.specs.declared.tables.MergeTables.{MergeTables}
 use Rattle.slots.specs.Lent.{shapeIn, groupIn, starting}
-use Rattle.merging.specs.Optimized.{Ready}
+use Rattle.merging.specs.LentOptimized.{Ready}
 
-abbrev tables : Tables
-tables = record { regions = 2; groups = 2; slots = 0; order = 4; counts = 6; place = 8; rows = 12; columns = 14; into = 16; log = 20 }
+abbrev tables : MergeTables
+tables = record { regions = 2; groups = 2; slots = 0; order = 4; counts = 6; place = 8; costs = 12; columns = 14; into = 16; log = 20 }
 
 -- two shapes, their order, their counts, and room for the rest
 abbrev lent : List ℕ
@@ -66,7 +66,7 @@ ready-p8 = record {
       order-end = omega arith;
       counts-end = omega arith;
       place-end = omega arith;
-      rows-end = omega arith;
+      costs-end = omega arith;
       columns-end = omega arith;
       into-end = omega arith;
       log-end = omega arith;

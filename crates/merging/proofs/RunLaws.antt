@@ -6,7 +6,7 @@ use Prim.Native.Nat.{ℕ, _+_, _-_, _*_, _≤_, _<_}
 use native.Mathlib.Omega.{arith}
 use lib.ListN.{length}
 use Rattle.laws.specs.Bag.{sum}
-use Rattle.laws.specs.Range.{Only}
+use Rattle.laws.specs.LentRange.{Only}
 use Rattle.laws.proofs.Cases.{same-or-not}
 use Rattle.laws.proofs.RangeLaws.{only-refl, only-trans}
 use Rattle.shapes.specs.Group.{Group, gain}
@@ -14,11 +14,11 @@ use Rattle.rule.specs.Model.{Living, gainOf, start, run, merged}
 use Rattle.rule.proofs.Theorems.{weighed-few}
 use Rattle.rule.proofs.Bridge.{has, run-numbered, two-intro, merged-is}
 use Rattle.pairs.specs.declared.Pair.{Pair}
-use Rattle.pairs.specs.Queue.{HeapOrdered, SameFrom, Popped}
-use Rattle.slots.specs.declared.tables.Tables.{Tables}
+use Rattle.pairs.specs.LentQueue.{HeapOrdered, SameFrom, Popped}
+use Rattle.slots.specs.declared.tables.MergeTables.{MergeTables}
 use Rattle.slots.specs.Lent.{Laid}
-use Rattle.waits.specs.Waits.{room, placeOf, groupOf, alive, Reached, Asked, OfferedAll, Numbered, KeptLiving}
-use Rattle.merging.specs.Held.{written, Lives, Standing, Chosen, Joinable, JoinedAt, SomeStanding, Turned, Tidied, Ran}
+use Rattle.waits.specs.LentWaits.{room, placeOf, groupOf, alive, Reached, Asked, OfferedAll, Numbered, KeptLiving}
+use Rattle.merging.specs.LentHeld.{written, Lives, Standing, Chosen, Joinable, JoinedAt, SomeStanding, Turned, Tidied, Ran}
 use Rattle.waits.proofs.WaitLaws.{room-is, waits-kept, waits-numbered}
 use Rattle.merging.proofs.HeldLaws.{merges-few, merges-less, chosen-taken, chosen-dead}
 use Rattle.merging.proofs.MergeLaws.{joinable, joined-asked, joined-room, joined-stands, joined-less, gain-fits}
@@ -26,12 +26,12 @@ use Rattle.merging.proofs.MergeLaws.{joinable, joined-asked, joined-roo
 -- ---- a turn
 
 -- no more pairs were weighed than there is room for
-pub weighed-room : (t : Tables) (xs : List Group) (n m j z : ℕ) (w : List ℕ) (ps : List Pair) → Standing t xs n m j z w ps → m ≤ room (t .groups)
+pub weighed-room : (t : MergeTables) (xs : List Group) (n m j z : ℕ) (w : List ℕ) (ps : List Pair) → Standing t xs n m j z w ps → m ≤ room (t .groups)
 weighed-room t xs n m j z w ps s =
     let b = rw (s .many) at (weighed-few j xs) in
     omega (arith, s .weighed, room-is (t .groups))
 
-module _ {t : Tables} {n m j z : ℕ} {w : List ℕ} {ps : List Pair} (s : SomeStanding t n m j z w ps) where
+module _ {t : MergeTables} {n m j z : ℕ} {w : List ℕ} {ps : List Pair} (s : SomeStanding t n m j z w ps) where
   pub turn-laid : Laid t (length w)
   turn-laid = s .standing .held .sound .shaped .laid
 
@@ -95,10 +95,10 @@ module _ {t : Tables} {n m j z : ℕ} {w : List ℕ} {ps : List Pair} (s : SomeS
 
 -- ---- dead pairs dropped
 
-pub tidied-none : {t : Tables} {n m j z : ℕ} {w : List ℕ} {ps : List Pair} → Tidied t n m j z n m j z w ps ps
+pub tidied-none : {t : MergeTables} {n m j z : ℕ} {w : List ℕ} {ps : List Pair} → Tidied t n m j z n m j z w ps ps
 tidied-none = record { stands = λ xs s. s; fewer = omega arith; weighed-same = refl; rest = λ i _. refl }
 
-module _ {t : Tables} {n m j z : ℕ} {w : List ℕ} {ps : List Pair} (s : SomeStanding t n m j z w ps) where
+module _ {t : MergeTables} {n m j z : ℕ} {w : List ℕ} {ps : List Pair} (s : SomeStanding t n m j z w ps) where
   pub tidy-merges : j ≤ t .groups
   tidy-merges = omega (arith, turn-merges s)
 
@@ -123,16 +123,16 @@ module _ {t : Tables} {n m j z : ℕ} {w : List ℕ} {ps : List Pair} (s : SomeS
 
 -- ---- the run
 
-pub record Running (t : Tables) (n₀ m₀ j₀ z₀ n m j z : ℕ) (w₀ w : List ℕ) (ps₀ ps : List Pair) : Type 0 where
+pub record Running (t : MergeTables) (n₀ m₀ j₀ z₀ n m j z : ℕ) (w₀ w : List ℕ) (ps₀ ps : List Pair) : Type 0 where
   pub only : Only (written t) w₀ w
   pub some : SomeStanding t n m j z w ps
   pub stands : (xs : List Group) → Standing t xs n₀ m₀ j₀ z₀ w₀ ps₀ → Standing t xs n m j z w ps
   pub rest : SameFrom ps₀ (room (t .groups)) ps
 
-pub running-start : {t : Tables} {n m j z : ℕ} {w : List ℕ} {ps : List Pair} → SomeStanding t n m j z w ps → Running t n m j z n m j z w w ps ps
+pub running-start : {t : MergeTables} {n m j z : ℕ} {w : List ℕ} {ps : List Pair} → SomeStanding t n m j z w ps → Running t n m j z n m j z w w ps ps
 running-start {t} {w = w} s = record { only = only-refl (written t) w; some = s; stands = λ xs q. q; rest = λ i _. refl }
 
-module _ {t : Tables} {n₀ m₀ j₀ z₀ n m j z : ℕ} {w₀ w : List ℕ} {ps₀ ps : List Pair} (r : Running t n₀ m₀ j₀ z₀ n m j z w₀ w ps₀ ps) where
+module _ {t : MergeTables} {n₀ m₀ j₀ z₀ n m j z : ℕ} {w₀ w : List ℕ} {ps₀ ps : List Pair} (r : Running t n₀ m₀ j₀ z₀ n m j z w₀ w ps₀ ps) where
   module _ {n′ m′ j′ z′ : ℕ} {w′ : List ℕ} {ps′ : List Pair} (d : Turned t n m j z n′ m′ j′ z′ w w′ ps ps′) where
     pub turned-some : SomeStanding t n′ m′ j′ z′ w′ ps′
     turned-some = record { groups = r .some .groups; standing = d .stands (r .some .groups) (r .some .standing) }
@@ -158,7 +158,7 @@ module _ {t : Tables} {n₀ m₀ j₀ z₀ n m j z : ℕ} {w₀ w : List ℕ} {p
 
 -- ---- its end: nothing waits, so no two living groups gain
 
-pub standing-done : (t : Tables) (xs : List Group) (m j z : ℕ) (w : List ℕ) (ps : List Pair) → Standing t xs 0 m j z w ps → run j (start xs) ≡ merged xs
+pub standing-done : (t : MergeTables) (xs : List Group) (m j z : ℕ) (w : List ℕ) (ps : List Pair) → Standing t xs 0 m j z w ps → run j (start xs) ≡ merged xs
 standing-done t xs m j z w ps s = merged-is j xs (two-intro _ (run j (start xs) .living) (run-numbered j xs .1) go)
   where
     lives-of : (i : Living) → List·Memᴰ i (run j (start xs) .living) → Lives t w i

@@ -6,13 +6,13 @@ use Prim.Native.Nat.{ℕ, _+_, _*_, _<_}
 use native.Mathlib.Omega.{arith}
 use lib.ListN.{length, getD, set, length-set}
 use lib.Seq.{getD-set-same, getD-set-other}
-use Rattle.laws.specs.Range.{Only}
+use Rattle.laws.specs.LentRange.{Only}
 use Rattle.laws.proofs.RangeLaws.{only-trans, only-set, seg-cons, seg-none}
 use Rattle.pairs.specs.declared.Pair.{Pair}
-use Rattle.slots.specs.declared.tables.Tables.{Tables}
+use Rattle.slots.specs.declared.tables.MergeTables.{MergeTables}
 use Rattle.slots.specs.Lent.{Laid}
-use Rattle.waits.specs.Waits.{placeOf}
-use Rattle.merging.specs.Held.{Retired, Noted}
+use Rattle.waits.specs.LentWaits.{placeOf}
+use Rattle.merging.specs.LentHeld.{Retired, Noted}
 
 -- five stores, at places that differ
 module _ (w : List ℕ) (i j k m n v x y z u : ℕ) where
@@ -54,7 +54,7 @@ module _ (w : List ℕ) (i j k m n v x y z u : ℕ) where
     five-5 : getD s₅ n 0 ≡ u
     five-5 = getD-set-same s₄ n u 0 (simp length-set ln)
 
-module _ (t : Tables) (w : List ℕ) (a b k v : ℕ) (h : Laid t (length w)) (p : a < b) (q : b < k) (r : k < 2 * t .groups) where
+module _ (t : MergeTables) (w : List ℕ) (a b k v : ℕ) (h : Laid t (length w)) (p : a < b) (q : b < k) (r : k < 2 * t .groups) where
   abbrev after : List ℕ
   after = set (set (set (set (set w (t .place + a) 0) (t .place + b) 0) (t .place + k) v) (t .into + a) k) (t .into + b) k
 
@@ -117,7 +117,7 @@ module _ (t : Tables) (w : List ℕ) (a b k v : ℕ) (h : Laid t (length w)) (p 
       }
 
 -- three stores, one behind the other
-pub noted : (t : Tables) (w : List ℕ) (j : ℕ) (p : Pair) → Laid t (length w) → j + 1 < t .groups
+pub noted : (t : MergeTables) (w : List ℕ) (j : ℕ) (p : Pair) → Laid t (length w) → j + 1 < t .groups
     → Noted t j p w (set (set (set w (t .log + 3 * j) (p .first)) (t .log + 3 * j + 1) (p .second)) (t .log + 3 * j + 2) (p .gain))
 noted t w j p h l =
     let a = t .log + 3 * j in

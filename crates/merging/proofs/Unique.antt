@@ -5,35 +5,35 @@ use mathlib.Core.List.{List, List·Memᴰ}
 use Prim.Native.Nat.{ℕ, _+_, _*_, _<_}
 use lib.ListN.{length, getD}
 use Rattle.laws.specs.Every.{All}
-use Rattle.laws.specs.Range.{seg}
+use Rattle.laws.specs.LentRange.{seg}
 use Rattle.laws.proofs.BoundedLaws.{length-tabulate}
 use Rattle.laws.proofs.EveryLaws.{all-imp, all-and}
 use Rattle.rule.specs.Model.{Living, merged}
 use Rattle.rule.proofs.Origins.{Home, home}
 use Rattle.rule.proofs.Bridge.{has}
-use Rattle.slots.specs.declared.tables.Tables.{Tables}
+use Rattle.slots.specs.declared.tables.MergeTables.{MergeTables}
 use Rattle.slots.specs.Lent.{groupIn, starting}
-use Rattle.waits.specs.Waits.{groupOf}
-use Rattle.merging.specs.Held.{Lives}
-use Rattle.merging.specs.Optimized.{Optimized}
+use Rattle.waits.specs.LentWaits.{groupOf}
+use Rattle.merging.specs.LentHeld.{Lives}
+use Rattle.merging.specs.LentOptimized.{Optimized}
 
-pub starting-length : (t : Tables) (w : List ℕ) → length (starting t w) ≡ t .groups
+pub starting-length : (t : MergeTables) (w : List ℕ) → length (starting t w) ≡ t .groups
 unfolding starting
 starting-length t w = length-tabulate 0 (t .groups) (λ i. groupIn t w (getD w (t .order + i) 0))
 
 -- the living group that starting group i went into, its number, and its slot
-pub record Final (t : Tables) (i : ℕ) (w w′ : List ℕ) : Type 0 where
+pub record Final (t : MergeTables) (i : ℕ) (w w′ : List ℕ) : Type 0 where
   pub group : Living
   pub here : List·Memᴰ group (merged (starting t w) .living)
   pub origin : List·Memᴰ i (group .origins)
   pub num-is : getD w′ (t .into + i) 0 ≡ group .num
   pub lives : Lives t w′ group
 
-home-end : (t : Tables) (w : List ℕ) (i : ℕ) → i < t .groups → Home (merged (starting t w) .living) i
+home-end : (t : MergeTables) (w : List ℕ) (i : ℕ) → i < t .groups → Home (merged (starting t w) .living) i
 unfolding merged
 home-end t w i l = home (length (starting t w)) (starting t w) i (rw (starting-length t w) l)
 
-pub final : (t : Tables) (j m b a i : ℕ) (w w′ : List ℕ) → Optimized t j m b a w w′ → i < t .groups → Final t i w w′
+pub final : (t : MergeTables) (j m b a i : ℕ) (w w′ : List ℕ) → Optimized t j m b a w w′ → i < t .groups → Final t i w w′
 final t j m b a i w w′ o l =
     let h = home-end t w i l in
     record {
@@ -45,7 +45,7 @@ final t j m b a i w w′ o l =
     }
 
 -- two runs from the same words: the same counts, log, final groups and living groups
-pub record Agree (t : Tables) (j m b a j′ m′ b′ a′ : ℕ) (w u v : List ℕ) : Type 0 where
+pub record Agree (t : MergeTables) (j m b a j′ m′ b′ a′ : ℕ) (w u v : List ℕ) : Type 0 where
   pub merges : j ≡ j′
   pub weighed : m ≡ m′
   pub before : b ≡ b′
@@ -54,7 +54,7 @@ pub record Agree (t : Tables) (j m b a j′ m′ b′ a′ : ℕ) (w u v : List 
   pub into : (i : ℕ) → i < t .groups → getD u (t .into + i) 0 ≡ getD v (t .into + i) 0
   pub living : All (λ g. groupOf t u (g .num) ≡ groupOf t v (g .num)) (merged (starting t w) .living)
 
-pub unique : (t : Tables) (j m b a j′ m′ b′ a′ : ℕ) (w u v : List ℕ) → Optimized t j m b a w u → Optimized t j′ m′ b′ a′ w v → Agree t j m b a j′ m′ b′ a′ w u v
+pub unique : (t : MergeTables) (j m b a j′ m′ b′ a′ : ℕ) (w u v : List ℕ) → Optimized t j m b a w u → Optimized t j′ m′ b′ a′ w v → Agree t j m b a j′ m′ b′ a′ w u v
 unique t j m b a j′ m′ b′ a′ w u v p q = record {
   merges = p .merges-are ∙ sym (q .merges-are);
   weighed = p .weighed-are ∙ sym (q .weighed-are);

@@ -1,2 +1,2 @@
-pub mod Held
-pub mod Optimized
+pub mod LentHeld
+pub mod LentOptimized

@@ -1,13 +1,13 @@
 // What happens to the best pair: its two groups die, and what they become takes the next number.
 use pairs::Pair;
-use slots::Tables;
+use slots::MergeTables;
 ghost use Prim.Native.Nat.{_+_, _*_, _<_};
 ghost use lib.ListN.{length};
 ghost use Rattle.slots.specs.Lent.{Laid};
-ghost use Rattle.merging.specs.Held.{Retired, Noted, Joinable, PairJoined};
+ghost use Rattle.merging.specs.LentHeld.{Retired, Noted, Joinable, PairJoined};
 
 // Numbers a and b die; number k lives at their place v.
-fn retire(work: &mut [u32], t: Tables, a: usize, b: usize, k: usize, v: u32)
+fn retire(work: &mut [u32], t: MergeTables, a: usize, b: usize, k: usize, v: u32)
     requires { ⌜ Laid t (length (now work)) ⌝ }
     requires { ⌜ a < b ⌝ }
     requires { ⌜ b < k ⌝ }
@@ -24,7 +24,7 @@ fn retire(work: &mut [u32], t: Tables, a: usize, b: usize, k: usize, v: u32)
 }
 
 // Entry j of the log.
-fn note(work: &mut [u32], t: Tables, j: usize, p: Pair)
+fn note(work: &mut [u32], t: MergeTables, j: usize, p: Pair)
     requires { ⌜ Laid t (length (now work)) ⌝ }
     requires { ⌜ j + 1 < t .groups ⌝ }
     ensures { λ _. ⌜ Noted t j p (now (work .entry)) (now (work .exit)) ⌝ }
@@ -36,7 +36,7 @@ fn note(work: &mut [u32], t: Tables, j: usize, p: Pair)
 }
 
 // Joins the pair, as merge j. Its numbers die; what they become is number groups + j.
-pub fn join_pair(work: &mut [u32], t: Tables, j: usize, p: Pair)
+pub fn join_pair(work: &mut [u32], t: MergeTables, j: usize, p: Pair)
     requires { ⌜ Joinable t j p (now work) ⌝ }
     ensures { λ _. ⌜ PairJoined t j p (now (work .entry)) (now (work .exit)) ⌝ }
 {

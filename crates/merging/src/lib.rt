@@ -1,7 +1,7 @@
 // Merging: groups of sets are joined while that saves bytes.
-mod encoder;
 mod joining;
+mod optimizing;
 mod run;
 
-pub use encoder::Merged;
-pub use encoder::optimize;
+pub use optimizing::Merged;
+pub use optimizing::optimize;

@@ -3,7 +3,7 @@
 use crate::joining;
 use pairs::Pair;
 use pairs::take;
-use slots::Tables;
+use slots::MergeTables;
 use waits::Tally;
 use waits::keep_living;
 use waits::living;
@@ -12,9 +12,9 @@ ghost use mathlib.Core.Path.{_≡_};
 ghost use Prim.Native.Nat.{_-_, _*_, _≤_, _<_};
 ghost use lib.Dec.{ltb};
 ghost use lib.ListN.{length};
-ghost use Rattle.waits.specs.Waits.{room};
+ghost use Rattle.waits.specs.LentWaits.{room};
 ghost use Rattle.limits.specs.Limits.{maxShapes};
-ghost use Rattle.merging.specs.Held.{Joinable, JoinedAt, SomeStanding, Turned, Tidied, Ran};
+ghost use Rattle.merging.specs.LentHeld.{Joinable, JoinedAt, SomeStanding, Turned, Tidied, Ran};
 
 // How many pairs wait, were weighed and were joined, and what the groups cost together.
 pub struct Progress {
@@ -25,7 +25,7 @@ pub struct Progress {
 }
 
 // Joins the pair p, whose two live.
-pub fn join(work: &mut [u32], t: Tables, s: Progress, p: Pair) -> Progress
+pub fn join(work: &mut [u32], t: MergeTables, s: Progress, p: Pair) -> Progress
     requires { ⌜ Joinable t (s .merges) p (now work) ⌝ }
     requires { ⌜ p .gain ≤ s .size ⌝ }
     ensures { λ r. ⌜ JoinedAt t p (s .waiting) (s .weighed) (s .merges) (s .size) (r .waiting) (r .weighed) (r .merges) (r .size) (now (work .entry)) (now (work .exit)) ⌝ }
@@ -40,7 +40,7 @@ pub fn join(work: &mut [u32], t: Tables, s: Progress, p: Pair) -> Progress
 }
 
 // Takes the best pair. Where both of its groups live it is joined, and what they become is weighed with each living group; else it is passed over.
-pub fn turn(pairs: &mut [Pair], work: &mut [u32], t: Tables, s: Progress) -> Progress
+pub fn turn(pairs: &mut [Pair], work: &mut [u32], t: MergeTables, s: Progress) -> Progress
     requires { ⌜ SomeStanding t (s .waiting) (s .weighed) (s .merges) (s .size) (now work) (now pairs) ⌝ }
     requires { ⌜ 0 < s .waiting ⌝ }
     requires { ⌜ room (t .groups) ≤ length (now pairs) ⌝ }
@@ -71,7 +71,7 @@ pub fn turn(pairs: &mut [Pair], work: &mut [u32], t: Tables, s: Progress) -> Pro
 }
 
 // Whether more pairs wait than twice those of the living groups: then half of them and more are of dead ones.
-pub fn crowded(t: Tables, s: Progress) -> bool
+pub fn crowded(t: MergeTables, s: Progress) -> bool
     requires { ⌜ t .groups ≤ maxShapes ⌝ }
     requires { ⌜ s .merges ≤ t .groups ⌝ }
     ensures { λ r. ⌜ r ≡ ltb ((t .groups - s .merges) * (t .groups - s .merges)) (s .waiting) ⌝ }
@@ -81,7 +81,7 @@ pub fn crowded(t: Tables, s: Progress) -> bool
 }
 
 // Where it is crowded, what waits of dead groups goes: else most of what is taken would be passed over.
-pub fn tidy(pairs: &mut [Pair], work: &[u32], t: Tables, s: Progress) -> Progress
+pub fn tidy(pairs: &mut [Pair], work: &[u32], t: MergeTables, s: Progress) -> Progress
     requires { ⌜ SomeStanding t (s .waiting) (s .weighed) (s .merges) (s .size) (now work) (now pairs) ⌝ }
     requires { ⌜ room (t .groups) ≤ length (now pairs) ⌝ }
     ensures { λ r. ⌜ Tidied t (s .waiting) (s .weighed) (s .merges) (s .size) (r .waiting) (r .weighed) (r .merges) (r .size) (now (work .entry)) (now (pairs .entry)) (now (pairs .exit)) ⌝ }
@@ -99,7 +99,7 @@ pub fn tidy(pairs: &mut [Pair], work: &[u32], t: Tables, s: Progress) -> Progres
 }
 
 // Joins the best pair, until nothing waits.
-pub fn join_all(pairs: &mut [Pair], work: &mut [u32], t: Tables, start: Progress) -> Progress
+pub fn join_all(pairs: &mut [Pair], work: &mut [u32], t: MergeTables, start: Progress) -> Progress
     requires { ⌜ SomeStanding t (start .waiting) (start .weighed) (start .merges) (start .size) (now work) (now pairs) ⌝ }
     requires { ⌜ room (t .groups) ≤ length (now pairs) ⌝ }
     ensures { λ r. ⌜ Ran t (start .waiting) (start .weighed) (start .merges) (start .size) (r .waiting) (r .weighed) (r .merges) (r .size) (now (work .entry)) (now (work .exit)) (now (pairs .entry)) (now (pairs .exit)) ⌝ }

@@ -12,7 +12,7 @@ use base.Logic.{SProp, ent, emp}
 use base.Fml.{Lft, GName, Share, ftrue, flft}
 use prog.Memory.{Memory}
 use prog.Routine.{Routine}
-use prog.Wp.{Heap, Calls, Tables as AllCalls}
+use prog.Wp.{Heap, Calls}
 use ghost.Atoms.{Atoms}
 use contract.Monad.{Fun, fact, factI}
 use types.Kit.{Given, Item, ‵, raw, given, some, later, _⊛_, mean, _$_, _∵_, !, qed, by, move, keep, use0, split, join, pick, fsplit, fjoin, feqL, suffices, frame, await, updating, now as at-once, done}
@@ -26,17 +26,17 @@ use denote.Struct.Laws as LL
 use denote.Triple.Spec.{tripleOf}
 use denote.Triple.Statement.{Contract, Triple}
 use denote.Triple.Clauses.{Lasts, lasts}
-use Rattle.pairs.specs.Queue.{SameFrom}
-use Rattle.waits.specs.Waits.{room}
-use Rattle.merging.specs.Optimized.{Ready, Optimized}
+use Rattle.pairs.specs.LentQueue.{SameFrom}
+use Rattle.waits.specs.LentWaits.{room}
+use Rattle.merging.specs.LentOptimized.{Ready, Optimized}
 use Rattle.pairs.specs.declared.Pair.{Pair}
 use Rattle.pairs.proofs.Pair as T
-use Rattle.slots.specs.declared.tables.Tables.{Tables}
-use Rattle.slots.proofs.tables.Tables as L
-use Rattle.slots.proofs.tables.Tables.Laws as L′
-use Rattle.merging.specs.declared.encoder.Merged.{Merged}
-use Rattle.merging.proofs.encoder.Merged as D
-use Rattle.merging.proofs.encoder.Merged.Laws as D′
+use Rattle.slots.specs.declared.tables.MergeTables.{MergeTables}
+use Rattle.slots.proofs.tables.MergeTables as L
+use Rattle.slots.proofs.tables.MergeTables.Laws as L′
+use Rattle.merging.specs.declared.optimizing.Merged.{Merged}
+use Rattle.merging.proofs.optimizing.Merged as D
+use Rattle.merging.proofs.optimizing.Merged.Laws as D′
 use Rattle.pairs.proofs.Loan.{Loan, both, Gives, gives, loan-call}
 use Rattle.pairs.proofs.Slices.{ref, Has, lent-mut}
 use Rattle.merging.proofs.optimize as optimize
@@ -47,8 +47,8 @@ use Rattle.merging_bench.proofs.tell.Symbol.{name as #merging_bench·te
 abbrev pub mach : Pair → Val
 mach x = vstruct (vcons (vint w32 (x .gain)) (vcons (vint w32 (x .first)) (vcons (vint w32 (x .second)) vnil)))
 
-abbrev pub mach-tables : Tables → Val
-mach-tables x = vstruct (vcons (vint w64 (x .regions)) (vcons (vint w64 (x .groups)) (vcons (vint w64 (x .slots)) (vcons (vint w64 (x .order)) (vcons (vint w64 (x .counts)) (vcons (vint w64 (x .place)) (vcons (vint w64 (x .rows)) (vcons (vint w64 (x .columns)) (vcons (vint w64 (x .into)) (vcons (vint w64 (x .log)) vnil))))))))))
+abbrev pub mach-tables : MergeTables → Val
+mach-tables x = vstruct (vcons (vint w64 (x .regions)) (vcons (vint w64 (x .groups)) (vcons (vint w64 (x .slots)) (vcons (vint w64 (x .order)) (vcons (vint w64 (x .counts)) (vcons (vint w64 (x .place)) (vcons (vint w64 (x .costs)) (vcons (vint w64 (x .columns)) (vcons (vint w64 (x .into)) (vcons (vint w64 (x .log)) vnil))))))))))
 
 abbrev pub mach-merged : Merged → Val
 mach-merged x = vstruct (vcons (vint w64 (x .merges)) (vcons (vint w64 (x .weighed)) (vcons (vint w64 (x .before)) (vcons (vint w64 (x .after)) vnil))))
@@ -61,7 +61,7 @@ module _ {M : Type 1} (𝓤 : URA M) (H : Heap 𝓤) (A : Atoms 𝓤) (mem : Mem
   Tell-of = tripleOf 𝓤 H A tell.signature (tell.spec 𝓤 H A mem run)
 
 module _ {M : Type 1} (𝓤 : URA M) (H : Heap 𝓤) (A : Atoms 𝓤) (W : Given 𝓤 H A) (mem : Memory → SProp 𝓤) (run : Routine → Fun 𝓤) where
-  module _ (C : Calls 𝓤 H) (fm : FmC 𝓤 H (W .laws) C) (known : Triple 𝓤 (C #merging·optimize) (Optimize-of 𝓤 H A mem run)) (κ : Lft) (θ : Share) (γ : GName) (β ι : ℕ) (ν : ℕ) (pairs : List Pair) (κ₂ : Lft) (θ₂ : Share) (γ₂ : GName) (β₂ ι₂ : ℕ) (ν₂ : ℕ) (work : List ℕ) (tb : Tables) where
+  module _ (C : Calls 𝓤 H) (fm : FmC 𝓤 H (W .laws) C) (known : Triple 𝓤 (C #merging·optimize) (Optimize-of 𝓤 H A mem run)) (κ : Lft) (θ : Share) (γ : GName) (β ι : ℕ) (ν : ℕ) (pairs : List Pair) (κ₂ : Lft) (θ₂ : Share) (γ₂ : GName) (β₂ ι₂ : ℕ) (ν₂ : ℕ) (work : List ℕ) (tb : MergeTables) where
     abbrev Loan-optimize-call : (long : length pairs ≡ ν) (long₂ : length work ≡ ν₂) (sized : Room T.the-row ν) (sized₂ : Room u32 ν₂) → Loan 𝓤 H A
     Loan-optimize-call long long₂ sized sized₂ = both 𝓤 H A W (lent-mut T.the-row κ θ γ β ι 𝓤 H A W pairs ν long sized) (lent-mut u32 κ₂ θ₂ γ₂ β₂ ι₂ 𝓤 H A W work ν₂ long₂ sized₂)
 

@@ -2,12 +2,12 @@
 use merging::Merged;
 use merging::optimize;
 use pairs::Pair;
-use slots::Tables;
+use slots::MergeTables;
 ghost use mathlib.Core.Path.{_≡_};
 ghost use Prim.Native.Nat.{_≤_};
 ghost use lib.ListN.{length, getD, set};
-ghost use Rattle.waits.specs.Waits.{room};
-ghost use Rattle.merging.specs.Optimized.{Ready, Optimized};
+ghost use Rattle.waits.specs.LentWaits.{room};
+ghost use Rattle.merging.specs.LentOptimized.{Ready, Optimized};
 
 // Writes what merging counted, and returns how many merges there were.
 fn tell(told: &mut [u64], m: Merged) -> usize
@@ -33,25 +33,25 @@ pub extern "C" fn fenikezo_optimize(
     order: usize,
     counts: usize,
     place: usize,
-    rows: usize,
+    costs: usize,
     columns: usize,
     into: usize,
     log: usize,
     told: &mut [u64],
 ) -> usize
-    requires { ⌜ Ready (record { regions = regions; groups = groups; slots = slots; order = order; counts = counts; place = place; rows = rows; columns = columns; into = into; log = log }) (now work) ⌝ }
+    requires { ⌜ Ready (record { regions = regions; groups = groups; slots = slots; order = order; counts = counts; place = place; costs = costs; columns = columns; into = into; log = log }) (now work) ⌝ }
     requires { ⌜ room groups ≤ length (now pairs) ⌝ }
     requires { ⌜ length (now told) ≡ 3 ⌝ }
-    ensures { λ r. ⌜ Optimized (record { regions = regions; groups = groups; slots = slots; order = order; counts = counts; place = place; rows = rows; columns = columns; into = into; log = log }) r (getD (now (told .exit)) 0 0) (getD (now (told .exit)) 1 0) (getD (now (told .exit)) 2 0) (now (work .entry)) (now (work .exit)) ⌝ }
+    ensures { λ r. ⌜ Optimized (record { regions = regions; groups = groups; slots = slots; order = order; counts = counts; place = place; costs = costs; columns = columns; into = into; log = log }) r (getD (now (told .exit)) 0 0) (getD (now (told .exit)) 1 0) (getD (now (told .exit)) 2 0) (now (work .entry)) (now (work .exit)) ⌝ }
 {
-    let t = Tables {
+    let t = MergeTables {
         regions,
         groups,
         slots,
         order,
         counts,
         place,
-        rows,
+        costs,
         columns,
         into,
         log,

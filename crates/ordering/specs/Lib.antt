@@ -1,1 +1,1 @@
-pub mod Living
+pub mod LentLiving

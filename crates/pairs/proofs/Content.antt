@@ -12,7 +12,7 @@ use Rattle.pairs.specs.declared.Pair.{Pair}
 use Rattle.laws.specs.Bag.{sum}
 use Rattle.laws.specs.Pick.{pick}
 use Rattle.laws.proofs.Cases.{same-or-not}
-use Rattle.pairs.specs.Queue.{pairAt, AtLeast, Weight, total, Has, Pushed, Popped}
+use Rattle.pairs.specs.LentQueue.{pairAt, AtLeast, Weight, weightOf, Has, Pushed, Popped}
 use Rattle.pairs.proofs.Order.{carry}
 
 -- ---- the weight that counts one pair
@@ -55,15 +55,15 @@ sum-where a (suc n) h = ⊎-elim
     (same-or-not (a n) 0)
 
 module _ {w : List Pair} {n : ℕ} {p : Pair} where
-  pub has-counted : Has w n p → 0 < total w n (is p)
-  unfolding total
+  pub has-counted : Has w n p → 0 < weightOf w n (is p)
+  unfolding weightOf
   has-counted h =
       let some = sum-at (λ k. is p (pairAt w k)) n (h .place) (h .below) in
       let one : is p (pairAt w (h .place)) ≡ 1 = ap (is p) (h .here) ∙ is-self p in
       omega arith
 
-pub counted-has : (w : List Pair) (n : ℕ) (p : Pair) → 0 < total w n (is p) → Has w n p
-unfolding total
+pub counted-has : (w : List Pair) (n : ℕ) (p : Pair) → 0 < weightOf w n (is p) → Has w n p
+unfolding weightOf
 counted-has w n p h =
     let k = sum-where (λ k. is p (pairAt w k)) n h in
     record { place = k .0; below = k .1; here = sym (is-same p (pairAt w (k .0)) (k .2)) }

@@ -6,7 +6,7 @@ use native.Mathlib.Nat.{not-suc-le-zero, le-of-suc-le-suc}
 use native.Mathlib.Numerals.{add-one}
 use lib.ListN.{length, set}
 use Rattle.pairs.specs.declared.Pair.{Pair}
-use Rattle.pairs.specs.Queue.{none, cleared}
+use Rattle.pairs.specs.LentQueue.{none, cleared}
 
 pub cleared-none : (w : List Pair) → w ≡ cleared 0 w
 unfolding cleared

@@ -2,7 +2,7 @@
 use crate::regions::mark_groups;
 use crate::regions::number;
 use crate::size::size_groups;
-use rows::clear;
+use rows::clear_places;
 ghost use mathlib.Core.Path.{_≡_};
 ghost use Prim.Native.Nat.{ℕ, _+_, _*_, _≤_, _<_};
 ghost use lib.ListN.{length};
@@ -36,7 +36,7 @@ pub fn draft(
     requires { ⌜ regions ≤ length (now numbers) ⌝ }
     ensures { λ r. ⌜ Drafted axes (now (work .entry)) regions groups count (now (marks .exit)) (now (numbers .exit)) (r .bytes) (r .runs) (r .kept) ⌝ }
 {
-    clear(marks);
+    clear_places(marks);
     mark_groups(work, regions, groups, count, index, marks);
     let kept = number(marks, regions, numbers);
     let sum = size_groups(work, regions, groups, count, index);

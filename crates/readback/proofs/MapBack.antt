@@ -7,8 +7,7 @@ use native.Mathlib.Omega.{arith}
 use lib.ListN.{length, getD, set, length-set, length-append, List·getD-append}
 use lib.Seq.{getD-set-same, getD-set-other, getD-append-add}
 use Rattle.laws.specs.Every.{All, EachTwo}
-use Rattle.store.specs.Placing.{Final, inRun, idWords}
-use Rattle.store.specs.Lent.{stored}
+use Rattle.store.specs.Placing.{Final, inRun, idWords, stored}
 
 -- an id that is not named keeps its word
 stored-other : (l : List (ℕ × ℕ)) (m : List ℕ) (x : ℕ) → All (λ (e : ℕ × ℕ). e .0 ≡ x → ⊥) l → getD (stored l m) x 0 ≡ getD m x 0

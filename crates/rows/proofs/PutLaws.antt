@@ -9,7 +9,7 @@ use lib.ListN.{length, getD, take, drop, length-append, length-drop, length-map,
 use lib.Seq.{drop-cons, drop-length, drop-drop, take-all}
 use Rattle.laws.specs.Bytes.{bytesOf, over}
 use Rattle.laws.specs.Signed.{twos}
-use Rattle.laws.specs.Range.{seg}
+use Rattle.laws.specs.LentRange.{seg}
 use Rattle.laws.proofs.BytesLaws.{bytes-length, over-length}
 use Rattle.laws.proofs.RangeLaws.{seg-cons, seg-none, length-seg}
 use Rattle.reader.specs.Store.{columnAt}

@@ -67,7 +67,7 @@ pub fn columns(shape: &[u32], cols: &mut [u32]) -> Form
     Form { word: twos, count }
 }
 
-pub fn clear(places: &mut [u32])
+pub fn clear_places(places: &mut [u32])
     ensures { λ _. ⌜ now (places .exit) ≡ replicate (length (now (places .entry))) 0 ⌝ }
 {
     let mut i: usize = 0;
@@ -97,6 +97,6 @@ pub fn place(cols: &[u32], places: &mut [u32])
     requires { ⌜ columnsOk (length (now places)) (now cols) ≡ true ⌝ }
     ensures { λ _. ⌜ Placed (now (cols .entry)) (now (places .exit)) ⌝ }
 {
-    clear(places);
+    clear_places(places);
     mark(cols, places);
 }

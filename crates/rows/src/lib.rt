@@ -7,7 +7,7 @@ mod subtable;
 
 pub use bytes::put;
 pub use column::Form;
-pub use column::clear;
+pub use column::clear_places;
 pub use column::columns;
 pub use column::place;
 pub use subtable::run_count;

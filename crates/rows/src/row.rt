@@ -22,7 +22,7 @@ fn twos(word: u32) -> u32
     word - 0x8000_0000
 }
 
-fn clear(row: &mut [u8], n: usize)
+fn clear_row(row: &mut [u8], n: usize)
     requires { ⌜ n ≤ length (now row) ⌝ }
     ensures { λ _. ⌜ now (row .exit) ≡ replicate n 0 ++ drop n (now (row .entry)) ⌝ }
 {
@@ -80,6 +80,6 @@ pub fn write_row(
     requires { ⌜ start + 2 * count ≤ length (now work) ⌝ }
     ensures { λ _. ⌜ now (row .exit) ≡ rowBytes word 0 (cellWords (entriesAt start count (now (work .entry))) (now (cols .entry))) ++ drop (columnAt word (length (now (cols .entry)))) (now (row .entry)) ⌝ }
 {
-    clear(row, column_at(word, cols.len()));
+    clear_row(row, column_at(word, cols.len()));
     lay(row, word, cols, places, work, start, count);
 }

@@ -15,42 +15,42 @@ use Rattle.laws.proofs.Cases.Which.{holds, fails}
 use Rattle.laws.proofs.EveryLaws.{all-append}
 use Rattle.sets.specs.Set.{Set, Ascending, Proper}
 use Rattle.sets.proofs.SetLaws.{proper-more}
-use Rattle.said.specs.Sets.{Region, has, withUse, indexIn, placed, withValue}
+use Rattle.said.specs.Sets.{Region, has, withUse, indexIn, withEntry, withValue}
 use Rattle.said.specs.Job.{Said, afterValue, afterEnd, regionsOnly}
-use Rattle.said.specs.Good.{Good}
+use Rattle.said.specs.LentGood.{SetsGood}
 use Rattle.said.proofs.IndexLaws.{with-has, with-old, with-long, index-at, index-below}
 
 sets-more : (m n : ℕ) (l : List Set) → m ≤ n → All (Proper m) l → All (Proper n) l
 sets-more m n [] h p = tt
 sets-more m n (s ∷ l) h p = (proper-more m n s h (p .0), sets-more m n l h (p .1))
 
-placed-rising : (k v t : ℕ) (b : Set) → t ≤ k → Ascending t b → All (λ e. e .0 ≡ k → ⊥) b → Ascending t (placed k v b)
-unfolding placed
+placed-rising : (k v t : ℕ) (b : Set) → t ≤ k → Ascending t b → All (λ e. e .0 ≡ k → ⊥) b → Ascending t (withEntry k v b)
+unfolding withEntry
 placed-rising k v t [] h a d = (h, tt)
 placed-rising k v t (e ∷ b) h a d = go (λ l. placed-rising k v (suc (e .0)) b l (a .1) (d .1)) (which (ltb k (e .0)))
   where
-    go : (suc (e .0) ≤ k → Ascending (suc (e .0)) (placed k v b)) → Which (ltb k (e .0)) → Ascending t (pick (ltb k (e .0)) ((k, v) ∷ e ∷ b) (e ∷ placed k v b))
+    go : (suc (e .0) ≤ k → Ascending (suc (e .0)) (withEntry k v b)) → Which (ltb k (e .0)) → Ascending t (pick (ltb k (e .0)) ((k, v) ∷ e ∷ b) (e ∷ withEntry k v b))
     go rec (holds l) = rw l (h, (ltb-true k (e .0) l, a .1))
     go rec (fails l) =
         let q = ltb-false k (e .0) l in
         let n = d .0 in
         rw l (a .0, rec (omega arith))
 
-pub placed-all : (P : ℕ × ℕ → Type 0) (k v : ℕ) (b : Set) → P (k, v) → All P b → All P (placed k v b)
-unfolding placed
+pub placed-all : (P : ℕ × ℕ → Type 0) (k v : ℕ) (b : Set) → P (k, v) → All P b → All P (withEntry k v b)
+unfolding withEntry
 placed-all P k v [] p a = (p, tt)
 placed-all P k v (e ∷ b) p a = go (placed-all P k v b p (a .1)) (which (ltb k (e .0)))
   where
-    go : All P (placed k v b) → Which (ltb k (e .0)) → All P (pick (ltb k (e .0)) ((k, v) ∷ e ∷ b) (e ∷ placed k v b))
+    go : All P (withEntry k v b) → Which (ltb k (e .0)) → All P (pick (ltb k (e .0)) ((k, v) ∷ e ∷ b) (e ∷ withEntry k v b))
     go rec (holds l) = rw l (p, a)
     go rec (fails l) = rw l (a .0, rec)
 
-placed-proper : (n k v : ℕ) (b : Set) → (v ≡ zeroWord → ⊥) → k < n → Proper n b → Proper n (placed k v b)
-unfolding placed
+placed-proper : (n k v : ℕ) (b : Set) → (v ≡ zeroWord → ⊥) → k < n → Proper n b → Proper n (withEntry k v b)
+unfolding withEntry
 placed-proper n k v [] z h p = ((z, h), tt)
 placed-proper n k v (e ∷ b) z h p = go (placed-proper n k v b z h (p .1)) (which (ltb k (e .0)))
   where
-    go : Proper n (placed k v b) → Which (ltb k (e .0)) → Proper n (pick (ltb k (e .0)) ((k, v) ∷ e ∷ b) (e ∷ placed k v b))
+    go : Proper n (withEntry k v b) → Which (ltb k (e .0)) → Proper n (pick (ltb k (e .0)) ((k, v) ∷ e ∷ b) (e ∷ withEntry k v b))
     go rec (holds l) = rw l ((z, h), p)
     go rec (fails l) = rw l (p .0, rec)
 
@@ -84,11 +84,11 @@ fresh-differs used named q (e ∷ b) n p f = (
   fresh-differs used named q b n (p .1) (f .1),
 )
 
-pub good-start : (regions : List Region) → Good (regionsOnly regions)
+pub good-start : (regions : List Region) → SetsGood (regionsOnly regions)
 unfolding regionsOnly
 good-start regions = record { rising = tt; proper = tt; fresh = tt; sets-rising = tt; sets-proper = tt }
 
-pub good-end : (s : Said) → Good s → Good (afterEnd s)
+pub good-end : (s : Said) → SetsGood s → SetsGood (afterEnd s)
 unfolding afterEnd
 good-end s g = record {
   rising = tt;
@@ -98,7 +98,7 @@ good-end s g = record {
   sets-proper = all-append (Proper (length (s .used))) (s .sets) (s .begun ∷ []) (g .sets-proper) (g .proper, tt);
 }
 
-pub good-value : (s : Said) (q v : ℕ) → Good s → has q (s .named) ≡ false → Good (afterValue s q v)
+pub good-value : (s : Said) (q v : ℕ) → SetsGood s → has q (s .named) ≡ false → SetsGood (afterValue s q v)
 unfolding afterValue withValue
 good-value s q v g n = go (which (eqb v zeroWord))
   where
@@ -111,7 +111,7 @@ good-value s q v g n = go (which (eqb v zeroWord))
     long : length (s .used) ≤ length (withUse (s .used) q)
     long = with-long (s .used) q
 
-    go : Which (eqb v zeroWord) → Good (afterValue s q v)
+    go : Which (eqb v zeroWord) → SetsGood (afterValue s q v)
     go (holds z) = record {
       rising = rw z (g .rising);
       proper = rw z (proper-more (length (s .used)) (length (withUse (s .used) q)) (s .begun) long (g .proper));

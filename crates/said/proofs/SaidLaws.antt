@@ -20,7 +20,7 @@ use Rattle.said.specs.Records.{regionOf, valueZeros, valueWord, recordAt
 use Rattle.said.specs.Refusals.{axisNo, valueNo, badRecord, unfinished, endNo}
 use Rattle.limits.specs.Limits.{maxRegions}
 use Rattle.said.specs.Sets.{regionList, firstLike, has, withUse}
-use Rattle.said.specs.Job.{Said, inAxes, afterValue, afterEnd, regionsOnly, fine, walk}
+use Rattle.said.specs.Job.{Said, inAxes, afterValue, afterEnd, regionsOnly, fine, recordsFrom}
 use Rattle.said.proofs.RecordLaws.{axis-region, value-bad, value-unknown}
 use Rattle.said.proofs.RegionLaws.{regions-length}
 use Rattle.said.proofs.IndexLaws.{with-known, with-new}
@@ -153,7 +153,7 @@ module _ (axes : ℕ) (some : 0 < axes) (job : List ℕ) where
       omega arith
 
 ends : (axes mode : ℕ) (job : List ℕ) (records : ℕ) (s : Said) → 0 < axes → ((k : ℕ) → getD job k 0 < 256)
-    → walk axes mode job job records 0 inAxes ≡ fine s → Counts axes job records s × (s .named ≡ [])
+    → recordsFrom axes mode job job records 0 inAxes ≡ fine s → Counts axes job records s × (s .named ≡ [])
 unfolding firstLike
 ends axes mode job records s some bytes e =
     walk-keeps axes mode job (λ i. i ≤ maxRegions * axes) (Counts axes job)
@@ -165,12 +165,12 @@ ends axes mode job records s some bytes e =
     records s (omega arith) e
 
 pub counts : (axes mode : ℕ) (job : List ℕ) (records : ℕ) (s : Said) → 0 < axes → ((k : ℕ) → getD job k 0 < 256)
-    → walk axes mode job job records 0 inAxes ≡ fine s → Counts axes job records s
+    → recordsFrom axes mode job job records 0 inAxes ≡ fine s → Counts axes job records s
 counts axes mode job records s some bytes e = ends axes mode job records s some bytes e .0
 
 -- without sets no region is in use
 pub no-use : (axes mode : ℕ) (job : List ℕ) (records : ℕ) (s : Said) → 0 < axes → ((k : ℕ) → getD job k 0 < 256)
-    → walk axes mode job job records 0 inAxes ≡ fine s → length (s .sets) ≡ 0 → length (s .used) ≡ 0
+    → recordsFrom axes mode job job records 0 inAxes ≡ fine s → length (s .sets) ≡ 0 → length (s .used) ≡ 0
 no-use axes mode job records s some bytes e z =
     let x = ends axes mode job records s some bytes e in
     x .0 .quiet z (x .1)

@@ -20,10 +20,10 @@ use Rattle.laws.proofs.EveryLaws.{all-append, all-imp, all-and}
 use Rattle.sets.specs.Set.{Set}
 use Rattle.said.specs.Records.{recordBytes, mostRecords, mostAxes, regionOf, valueZeros, valueWord, recordAt, afterRecord, areRecords, recordsIn, recordCount, regionLong, afterRegion, kind, axisKind, valueKind, endKind}
 use Rattle.said.specs.Refusals.{firstFailed, publishedWork, pairRecords, earlyNo, valueNo, axisNo, endNo}
-use Rattle.said.specs.Sets.{Region, coordinates, regionList, firstLike, has, withUse, indexIn, placed, withValue}
-use Rattle.said.specs.Job.{Said, inAxes, afterValue, afterEnd, regionsOnly, Outcome, fine, walk, outcomeFrom, outcome}
-use Rattle.said.specs.Good.{Good}
-use Rattle.said.specs.Open.{Open}
+use Rattle.said.specs.Sets.{Region, coordinates, regionList, firstLike, has, withUse, indexIn, withEntry, withValue}
+use Rattle.said.specs.Job.{Said, inAxes, afterValue, afterEnd, regionsOnly, Outcome, fine, recordsFrom, outcomeFrom, outcome}
+use Rattle.said.specs.LentGood.{SetsGood}
+use Rattle.said.specs.LentOpen.{Open}
 use Rattle.said.proofs.RecordLaws.{be-two, be-four, word-low, word-high, value-bad, value-twice}
 use Rattle.said.proofs.RegionLaws.{coords-length}
 use Rattle.said.proofs.GoodLaws.{placed-all, good-start, good-value, good-end}
@@ -40,14 +40,14 @@ Bytes job = (k : ℕ) → getD job k 0 < 256
 bytes-drop : (n : ℕ) (l : List ℕ) → Bytes l → Bytes (drop n l)
 bytes-drop n l b k = rw (getD-drop n l k 0) (b (n + k))
 
--- ---- what each record keeps of the sets said, a walk keeps
+-- ---- what each record keeps of the sets said, a recordsFrom keeps
 
 module _ (P : Said → Type 0)
     (begins : (l : List Region) → P (regionsOnly l))
     (more : (r : List ℕ) (s : Said) → Bytes r → valueNo r (length (s .regions)) (has (firstLike (s .regions) (regionOf r)) (s .named)) ≡ 0
     → P s → P (afterValue s (firstLike (s .regions) (regionOf r)) (valueWord r)))
     (ends : (s : Said) → P s → P (afterEnd s)) where
-  said-keeps : (axes mode : ℕ) (job : List ℕ) (records : ℕ) (s : Said) → Bytes job → walk axes mode job job records 0 inAxes ≡ fine s → P s
+  said-keeps : (axes mode : ℕ) (job : List ℕ) (records : ℕ) (s : Said) → Bytes job → recordsFrom axes mode job job records 0 inAxes ≡ fine s → P s
   said-keeps axes mode job records s b e =
       walk-keeps axes mode job (λ i. Unit {0}) (λ i t. P t) (λ i _ _ _. tt)
       (λ i _ _. begins (regionList axes (i / axes) job))
@@ -77,13 +77,13 @@ with-low : (k w : ℕ) (b : Set) → w < 256 ^ 4 → Low b → Low (withValue k 
 unfolding withValue
 with-low k w b h a = go (which (eqb w zeroWord))
   where
-    go : Which (eqb w zeroWord) → Low (pick (eqb w zeroWord) b (placed k w b))
+    go : Which (eqb w zeroWord) → Low (pick (eqb w zeroWord) b (withEntry k w b))
     go (holds e) = rw e a
     go (fails e) = rw e (placed-all (λ (d : ℕ × ℕ). d .1 < 256 ^ 4) k w b h a)
 
 -- the sets that have ended and the one that has not
 record Well (s : Said) : Type 0 where
-  good : Good s
+  good : SetsGood s
   low : All Low (s .sets)
   begun-low : Low (s .begun)
 
@@ -172,7 +172,7 @@ apart l (x ∷ u) f d = (
 
 pub record WellSaid (axes : ℕ) (job : List ℕ) (records : ℕ) (s : Said) : Type 0 where
   -- S3: sorted, no zeros, regions in use
-  pub good : Good s
+  pub good : SetsGood s
   -- values of 32 bits (J1)
   pub words-low : All Low (s .sets)
   -- start, peak and end of each axis, of 16 bits (J1)
@@ -183,7 +183,7 @@ pub record WellSaid (axes : ℕ) (job : List ℕ) (records : ℕ) (s : Said) : T
   pub counted : Counts axes job records s
 
 -- THE LAW
-pub well-said : (axes mode : ℕ) (job : List ℕ) (records : ℕ) (s : Said) → 0 < axes → Bytes job → walk axes mode job job records 0 inAxes ≡ fine s
+pub well-said : (axes mode : ℕ) (job : List ℕ) (records : ℕ) (s : Said) → 0 < axes → Bytes job → recordsFrom axes mode job job records 0 inAxes ≡ fine s
     → WellSaid axes job records s
 well-said axes mode job records s some b e =
     let w = said-keeps Well well-start well-value well-end axes mode job records s b e in
@@ -237,8 +237,8 @@ from-fine (suc n) o s e = let z : _≡_ {A = ℕ} 0 1 = cc in absurd (omega arit
 
 -- a job that is taken: no refusal of 1 to 4, and its records say it
 pub fine-walk : (axes mode : ℕ) (job : List ℕ) (work pairs : ℕ) (s : Said) → outcome axes mode job work pairs ≡ fine s
-    → Open axes mode (length job) work pairs × (walk axes mode job job (recordCount job) 0 inAxes ≡ fine s)
+    → Open axes mode (length job) work pairs × (recordsFrom axes mode job job (recordCount job) 0 inAxes ≡ fine s)
 unfolding outcome
 fine-walk axes mode job work pairs s e =
-    let f = from-fine (earlyNo axes mode (length job) work pairs) (walk axes mode job job (recordCount job) 0 inAxes) s e in
+    let f = from-fine (earlyNo axes mode (length job) work pairs) (recordsFrom axes mode job job (recordCount job) 0 inAxes) s e in
     (open-if axes mode (length job) work pairs (f .0), f .1)

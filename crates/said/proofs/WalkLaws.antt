@@ -1,4 +1,4 @@
--- What each record of a job keeps true, the walk along all of them keeps true: one induction for all such facts. Assumes nothing.
+-- What each record of a job keeps true, the recordsFrom along all of them keeps true: one induction for all such facts. Assumes nothing.
 use mathlib.Core.Path.{_≡_, refl, sym, ap, subst, _∙_}
 use mathlib.Core.Bool.{Bool, true, false}
 use mathlib.Core.List.{List, [], _∷_}
@@ -16,7 +16,7 @@ use Rattle.laws.proofs.Cases.Which.{holds, fails}
 use Rattle.said.specs.Records.{recordAt, kind, axisKind, valueKind, endKind, regionOf, valueWord}
 use Rattle.said.specs.Refusals.{axisNo, valueNo, endNo}
 use Rattle.said.specs.Sets.{regionList, firstLike, has}
-use Rattle.said.specs.Job.{Said, State, inAxes, inSets, Step, stop, on, unless, afterValue, afterEnd, valueStep, endStep, setStep, regionsOnly, step, Outcome, refused, fine, ended, endedSets, follow, walk}
+use Rattle.said.specs.Job.{Said, State, inAxes, inSets, Step, stop, on, unless, afterValue, afterEnd, valueStep, endStep, setStep, regionsOnly, step, Outcome, refused, fine, ended, endedSets, follow, recordsFrom}
 
 -- Before record i: Q i while all records so far were axis records, P i s once s is said.
 module _ (axes mode : ℕ) (job : List ℕ) (Q : ℕ → Type 0) (P : ℕ → Said → Type 0)
@@ -73,7 +73,7 @@ module _ (axes mode : ℕ) (job : List ℕ) (Q : ℕ → Type 0) (P : ℕ → Sa
       (λ _. tt))
   step-after i (inSets s) k = set-after i s k
 
-  -- ---- the walk
+  -- ---- the recordsFrom
 
   sets-end : (i : ℕ) (s : Said) (named : List ℕ) → s .named ≡ named → P i s → Ends i (endedSets i s named)
   unfolding endedSets
@@ -97,13 +97,13 @@ module _ (axes mode : ℕ) (job : List ℕ) (Q : ℕ → Type 0) (P : ℕ → Sa
   next-record : (i : ℕ) → drop 12 (recordAt job i) ≡ recordAt job (i + 1)
   next-record i = let e : 12 * i + 12 ≡ 12 * (i + 1) = omega arith in drop-drop 12 (12 * i) job ∙ ap (λ (k : ℕ). drop k job) e
 
-  walk-ends : (left i n : ℕ) (rest : List ℕ) (s : State) → rest ≡ recordAt job i → i + left ≡ n → Kept i s → Ends n (walk axes mode job rest left i s)
-  unfolding walk
+  walk-ends : (left i n : ℕ) (rest : List ℕ) (s : State) → rest ≡ recordAt job i → i + left ≡ n → Kept i s → Ends n (recordsFrom axes mode job rest left i s)
+  unfolding recordsFrom
   walk-ends zero i n rest s r e k = subst (λ (m : ℕ). Ends m (ended axes job i s)) (sym (add-zero i) ∙ e) (ended-ends i s k)
   walk-ends (suc left) i n rest s r e k =
-      follow-ends i n (step axes mode job rest i s) (λ s′. walk axes mode job (drop 12 rest) left (i + 1) s′)
+      follow-ends i n (step axes mode job rest i s) (λ s′. recordsFrom axes mode job (drop 12 rest) left (i + 1) s′)
       (λ s′ a. walk-ends left (i + 1) n (drop 12 rest) s′ (ap (drop 12) r ∙ next-record i) (omega arith) (subst (λ (m : ℕ). Kept m s′) (sym (add-one i)) a))
       (subst (λ (l : List ℕ). After (suc i) (step axes mode job l i s)) (sym r) (step-after i s k))
 
-  pub walk-keeps : (records : ℕ) (s : Said) → Q 0 → walk axes mode job job records 0 inAxes ≡ fine s → P records s × (s .named ≡ [])
+  pub walk-keeps : (records : ℕ) (s : Said) → Q 0 → recordsFrom axes mode job job records 0 inAxes ≡ fine s → P records s × (s .named ≡ [])
   walk-keeps records s q e = subst (Ends records) e (walk-ends records 0 records job inAxes refl (omega arith) q)

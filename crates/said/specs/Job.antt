@@ -95,10 +95,10 @@ follow i (on s) go = go s
 
 -- so many records from record i on, from a state: `rest` are the bytes from that record on. The first bad one decides
 -- (T2)
-unfoldable pub walk : ℕ → ℕ → List ℕ → List ℕ → ℕ → ℕ → State → Outcome
-walk axes mode job rest zero i s = ended axes job i s
-walk axes mode job rest (suc left) i s =
-    follow i (step axes mode job rest i s) (λ s′. walk axes mode job (afterRecord rest) left (i + 1) s′)
+unfoldable pub recordsFrom : ℕ → ℕ → List ℕ → List ℕ → ℕ → ℕ → State → Outcome
+recordsFrom axes mode job rest zero i s = ended axes job i s
+recordsFrom axes mode job rest (suc left) i s =
+    follow i (step axes mode job rest i s) (λ s′. recordsFrom axes mode job (afterRecord rest) left (i + 1) s′)
 
 -- T1, then T2; the place of R1 to R4 is 0 (T5)
 unfoldable pub outcomeFrom : ℕ → Outcome → Outcome
@@ -108,4 +108,4 @@ outcomeFrom (suc n) o = refused (suc n) 0
 -- of axis count, mode, job, the words of work and the number of pair records
 unfoldable pub outcome : ℕ → ℕ → List ℕ → ℕ → ℕ → Outcome
 outcome axes mode job work pairs =
-    outcomeFrom (earlyNo axes mode (length job) work pairs) (walk axes mode job job (recordCount job) 0 inAxes)
+    outcomeFrom (earlyNo axes mode (length job) work pairs) (recordsFrom axes mode job job (recordCount job) 0 inAxes)

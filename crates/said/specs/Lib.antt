@@ -1,7 +1,7 @@
 pub mod Records
 pub mod Refusals
-pub mod Open
+pub mod LentOpen
 pub mod Sets
 pub mod Job
-pub mod Good
+pub mod LentGood
 pub mod Worked

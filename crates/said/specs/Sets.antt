@@ -58,10 +58,10 @@ indexIn q (p ∷ l) = pick (eqb q p) 0 (suc (indexIn q l))
 -- ---- sets
 
 -- an entry in its place by region index
-unfoldable pub placed : ℕ → ℕ → Set → Set
-placed k w [] = (k, w) ∷ []
-placed k w (e ∷ s) = pick (ltb k (e .0)) ((k, w) ∷ e ∷ s) (e ∷ placed k w s)
+unfoldable pub withEntry : ℕ → ℕ → Set → Set
+withEntry k w [] = (k, w) ∷ []
+withEntry k w (e ∷ s) = pick (ltb k (e .0)) ((k, w) ∷ e ∷ s) (e ∷ withEntry k w s)
 
 -- No zeros, in rising order of region index (S3). The word w of a value for region index k goes into a set:
 unfoldable pub withValue : ℕ → ℕ → Set → Set
-withValue k w s = pick (eqb w zeroWord) s (placed k w s)
+withValue k w s = pick (eqb w zeroWord) s (withEntry k w s)

@@ -9,8 +9,8 @@ use Rattle.laws.specs.Signed.{word, signed, zeroWord}
 use Rattle.sets.specs.Set.{Set}
 use Rattle.said.specs.Records.{zeros, axisZeros, valueZeros, endZeros, valueWord}
 use Rattle.said.specs.Refusals.{pairRecords, firstFailed, publishedWork, earlyNo, axisNo, valueNo, endNo}
-use Rattle.said.specs.Sets.{Region, coordinates, regionList, sameRegion, like, firstLike, has, withUse, indexIn, placed, withValue}
-use Rattle.said.specs.Job.{Said, Outcome, refused, fine, unless, afterValue, afterEnd, valueStep, endStep, setStep, regionsOnly, step, ended, endedSets, follow, walk, outcomeFrom, outcome}
+use Rattle.said.specs.Sets.{Region, coordinates, regionList, sameRegion, like, firstLike, has, withUse, indexIn, withEntry, withValue}
+use Rattle.said.specs.Job.{Said, Outcome, refused, fine, unless, afterValue, afterEnd, valueStep, endStep, setStep, regionsOnly, step, ended, endedSets, follow, recordsFrom, outcomeFrom, outcome}
 
 -- an axis record of start 0, a value record with a value of one byte's size from 0 on, an end record
 abbrev axisRecord : ℕ → ℕ → ℕ → List ℕ
@@ -91,5 +91,5 @@ worked : answers ≡
     ∷ refused 2 0
     ∷ refused 1 0
     ∷ []
-unfolding answers outcome outcomeFrom walk follow ended endedSets step regionsOnly setStep endStep valueStep afterEnd afterValue unless withValue placed indexIn withUse has firstLike like sameRegion regionList coordinates endNo valueNo axisNo earlyNo publishedWork firstFailed valueWord endZeros valueZeros axisZeros zeros word signed be allBelow
+unfolding answers outcome outcomeFrom recordsFrom follow ended endedSets step regionsOnly setStep endStep valueStep afterEnd afterValue unless withValue withEntry indexIn withUse has firstLike like sameRegion regionList coordinates endNo valueNo axisNo earlyNo publishedWork firstFailed valueWord endZeros valueZeros axisZeros zeros word signed be allBelow
 worked = refl

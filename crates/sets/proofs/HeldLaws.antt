@@ -5,11 +5,11 @@ use mathlib.Core.List.{List, [], _∷_}
 use Prim.Native.Nat.{ℕ, zero, suc, _+_, _-_, _*_, _≤_, _<_}
 use native.Mathlib.Omega.{arith}
 use lib.ListN.{length, getD}
-use Rattle.laws.specs.Range.{Apart, Outside, Only}
+use Rattle.laws.specs.LentRange.{Apart, Outside, Only}
 use Rattle.laws.proofs.BoundedLaws.{length-tabulate, getD-tabulate, tabulate-same}
 use Rattle.sets.specs.Set.{Set, Ascending, Proper}
 use Rattle.sets.specs.Order.{order}
-use Rattle.sets.specs.Lent.{entries, startOf, countOf, setOf, Stored, Clear, Good, Ready, Held, setsIn, isFirst, Behind, atMost}
+use Rattle.sets.specs.Lent.{entries, entriesAt, countOf, setOf, Stored, Clear, Sortable, Ready, Held, setsIn, isFirst, Behind, atMost}
 
 pub behind-outside : {end : ℕ} (rs : List (ℕ × ℕ)) (k : ℕ) → Behind end rs → k < end → Outside rs k
 behind-outside [] k b h = tt
@@ -33,7 +33,7 @@ entries-same k (suc m) a h =
     rw (k .below a (omega arith), k .below (a + 1) (omega arith), entries-same k m (a + 2) (omega arith))
 
 module _ {old new : List ℕ} {index n regions end : ℕ} (h : Held old index n regions end) (k : Kept end old new) where
-  start-same : (x : ℕ) → x < n → startOf index x new ≡ startOf index x old
+  start-same : (x : ℕ) → x < n → entriesAt index x new ≡ entriesAt index x old
   start-same x l = k .below (index + 2 * x) (omega (arith, h .rows))
 
   count-same : (x : ℕ) → x < n → countOf index x new ≡ countOf index x old
@@ -41,7 +41,7 @@ module _ {old new : List ℕ} {index n regions end : ℕ} (h : Held old index n 
 
   pub set-same : (x : ℕ) → x < n → setOf index x new ≡ setOf index x old
   unfolding setOf
-  set-same x l = rw (start-same x l, count-same x l) (entries-same k (countOf index x old) (startOf index x old) (h .body x l))
+  set-same x l = rw (start-same x l, count-same x l) (entries-same k (countOf index x old) (entriesAt index x old) (h .body x l))
 
   pub held-kept : Held new index n regions end
   held-kept = record {

@@ -8,14 +8,14 @@ use lib.ListN.{length, getD, take, set, length-set, replicate, length-replicate,
 use lib.Seq.{ext-getD, take-suc, take-all, getD-set-same, getD-set-other}
 use borrow.Author.Count.{below-more}
 use Rattle.laws.specs.Every.{All}
-use Rattle.laws.specs.Range.{Apart, Outside, Only, Zeroed, seg}
+use Rattle.laws.specs.LentRange.{Apart, Outside, Only, Zeroed, seg}
 use Rattle.laws.proofs.RangeLaws.{only-refl, only-trans, only-set, only-weaken, only-seg, length-seg, getD-seg}
 use Rattle.laws.proofs.ZeroLaws.{zeroed-part}
 use Rattle.shapes.specs.Shape.{Shape, join}
 use Rattle.shapes.specs.Lent.{JoinedAt}
 use Rattle.shapes.proofs.ShapeLaws.{join-at, join-length}
 use Rattle.sets.specs.Set.{Set}
-use Rattle.sets.specs.Lent.{setOf, startOf, countOf, Stored, Held, setsIn}
+use Rattle.sets.specs.Lent.{setOf, entriesAt, countOf, Stored, Held, setsIn}
 use Rattle.sets.proofs.HeldLaws.{Kept, kept-only, held-kept, held-stored, set-same, sets-length, sets-at, sets-same}
 use Rattle.groups.specs.Groups.{shapeOf}
 use Rattle.groups.specs.Cover.{coverFrom, coverOf}
@@ -42,7 +42,7 @@ module _ {index n at tmp regions : ℕ} {old : List ℕ} (f : CoverFit index n a
     pub cover-stored : Stored new index x
     cover-stored = held-stored (held-kept (f .held) kept) x h
 
-    pub cover-before : startOf index x new + 2 * countOf index x new ≤ tmp
+    pub cover-before : entriesAt index x new + 2 * countOf index x new ≤ tmp
     cover-before = omega (arith, held-kept (f .held) kept .body x h, f .behind, f .at-to)
 
     pub cover-room : tmp + regions ≤ length new

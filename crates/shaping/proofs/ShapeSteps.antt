@@ -11,7 +11,7 @@ use lib.Seq.{ext-getD, getD-set-same, getD-set-other}
 use lib.Dec.{eqb, ltb}
 use borrow.Author.Tests.{eq-eqb, eqb-true, eqb-false, lt-ltb, le-ltb, ltb-true}
 use borrow.Author.Count.{below-more}
-use Rattle.laws.specs.Range.{Apart, Only, seg}
+use Rattle.laws.specs.LentRange.{Apart, Only, seg}
 use Rattle.laws.specs.Signed.{value, zeroWord}
 use Rattle.laws.proofs.Cases.{and-true, lt-or-ge}
 use Rattle.laws.proofs.BoundedLaws.{length-tabulate, getD-tabulate}
@@ -20,7 +20,7 @@ use Rattle.shapes.specs.Width.{widthOf, costOf}
 use Rattle.shapes.proofs.WidthLaws.{word-none}
 use Rattle.sets.specs.Set.{Set, wordOf, Ascending}
 use Rattle.groups.specs.Groups.{shapeOf}
-use Rattle.sets.specs.Lent.{entries, startOf, countOf, setOf, Stored}
+use Rattle.sets.specs.Lent.{entries, entriesAt, countOf, setOf, Stored}
 use Rattle.shaping.specs.Lent.{ShapedAt}
 use Rattle.shaping.specs.Lent.{namesAt, EntriesFit, ShapedFrom}
 use Rattle.sets.proofs.SetLaws.{entries-cons, entries-none, word-head, word-tail, word-below}
@@ -145,11 +145,11 @@ pub names-here : (w : List ℕ) (from m j k x : ℕ) → j < m → x ≡ getD w 
 unfolding namesAt
 names-here w from m j k x h e = rw (lt-ltb j m h, e)
 
-pub set-fits : {w : List ℕ} {index x at regions from m : ℕ} → Stored w index x → startOf index x w + 2 * countOf index x w ≤ at → at + regions ≤ length w
-    → from ≡ startOf index x w → m ≡ countOf index x w → EntriesFit w from m at regions
+pub set-fits : {w : List ℕ} {index x at regions from m : ℕ} → Stored w index x → entriesAt index x w + 2 * countOf index x w ≤ at → at + regions ≤ length w
+    → from ≡ entriesAt index x w → m ≡ countOf index x w → EntriesFit w from m at regions
 unfolding setOf
 set-fits s p q f g = record { before = rw (f, g) p; room = q; ascending = rw (f, g) (s .ascending) }
 
-pub set-shaped : {old new : List ℕ} {index x at regions from m : ℕ} → from ≡ startOf index x old → m ≡ countOf index x old → ShapedFrom from m at regions old new → ShapedAt index x at regions old new
+pub set-shaped : {old new : List ℕ} {index x at regions from m : ℕ} → from ≡ entriesAt index x old → m ≡ countOf index x old → ShapedFrom from m at regions old new → ShapedAt index x at regions old new
 unfolding setOf
 set-shaped f g s = record { only = s .only; is = s .is ∙ rw (f, g) }

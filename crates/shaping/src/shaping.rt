@@ -6,7 +6,7 @@ ghost use Prim.Native.Nat.{_+_, _*_, _<_, _≤_};
 ghost use lib.ListN.{length, getD};
 ghost use Rattle.laws.specs.Signed.{value};
 ghost use Rattle.shapes.specs.Width.{widthOf, costOf};
-ghost use Rattle.sets.specs.Lent.{Stored, startOf, countOf};
+ghost use Rattle.sets.specs.Lent.{Stored, entriesAt, countOf};
 ghost use Rattle.shaping.specs.Lent.{ShapedAt};
 ghost use Rattle.shaping.specs.Lent.{namesAt, EntriesFit, ShapedFrom};
 
@@ -52,7 +52,7 @@ fn widths(work: &mut [u32], from: usize, m: usize, at: usize, regions: usize)
 // Writes the shape of set x into the words from `at` on.
 pub fn shape_of(work: &mut [u32], index: usize, x: usize, at: usize, regions: usize)
     requires { ⌜ Stored (now work) index x ⌝ }
-    requires { ⌜ startOf index x (now work) + 2 * countOf index x (now work) ≤ at ⌝ }
+    requires { ⌜ entriesAt index x (now work) + 2 * countOf index x (now work) ≤ at ⌝ }
     requires { ⌜ at + regions ≤ length (now work) ⌝ }
     ensures { λ _. ⌜ ShapedAt index x at regions (now (work .entry)) (now (work .exit)) ⌝ }
 {

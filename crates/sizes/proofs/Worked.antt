@@ -16,11 +16,11 @@ use Rattle.shapes.specs.Group.{Group, groupCost, joined, gain}
 use Rattle.sets.specs.Set.{Set, wordOf, sameSet}
 use Rattle.sets.specs.Order as sets
 use Rattle.sets.specs.Ids.{place, withSet, distinctFrom, distinct}
-use Rattle.groups.specs.Groups.{shapeOf, placed, withShape, groupsFrom, groupsOf}
+use Rattle.groups.specs.Groups.{shapeOf, putShape, withShape, groupsFrom, groupsOf}
 use Rattle.rule.specs.Model as rule
 use Rattle.store.specs.Placing.{Final, modelOf, modelled}
 use Rattle.encoder.specs.Packed.{noLater, dense, sameShape, numberOf, isAmong, belongs, finalOf, isAhead, finalsOf, shared}
-use Rattle.sizes.specs.Sizes.{costOf, startOf, Sizes}
+use Rattle.sizes.specs.Sizes.{costOf, startingOf, Sizes}
 use Rattle.sizes.proofs.Counted.{sizes}
 
 -- a set of the value v from 0 on at region r alone
@@ -47,7 +47,7 @@ pub record Worked : Type 0 where
 abbrev worked : List Set → Worked
 worked l = record {
   groups = groupsOf 2 l;
-  starts = map (startOf 2 l) (upTo (length (distinct l)));
+  starts = map (startingOf 2 l) (upTo (length (distinct l)));
   finals = shared 2 l .finals;
   before = shared 2 l .before;
   after = shared 2 l .after;
@@ -86,7 +86,7 @@ both : map worked (p8 ∷ p9 ∷ []) ≡
       forecast = 34;
     }
     ∷ []
-unfolding weigh tabulate compared thenBy isMost fits isZero signed twos value insert sorted keep width.widthOf width.costOf rowCost columns overhead join shapes.widthsOrder shapes.order groupCost joined gain wordOf sameSet sets.byWords sets.orderNone sets.orderHead sets.order place withSet distinctFrom shapeOf placed withShape groupsFrom groupsOf rule.keepOut rule.outs rule.pairWith rule.keepPair rule.pairs rule.better rule.lead rule.best rule.worth rule.ifWorth rule.choice rule.entry rule.merge rule.follow rule.step rule.run rule.number rule.start rule.merged rule.total modelOf modelled noLater dense sameShape numberOf isAmong belongs finalOf isAhead finalsOf shared
+unfolding weigh tabulate compared thenBy isMost fits isZero signed twos value insert sorted keep width.widthOf width.costOf rowCost columns overhead join shapes.widthsOrder shapes.order groupCost joined gain wordOf sameSet sets.byWords sets.orderNone sets.orderHead sets.order place withSet distinctFrom shapeOf putShape withShape groupsFrom groupsOf rule.keepOut rule.outs rule.pairWith rule.keepPair rule.pairs rule.better rule.lead rule.best rule.worth rule.ifWorth rule.choice rule.entry rule.merge rule.follow rule.step rule.run rule.number rule.start rule.merged rule.total modelOf modelled noLater dense sameShape numberOf isAmong belongs finalOf isAhead finalsOf shared
 both = refl
 
 pub p8-sizes : Sizes 2 p8

@@ -25,8 +25,8 @@ abbrev pub groupAt : List Group → ℕ → Group
 groupAt groups i = getD groups i (record { shape = []; sets = 0 })
 
 -- the number of the starting group that id x's set is in
-abbrev pub startOf : ℕ → List Set → ℕ → ℕ
-startOf regions jobs x = numberOf (shapeOf regions (getD (distinct jobs) x [])) (groupsOf regions jobs)
+abbrev pub startingOf : ℕ → List Set → ℕ → ℕ
+startingOf regions jobs x = numberOf (shapeOf regions (getD (distinct jobs) x [])) (groupsOf regions jobs)
 
 -- of the sets of a job, in mode 0
 pub record Sizes (regions : ℕ) (jobs : List Set) : Type 0 where
@@ -34,10 +34,10 @@ pub record Sizes (regions : ℕ) (jobs : List Set) : Type 0 where
   pub starting-apart : EachTwo (λ g h. g .shape ≡ h .shape → ⊥) (groupsOf regions jobs)
   -- the group of an id's set is the one that has the set's shape
   pub starting-of : (x : ℕ) → x < length (distinct jobs)
-      → (startOf regions jobs x < length (groupsOf regions jobs)) × (groupAt (groupsOf regions jobs) (startOf regions jobs x) .shape ≡ shapeOf regions (getD (distinct jobs) x []))
+      → (startingOf regions jobs x < length (groupsOf regions jobs)) × (groupAt (groupsOf regions jobs) (startingOf regions jobs x) .shape ≡ shapeOf regions (getD (distinct jobs) x []))
   -- and each has as many sets as there are such ids
   pub starting-count : (i : ℕ) → i < length (groupsOf regions jobs)
-      → length (keep (λ x. eqb (startOf regions jobs x) i) (upTo (length (distinct jobs)))) ≡ groupAt (groupsOf regions jobs) i .sets
+      → length (keep (λ x. eqb (startingOf regions jobs x) i) (upTo (length (distinct jobs)))) ≡ groupAt (groupsOf regions jobs) i .sets
   -- a living group counts as many sets as its final group has ids
   pub living-count : All (λ g. length (finalOf regions (groupsOf regions jobs) (distinct jobs) g .ids) ≡ g .group .sets) (merged (groupsOf regions jobs) .living)
   -- so no final group is empty

@@ -4,7 +4,7 @@ use mathlib.Core.List.{List}
 use Prim.Native.Nat.{ℕ, _+_, _-_, _*_, _≤_, _<_}
 use native.Mathlib.Omega.{arith}
 use lib.ListN.{length, take, drop}
-use Rattle.laws.specs.Range.{seg}
+use Rattle.laws.specs.LentRange.{seg}
 use Rattle.laws.proofs.RangeLaws.{length-seg}
 use Rattle.laws.proofs.Products.{product, row-fits}
 use Rattle.shapes.specs.Shape.{join}
@@ -13,46 +13,46 @@ use Rattle.shapes.specs.Lent.{Narrow, Measured, Small, costOf}
 use Rattle.shapes.proofs.ShapeLaws.{overhead-most}
 use Rattle.shapes.proofs.GroupLaws.{gain-measured, gain-most}
 use Rattle.shapes.proofs.LentLaws.{narrow-small, narrow-join}
-use Rattle.slots.specs.declared.tables.Tables.{Tables}
+use Rattle.slots.specs.declared.tables.MergeTables.{MergeTables}
 use Rattle.slots.specs.Lent.{Laid, shapeIn, groupIn, Shaped, Sound, CostsAs}
 
 -- ---- slots
 
-pub slot-end : (t : Tables) (n s : ℕ) → Laid t n → s < t .groups → t .slots + s * t .regions + t .regions ≤ t .order
+pub slot-end : (t : MergeTables) (n s : ℕ) → Laid t n → s < t .groups → t .slots + s * t .regions + t .regions ≤ t .order
 slot-end t n s h l = omega (arith, h .slots-end, row-fits (t .regions) (t .groups) s l)
 
-pub slot-room : (t : Tables) (n s : ℕ) → Laid t n → s < t .groups → t .slots + s * t .regions + t .regions ≤ n
+pub slot-room : (t : MergeTables) (n s : ℕ) → Laid t n → s < t .groups → t .slots + s * t .regions + t .regions ≤ n
 slot-room t n s h l = omega (arith, slot-end t n s h l, h)
 
-pub shape-length : (t : Tables) (w : List ℕ) (s : ℕ) → Laid t (length w) → s < t .groups → length (shapeIn t w s) ≡ t .regions
+pub shape-length : (t : MergeTables) (w : List ℕ) (s : ℕ) → Laid t (length w) → s < t .groups → length (shapeIn t w s) ≡ t .regions
 unfolding shapeIn
 shape-length t w s h l = length-seg (t .slots + s * t .regions) (t .regions) w (slot-room t (length w) s h l)
 
 -- a slot lent as a part
-pub part-is : (t : Tables) (w : List ℕ) (s x : ℕ) → x ≡ t .slots + s * t .regions → take (x + t .regions - x) (drop x w) ≡ shapeIn t w s
+pub part-is : (t : MergeTables) (w : List ℕ) (s x : ℕ) → x ≡ t .slots + s * t .regions → take (x + t .regions - x) (drop x w) ≡ shapeIn t w s
 unfolding shapeIn seg
 part-is t w s x e =
     let d : x + t .regions - x ≡ t .regions = omega arith in
     ap (λ (n : ℕ). take n (drop x w)) d ∙ ap (λ (y : ℕ). take (t .regions) (drop y w)) e
 
-pub part-narrow : (t : Tables) (w : List ℕ) (s x : ℕ) → Shaped t w → s < t .groups → x ≡ t .slots + s * t .regions → Narrow (take (x + t .regions - x) (drop x w))
+pub part-narrow : (t : MergeTables) (w : List ℕ) (s x : ℕ) → Shaped t w → s < t .groups → x ≡ t .slots + s * t .regions → Narrow (take (x + t .regions - x) (drop x w))
 part-narrow t w s x h l e = subst Narrow (sym (part-is t w s x e)) (h .narrow s l)
 
-pub part-length : (t : Tables) (w : List ℕ) (s x : ℕ) → Shaped t w → s < t .groups → x ≡ t .slots + s * t .regions → length (take (x + t .regions - x) (drop x w)) ≡ t .regions
+pub part-length : (t : MergeTables) (w : List ℕ) (s x : ℕ) → Shaped t w → s < t .groups → x ≡ t .slots + s * t .regions → length (take (x + t .regions - x) (drop x w)) ≡ t .regions
 part-length t w s x h l e = ap length (part-is t w s x e) ∙ shape-length t w s (h .laid) l
 
 -- ---- weighing two slots, by their numbers
 
-pub costs-measured : (t : Tables) (w : List ℕ) (s row cols sets : ℕ) → Sound t w → s < t .groups → CostsAs t w s row cols sets → Measured (shapeIn t w s) row cols
+pub costs-measured : (t : MergeTables) (w : List ℕ) (s row cols sets : ℕ) → Sound t w → s < t .groups → CostsAs t w s row cols sets → Measured (shapeIn t w s) row cols
 costs-measured t w s row cols sets h l c = record {
   row-is = c .row-is ∙ h .measured s l .row-is;
   columns-is = c .columns-is ∙ h .measured s l .columns-is;
 }
 
-pub costs-small : (t : Tables) (w : List ℕ) (s row cols sets : ℕ) → Sound t w → s < t .groups → CostsAs t w s row cols sets → Small row cols
+pub costs-small : (t : MergeTables) (w : List ℕ) (s row cols sets : ℕ) → Sound t w → s < t .groups → CostsAs t w s row cols sets → Small row cols
 costs-small t w s row cols sets h l c = narrow-small (shapeIn t w s) row cols (h .shaped .narrow s l) (costs-measured t w s row cols sets h l c)
 
-module _ (t : Tables) (w : List ℕ) (a b x y rj cj : ℕ) (h : Sound t w) (la : a < t .groups) (lb : b < t .groups)
+module _ (t : MergeTables) (w : List ℕ) (a b x y rj cj : ℕ) (h : Sound t w) (la : a < t .groups) (lb : b < t .groups)
     (ex : x ≡ t .slots + a * t .regions) (ey : y ≡ t .slots + b * t .regions)
     (j : Measured (join (take (x + t .regions - x) (drop x w)) (take (y + t .regions - y) (drop y w))) rj cj) where
   joined-measured : Measured (join (shapeIn t w a) (shapeIn t w b)) rj cj
@@ -74,7 +74,7 @@ module _ (t : Tables) (w : List ℕ) (a b x y rj cj : ℕ) (h : Sound t w) (la :
       ∙ rw (p .sets-is, q .sets-is)
 
 -- a gain fits a word
-pub gain-few : (t : Tables) (w : List ℕ) (a r : ℕ) (g : Group) → Shaped t w → a < t .groups → r ≡ gain (groupIn t w a) g → r ≤ 131082
+pub gain-few : (t : MergeTables) (w : List ℕ) (a r : ℕ) (g : Group) → Shaped t w → a < t .groups → r ≡ gain (groupIn t w a) g → r ≤ 131082
 unfolding groupIn
 gain-few t w a r g h l e =
     omega (arith, gain-most (groupIn t w a) g, overhead-most (shapeIn t w a), shape-length t w a (h .laid) l, h .laid .regions-few)

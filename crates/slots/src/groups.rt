@@ -1,5 +1,5 @@
 // Groups in their slots: what two gain, and joining them.
-use crate::tables::Tables;
+use crate::tables::MergeTables;
 use shapes::Encoding;
 use shapes::RowShape;
 ghost use mathlib.Core.Path.{_≡_};
@@ -11,12 +11,12 @@ ghost use Rattle.shapes.specs.Group.{gain, groupCost};
 ghost use Rattle.slots.specs.Lent.{Laid, Shaped, Sound, Dealt, groupIn, starting, CostsAs, MeasuredIn, MeasuredAll, JoinedIn};
 
 // What the group in slot s costs, from its numbers.
-fn costs(work: &[u32], t: Tables, s: usize) -> Encoding
+fn costs(work: &[u32], t: MergeTables, s: usize) -> Encoding
     requires { ⌜ Laid t (length (now work)) ⌝ }
     requires { ⌜ s < t .groups ⌝ }
     ensures { λ r. ⌜ CostsAs t (now (work .entry)) s (r .shape .«row_cost») (r .shape .columns) (r .sets) ⌝ }
 {
-    let rows = t.rows;
+    let rows = t.costs;
     let columns = t.columns;
     let counts = t.counts;
     let shape = RowShape {
@@ -30,7 +30,7 @@ fn costs(work: &[u32], t: Tables, s: usize) -> Encoding
 }
 
 // What joining the groups in slots a and b saves: one pass over their shapes.
-pub fn weigh(work: &[u32], t: Tables, a: usize, b: usize) -> u32
+pub fn weigh(work: &[u32], t: MergeTables, a: usize, b: usize) -> u32
     requires { ⌜ Sound t (now work) ⌝ }
     requires { ⌜ a < t .groups ⌝ }
     requires { ⌜ b < t .groups ⌝ }
@@ -49,7 +49,7 @@ pub fn weigh(work: &[u32], t: Tables, a: usize, b: usize) -> u32
 }
 
 // Notes what the shape in slot s costs.
-fn measure(work: &mut [u32], t: Tables, s: usize)
+fn measure(work: &mut [u32], t: MergeTables, s: usize)
     requires { ⌜ Shaped t (now work) ⌝ }
     requires { ⌜ s < t .groups ⌝ }
     ensures { λ _. ⌜ MeasuredIn t s (now (work .entry)) (now (work .exit)) ⌝ }
@@ -58,14 +58,14 @@ fn measure(work: &mut [u32], t: Tables, s: usize)
     let x = t.slot(s);
     let x_end = x + regions;
     let shape = RowShape::of(&work[x..x_end]);
-    let rows = t.rows;
+    let rows = t.costs;
     let columns = t.columns;
     work[rows + s] = shape.row_cost;
     work[columns + s] = shape.columns;
 }
 
 // Of every slot.
-pub fn measure_all(work: &mut [u32], t: Tables)
+pub fn measure_all(work: &mut [u32], t: MergeTables)
     requires { ⌜ Shaped t (now work) ⌝ }
     ensures { λ _. ⌜ MeasuredAll t (now (work .entry)) (now (work .exit)) ⌝ }
 {
@@ -78,7 +78,7 @@ pub fn measure_all(work: &mut [u32], t: Tables)
 }
 
 // Makes the group in slot a be that of slots a and b joined.
-pub fn join_slots(work: &mut [u32], t: Tables, a: usize, b: usize)
+pub fn join_slots(work: &mut [u32], t: MergeTables, a: usize, b: usize)
     requires { ⌜ Sound t (now work) ⌝ }
     requires { ⌜ a < t .groups ⌝ }
     requires { ⌜ b < t .groups ⌝ }
@@ -96,7 +96,7 @@ pub fn join_slots(work: &mut [u32], t: Tables, a: usize, b: usize)
 }
 
 // What the starting groups cost together.
-pub fn size(work: &[u32], t: Tables) -> u64
+pub fn size(work: &[u32], t: MergeTables) -> u64
     requires { ⌜ Sound t (now work) ⌝ }
     requires { ⌜ Dealt t (now work) ⌝ }
     ensures { λ r. ⌜ r ≡ weigh groupCost (starting t (now (work .entry))) ⌝ }

@@ -6,4 +6,4 @@ pub use groups::join_slots;
 pub use groups::measure_all;
 pub use groups::size;
 pub use groups::weigh;
-pub use tables::Tables;
+pub use tables::MergeTables;

@@ -2,23 +2,23 @@
 ghost use mathlib.Core.Path.{_≡_};
 ghost use Prim.Native.Nat.{_+_, _*_, _<_};
 
-// Slot s is the `regions` words from slots + s * regions on; its set count, and what its shape costs, are word s of `counts`, `rows` and
+// Slot s is the `regions` words from slots + s * regions on; its set count, and what its shape costs, are word s of `counts`, `costs` and
 // `columns`. Starting group i lies in slot work[order + i]. Number c lives in slot work[place + c] - 1, or is dead where that word is 0, and then
 // it was joined into number work[into + c]. A log entry is three words.
-pub struct Tables {
+pub struct MergeTables {
     pub regions: usize,
     pub groups: usize,
     pub slots: usize,
     pub order: usize,
     pub counts: usize,
     pub place: usize,
-    pub rows: usize,
+    pub costs: usize,
     pub columns: usize,
     pub into: usize,
     pub log: usize,
 }
 
-impl Tables {
+impl MergeTables {
     // Where slot s starts.
     pub fn slot(self, s: usize) -> usize
         requires { ⌜ s < self .groups ⌝ }

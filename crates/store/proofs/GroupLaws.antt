@@ -8,7 +8,7 @@ use native.Mathlib.Omega.{arith}
 use lib.ListN.{length, take, drop, length-append}
 use lib.Seq.{take-at}
 use Rattle.laws.specs.Bounded.{tabulate}
-use Rattle.laws.specs.Range.{seg}
+use Rattle.laws.specs.LentRange.{seg}
 use Rattle.laws.specs.Joining.{joinAll}
 use Rattle.laws.proofs.BoundedLaws.{tabulate-same}
 use Rattle.shapes.specs.Shape.{Shape}

@@ -11,7 +11,7 @@ use lib.ListN.{length, getD, set, length-append}
 use borrow.Author.Tests.{eq-eqb, ne-eqb}
 use Rattle.laws.specs.Bytes.{bytesOf, over}
 use Rattle.laws.specs.Bounded.{tabulate, upTo}
-use Rattle.laws.specs.Range.{seg}
+use Rattle.laws.specs.LentRange.{seg}
 use Rattle.laws.specs.Sorting.{keep}
 use Rattle.laws.specs.Joining.{joinAll}
 use Rattle.laws.proofs.BytesLaws.{bytes-length}

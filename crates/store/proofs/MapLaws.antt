@@ -7,15 +7,15 @@ use native.Mathlib.Numerals.{add-one}
 use native.Mathlib.Omega.{arith}
 use lib.ListN.{length, getD, set}
 use Rattle.laws.specs.Bounded.{tabulate}
-use Rattle.laws.specs.Range.{seg}
+use Rattle.laws.specs.LentRange.{seg}
 use Rattle.laws.specs.Joining.{joinAll}
 use Rattle.laws.proofs.BoundedLaws.{length-tabulate, map-tabulate}
 use Rattle.laws.proofs.RangeLaws.{seg-cons, seg-none}
 use Rattle.shapes.specs.Shape.{Shape}
 use Rattle.rows.specs.Subtable.{runCount}
-use Rattle.store.specs.Placing.{Final, runsOf, allRuns, inRun, idWords}
+use Rattle.store.specs.Placing.{Final, runsOf, allRuns, inRun, idWords, stored}
 use Rattle.rows.specs.Lent.{runAt}
-use Rattle.store.specs.Lent.{Mapped, stored}
+use Rattle.store.specs.Lent.{Mapped}
 
 pub stored-append : (l k : List (ℕ × ℕ)) (m : List ℕ) → stored (l ++ k) m ≡ stored k (stored l m)
 unfolding stored

@@ -12,7 +12,7 @@ use Rattle.laws.proofs.ListLaws.{map-same}
 use Rattle.laws.specs.Bag.{weigh}
 use Rattle.laws.specs.Bytes.{bytesOf}
 use Rattle.laws.specs.Bounded.{tabulate, upTo}
-use Rattle.laws.specs.Range.{seg}
+use Rattle.laws.specs.LentRange.{seg}
 use Rattle.laws.specs.Sorting.{keep}
 use Rattle.laws.specs.Joining.{joinAll}
 use Rattle.laws.proofs.EveryLaws.{all, all-imp, all-map}
@@ -29,7 +29,7 @@ use Rattle.rows.specs.Row.{Set}
 use Rattle.rows.specs.Subtable.{runCount}
 use Rattle.store.specs.Placing.{Final, runsOf, allRuns, names, keptOf, newIndex, storeOf}
 use Rattle.rows.specs.Lent.{Put, setAt, numberIn, runAt, runsBytes}
-use Rattle.store.specs.Lent.{Drafted, Marks, Planned, Ready, Sourced, Spotted, headerBytes, chain, coordsAt, coordsOf, finalAt, finalsAt, groupBytes, groupSizes, keptBytes, listBytes, markedIn, runSizes, sizesAt, spotsOf, subtableOf, tableSize, total}
+use Rattle.store.specs.Lent.{Drafted, Marks, Planned, Ready, Sourced, Spotted, headerBytes, chain, coordsAt, coordsIn, finalAt, finalsAt, groupBytes, groupSizes, keptBytes, listBytes, markedIn, runSizes, sizesAt, spotsOf, subtableOf, tableSize, sumOf}
 use Rattle.laws.proofs.RangeLaws.{length-seg}
 use Rattle.store.proofs.RegionLaws.{kept-most}
 use Rattle.store.proofs.SpotLaws.{spots-length}
@@ -106,24 +106,24 @@ module _ (number : ℕ → ℕ) (set : ℕ → Set) (f : ℕ → Final) (n : ℕ
 -- ---- the region list
 
 module _ (src : List ℕ) (axes : ℕ) (w : List ℕ) (starts regions : ℕ) (gs : List Final) (marks : List ℕ) (m : Marks gs marks) where
-  kept-is : keptOf (length (coordsOf src axes w starts regions)) gs ≡ keep (markedIn marks) (upTo regions)
-  unfolding coordsOf
+  kept-is : keptOf (length (coordsIn src axes w starts regions)) gs ≡ keep (markedIn marks) (upTo regions)
+  unfolding coordsIn
   kept-is =
       ap (λ (n : ℕ). keep (λ r. names r gs) (upTo n)) (length-tabulate 0 regions (λ r. coordsAt src axes (getD w (starts + r) 0)))
       ∙ keep-same (λ r. names r gs) (markedIn marks) (upTo regions) (all (λ r. sym (m .is r)) (upTo regions))
 
-  coord-at : (r : ℕ) → r < regions → getD (coordsOf src axes w starts regions) r [] ≡ coordsAt src axes (getD w (starts + r) 0)
-  unfolding coordsOf
+  coord-at : (r : ℕ) → r < regions → getD (coordsIn src axes w starts regions) r [] ≡ coordsAt src axes (getD w (starts + r) 0)
+  unfolding coordsIn
   coord-at r h =
       getD-tabulate 0 regions (λ r. coordsAt src axes (getD w (starts + r) 0)) [] r h
       ∙ (let e : 0 + r ≡ r = omega arith in rw e)
 
-  pub list-is : listOf axes (coordsOf src axes w starts regions) gs
+  pub list-is : listOf axes (coordsIn src axes w starts regions) gs
       ≡ listBytes axes (length (keep (markedIn marks) (upTo regions))) (keptBytes src axes w starts (keep (markedIn marks) (upTo regions)))
   unfolding keptBytes
   list-is =
       let kept = keep (markedIn marks) (upTo regions) in
-      let coords = coordsOf src axes w starts regions in
+      let coords = coordsIn src axes w starts regions in
       let f : ℕ → List ℕ = (λ r. coordsAt src axes (getD w (starts + r) 0)) in
       rw kept-is
       (ap (λ (l : List (List ℕ)). bytesOf 2 axes ++ (bytesOf 2 (length kept) ++ joinAll l))
@@ -169,7 +169,7 @@ shape-within regions w group = omega (arith, length-take regions (drop (getD w g
 module _ (src : List ℕ) (axes starts : ℕ) (w : List ℕ) (regions groups count index : ℕ) (marks numbers : List ℕ) (runs kept : ℕ)
     (ready : Ready src axes starts w regions groups count index) (plan : Planned axes w regions groups count marks numbers runs kept) where
   abbrev pub store : List ℕ
-  store = storeOf axes (coordsOf src axes w starts regions) (setAt index w) (finalsAt regions groups count w)
+  store = storeOf axes (coordsIn src axes w starts regions) (setAt index w) (finalsAt regions groups count w)
 
   abbrev pub list : List ℕ
   list = listBytes axes kept (keptBytes src axes w starts (keep (markedIn marks) (upTo regions)))
@@ -212,7 +212,7 @@ module _ (src : List ℕ) (axes starts : ℕ) (w : List ℕ) (regions groups cou
       let few : (g : ℕ) → g < count → length (f g .shape) < 32768 = (λ g h. omega (arith, shape-few regions w (groups + 3 * g) (ready .regions-most))) in
       let n = tables-count number (setAt index w) f count few ∙ sym (plan .runs-is) in
       let l = list-is src axes w starts regions gs marks (plan .marked) ∙ ap (λ (k : ℕ). listBytes axes k (keptBytes src axes w starts (keep (markedIn marks) (upTo regions)))) (sym (plan .numbered .all)) in
-      store-pieces axes (coordsOf src axes w starts regions) (setAt index w) gs
+      store-pieces axes (coordsIn src axes w starts regions) (setAt index w) gs
       ∙ rw (l, n, list-long, tables-sized number (setAt index w) f count few, body-is)
 
   header-long : length (headerBytes runs) ≡ 8
@@ -263,7 +263,7 @@ module _ (src : List ℕ) (axes starts : ℕ) (w : List ℕ) (regions groups cou
 
 -- ---- what was drafted is what is written
 
-join-total : (ts : List (List ℕ)) → length (joinAll ts) ≡ total (map (λ (t : List ℕ). length t) ts)
+join-total : (ts : List (List ℕ)) → length (joinAll ts) ≡ sumOf (map (λ (t : List ℕ). length t) ts)
 unfolding joinAll weigh
 join-total [] = refl
 join-total (t ∷ ts) = length-append t (joinAll ts) ∙ rw (join-total ts)
@@ -282,11 +282,11 @@ module _ (src : List ℕ) (axes starts : ℕ) (w : List ℕ) (regions groups cou
   }
 
   -- the bytes that were drafted are exactly those of the store
-  pub draft-exact : bytes ≡ length (storeOf axes (coordsOf src axes w starts regions) (setAt index w) (finalsAt regions groups count w))
+  pub draft-exact : bytes ≡ length (storeOf axes (coordsIn src axes w starts regions) (setAt index w) (finalsAt regions groups count w))
   unfolding sizesAt
   draft-exact =
       let f : ℕ → Final = (λ g. finalAt regions w (groups + 3 * g)) in
       let number = newIndex (finalsAt regions groups count w) in
       let few : (g : ℕ) → g < count → length (f g .shape) < 32768 = (λ g l. omega (arith, shape-few regions w (groups + 3 * g) (ready .regions-most))) in
-      let b = sym (ap length (body-is src axes starts w regions groups count index marks numbers runs kept ready planned)) ∙ join-total (tables number (setAt index w) f count) ∙ ap total (tables-sized number (setAt index w) f count few) in
+      let b = sym (ap length (body-is src axes starts w regions groups count index marks numbers runs kept ready planned)) ∙ join-total (tables number (setAt index w) f count) ∙ ap sumOf (tables-sized number (setAt index w) f count few) in
       omega (arith, d .bytes-is, store-long src axes starts w regions groups count index marks numbers runs kept ready planned)

@@ -12,7 +12,7 @@ use borrow.Author.Tests.{eq-eqb, ne-eqb}
 use Rattle.laws.specs.Bag.{weigh}
 use Rattle.laws.specs.Bytes.{bytesOf}
 use Rattle.laws.specs.Bounded.{tabulate}
-use Rattle.laws.specs.Range.{seg}
+use Rattle.laws.specs.LentRange.{seg}
 use Rattle.laws.specs.Joining.{joinAll}
 use Rattle.laws.proofs.BagLaws.{weigh-append}
 use Rattle.laws.proofs.BytesLaws.{bytes-length}
@@ -31,7 +31,7 @@ use Rattle.rows.specs.Subtable.{runCount}
 use Rattle.limits.specs.Limits.{mostRecords, maxRegions}
 use Rattle.store.specs.Placing.{Final, modelOf, modelled, forecastOf}
 use Rattle.rows.specs.Lent.{Formed}
-use Rattle.store.specs.Lent.{FormOf, Handed, Summed, chain, finalAt, finalsAt, groupSizes, runSizes, tableSize, total}
+use Rattle.store.specs.Lent.{FormOf, Handed, Summed, chain, finalAt, finalsAt, groupSizes, runSizes, tableSize, sumOf}
 use Rattle.rows.proofs.RunLaws.{run-none, run-some}
 use Rattle.store.proofs.GroupLaws.{left, left-step, formed-few, formed-word}
 
@@ -54,26 +54,26 @@ runs-few n h = ⊎-elim
 
 module _ (f : ℕ → ℕ) (n : ℕ) where
   abbrev pub over-all : ℕ → ℕ
-  over-all k = total (tabulate k (n - k) f)
+  over-all k = sumOf (tabulate k (n - k) f)
 
-  pub sum-start : 0 + over-all 0 ≡ total (tabulate 0 n f)
-  sum-start = (let e : n - 0 ≡ n = omega arith in let z : 0 + total (tabulate 0 n f) ≡ total (tabulate 0 n f) = omega arith in rw e z)
+  pub sum-start : 0 + over-all 0 ≡ sumOf (tabulate 0 n f)
+  sum-start = (let e : n - 0 ≡ n = omega arith in let z : 0 + sumOf (tabulate 0 n f) ≡ sumOf (tabulate 0 n f) = omega arith in rw e z)
 
-  pub sum-more : (bytes k : ℕ) → bytes + over-all k ≡ total (tabulate 0 n f) → k < n → bytes + f k + over-all (k + 1) ≡ total (tabulate 0 n f)
+  pub sum-more : (bytes k : ℕ) → bytes + over-all k ≡ sumOf (tabulate 0 n f) → k < n → bytes + f k + over-all (k + 1) ≡ sumOf (tabulate 0 n f)
   unfolding tabulate weigh
   sum-more bytes k s h =
       let e : n - k ≡ suc (n - (k + 1)) = omega arith in
       let m : over-all k ≡ f k + over-all (k + 1) = rw (e, add-one) in
       omega arith
 
-  pub sum-done : (bytes k : ℕ) → bytes + over-all k ≡ total (tabulate 0 n f) → n ≤ k → bytes ≡ total (tabulate 0 n f)
+  pub sum-done : (bytes k : ℕ) → bytes + over-all k ≡ sumOf (tabulate 0 n f) → n ≤ k → bytes ≡ sumOf (tabulate 0 n f)
   unfolding tabulate weigh
   sum-done bytes k s h =
       let e : n - k ≡ 0 = omega arith in
       let z : over-all k ≡ 0 = rw e in
       omega arith
 
-pub sized : (n row count bytes runs : ℕ) → runs ≡ runCount count → bytes ≡ total (tabulate 0 (runCount count) (λ k. tableSize n row (min maxItems (count - maxItems * k))))
+pub sized : (n row count bytes runs : ℕ) → runs ≡ runCount count → bytes ≡ sumOf (tabulate 0 (runCount count) (λ k. tableSize n row (min maxItems (count - maxItems * k))))
     → Summed (runSizes n row count) bytes runs
 unfolding runSizes
 sized n row count bytes runs e f = record {
@@ -108,7 +108,7 @@ group-sized regions w group word count row bytes runs inside f r s =
 module _ (f : ℕ → List ℕ) (n : ℕ) where
   pub record Totting (bytes runs k : ℕ) : Type 0 where
     pub within : k ≤ n
-    pub bytes-rest : bytes + total (left f n k) ≡ total (chain f n)
+    pub bytes-rest : bytes + sumOf (left f n k) ≡ sumOf (chain f n)
     pub runs-rest : runs + length (left f n k) ≡ length (chain f n)
 
   pub tot-start : Totting 0 0 0
@@ -117,14 +117,14 @@ module _ (f : ℕ → List ℕ) (n : ℕ) where
       let e : n - 0 ≡ n = omega arith in
       record {
         within = omega arith;
-        bytes-rest = (let z : 0 + total (joinAll (tabulate 0 n f)) ≡ total (joinAll (tabulate 0 n f)) = omega arith in rw e z);
+        bytes-rest = (let z : 0 + sumOf (joinAll (tabulate 0 n f)) ≡ sumOf (joinAll (tabulate 0 n f)) = omega arith in rw e z);
         runs-rest = (let z : 0 + length (joinAll (tabulate 0 n f)) ≡ length (joinAll (tabulate 0 n f)) = omega arith in rw e z);
       }
 
   pub tot-more : (bytes runs k b r : ℕ) → Totting bytes runs k → k < n → Summed (f k) b r → Totting (bytes + b) (runs + r) (k + 1)
   tot-more bytes runs k b r t h s =
       let e = left-step f n k h in
-      let x = ap total e ∙ weigh-append (λ (x : ℕ). x) (f k) (left f n (k + 1)) in
+      let x = ap sumOf e ∙ weigh-append (λ (x : ℕ). x) (f k) (left f n (k + 1)) in
       let y = ap length e ∙ length-append (f k) (left f n (k + 1)) in
       record {
         within = omega arith;
@@ -136,7 +136,7 @@ module _ (f : ℕ → List ℕ) (n : ℕ) where
   unfolding joinAll tabulate weigh
   tot-done bytes runs k t h =
       let e : n - k ≡ 0 = omega arith in
-      let x : total (left f n k) ≡ 0 = rw e in
+      let x : sumOf (left f n k) ≡ 0 = rw e in
       let y : length (left f n k) ≡ 0 = rw e in
       record { bytes-is = omega (arith, t .bytes-rest); runs-is = omega (arith, t .runs-rest) }
 
@@ -161,12 +161,12 @@ module _ (regions : ℕ) (w : List ℕ) (group : ℕ) (inside : getD w (group + 
 pub cost-most : (row cols sets : ℕ) → row ≤ 262144 → cols ≤ 65536 → sets ≤ mostRecords → costOf row cols sets ≤ 549755813888
 cost-most row cols sets r c s = omega (arith, product 262144 mostRecords {a = row} {b = sets} r s)
 
-modelled-is : (f : ℕ → Final) (a n : ℕ) → modelled (tabulate a n f) ≡ total (tabulate a n (λ g. modelOf (f g)))
+modelled-is : (f : ℕ → Final) (a n : ℕ) → modelled (tabulate a n f) ≡ sumOf (tabulate a n (λ g. modelOf (f g)))
 unfolding modelled tabulate weigh
 modelled-is f a zero = refl
 modelled-is f a (suc n) = rw (modelled-is f (suc a) n)
 
-pub forecast-is : (axes kept regions groups count : ℕ) (w : List ℕ) (sum : ℕ) → sum ≡ total (tabulate 0 count (λ g. modelOf (finalAt regions w (groups + 3 * g))))
+pub forecast-is : (axes kept regions groups count : ℕ) (w : List ℕ) (sum : ℕ) → sum ≡ sumOf (tabulate 0 count (λ g. modelOf (finalAt regions w (groups + 3 * g))))
     → 12 + 6 * axes * kept + sum ≡ forecastOf axes kept (finalsAt regions groups count w)
 unfolding forecastOf finalsAt
 forecast-is axes kept regions groups count w sum e = rw (modelled-is (λ g. finalAt regions w (groups + 3 * g)) 0 count, e)

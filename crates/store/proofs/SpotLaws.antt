@@ -21,7 +21,7 @@ use Rattle.reader.specs.Store.{columnAt}
 use Rattle.rows.specs.Subtable.{runCount}
 use Rattle.store.specs.Placing.{Final}
 use Rattle.rows.specs.Lent.{Put}
-use Rattle.store.specs.Lent.{FormOf, Spotted, chain, finalAt, groupSizes, runSizes, spotOf, spotsOf, tableSize, total}
+use Rattle.store.specs.Lent.{FormOf, Spotted, chain, finalAt, groupSizes, runSizes, spotOf, spotsOf, tableSize, sumOf}
 use Rattle.rows.proofs.PutLaws.{Putting, put-start, put-more, put-done}
 use Rattle.store.proofs.GroupLaws.{left, left-step}
 
@@ -33,11 +33,11 @@ pub spot-some : (at size : ℕ) → (size ≡ 0 → ⊥) → at ≡ spotOf at si
 unfolding spotOf
 spot-some at size d = rw (ne-eqb size 0 d)
 
-spots-append : (at : ℕ) (l m : List ℕ) → spotsOf at (l ++ m) ≡ spotsOf at l ++ spotsOf (at + total l) m
+spots-append : (at : ℕ) (l m : List ℕ) → spotsOf at (l ++ m) ≡ spotsOf at l ++ spotsOf (at + sumOf l) m
 unfolding spotsOf weigh
 spots-append at [] m = rw add-zero
 spots-append at (x ∷ l) m =
-    let e : at + x + total l ≡ at + (x + total l) = omega arith in
+    let e : at + x + sumOf l ≡ at + (x + sumOf l) = omega arith in
     rw (spots-append (at + x) l m, append-assoc, e)
 
 pub spots-length : (at : ℕ) (l : List ℕ) → length (spotsOf at l) ≡ 4 * length l
@@ -48,7 +48,7 @@ spots-length at (x ∷ l) = length-append (bytesOf 4 (spotOf at x)) (spotsOf (at
 -- the offsets up to p are put, and the next subtable begins at next; the sizes in rest are still to come
 pub record Spotting (at first : ℕ) (sizes old new : List ℕ) (p next : ℕ) (rest : List ℕ) : Type 0 where
   pub put : Putting at (spotsOf first sizes) old new p (spotsOf next rest)
-  pub sum : next + total rest ≡ first + total sizes
+  pub sum : next + sumOf rest ≡ first + sumOf sizes
 
 pub spot-start : (at first : ℕ) (sizes old : List ℕ) → Spotting at first sizes old old at first sizes
 spot-start at first sizes old = record { put = put-start at (spotsOf first sizes) old; sum = refl }
@@ -69,14 +69,14 @@ module _ (at first : ℕ) (sizes old : List ℕ) (room : at + length (spotsOf fi
       record {
         put =
             rw (t .put .end, t .next-is)
-            (put-more at (spotsOf first sizes) old new p (spotsOf next x) (spotsOf (next + total x) rest) after (length (spotsOf next x)) room (rw (spots-append next x rest) at a) refl (t .put .is));
+            (put-more at (spotsOf first sizes) old new p (spotsOf next x) (spotsOf (next + sumOf x) rest) after (length (spotsOf next x)) room (rw (spots-append next x rest) at a) refl (t .put .is));
         sum = omega (arith, s .sum, t .next-is);
       }
 
-  pub group-spots : (x rest : List ℕ) → Spotting at first sizes old new p next (x ++ rest) → first + total sizes < 4294967296
-      → (p + length (spotsOf next x) ≤ length new) × (next + total x < 4294967296)
+  pub group-spots : (x rest : List ℕ) → Spotting at first sizes old new p next (x ++ rest) → first + sumOf sizes < 4294967296
+      → (p + length (spotsOf next x) ≤ length new) × (next + sumOf x < 4294967296)
   group-spots x rest s h =
-      let e = ap length (spots-append next x rest) ∙ length-append (spotsOf next x) (spotsOf (next + total x) rest) in
+      let e = ap length (spots-append next x rest) ∙ length-append (spotsOf next x) (spotsOf (next + sumOf x) rest) in
       let m = weigh-append (λ (y : ℕ). y) x rest in
       (omega (arith, s .put .long, s .put .end), omega (arith, s .sum))
 
@@ -89,7 +89,7 @@ module _ (at first : ℕ) (sizes old : List ℕ) (room : at + length (spotsOf fi
     sum = omega (arith, s .sum);
   }
 
-  pub one-spot : (x : ℕ) (rest : List ℕ) → Spotting at first sizes old new p next (x ∷ rest) → first + total sizes < 4294967296
+  pub one-spot : (x : ℕ) (rest : List ℕ) → Spotting at first sizes old new p next (x ∷ rest) → first + sumOf sizes < 4294967296
       → (p + 4 ≤ length new) × (next + x < 4294967296)
   unfolding spotsOf weigh
   one-spot x rest s h =

@@ -16,14 +16,14 @@ use Rattle.rows.specs.Row.{Set}
 use Rattle.laws.specs.Bounded.{tabulate, upTo}
 use Rattle.shapes.specs.Shape.{Shape}
 use Rattle.shapes.specs.Group.{maxItems}
-use Rattle.laws.specs.Range.{seg}
+use Rattle.laws.specs.LentRange.{seg}
 use Rattle.laws.specs.Every.{All}
 use Rattle.laws.specs.Sorting.{keep}
 use Rattle.laws.specs.Joining.{joinAll}
 use Rattle.rows.specs.Subtable.{runCount}
 use Rattle.rows.specs.Lent.{Put, Stored, runsBytes}
 use Rattle.stores.specs.Stores.{slotBytes}
-use Rattle.store.specs.Placing.{Final, idWords, names, slotOf}
+use Rattle.store.specs.Placing.{Final, idWords, names, slotOf, stored}
 
 -- f at each number below n, one after the other
 unfoldable pub chain : (ℕ → List ℕ) → ℕ → List ℕ
@@ -106,12 +106,12 @@ groupSizes g = runSizes (length (columnsOf (g .shape))) (columnAt (wordCount (g 
 unfoldable pub sizesAt : ℕ → ℕ → ℕ → List ℕ → List ℕ
 sizesAt regions groups n w = chain (λ g. groupSizes (finalAt regions w (groups + 3 * g))) n
 
-abbrev pub total : List ℕ → ℕ
-total l = weigh (λ (x : ℕ). x) l
+abbrev pub sumOf : List ℕ → ℕ
+sumOf l = weigh (λ (x : ℕ). x) l
 
 -- how much they are together, and how many
 pub record Summed (sizes : List ℕ) (bytes runs : ℕ) : Type 0 where
-  pub bytes-is : bytes ≡ total sizes
+  pub bytes-is : bytes ≡ sumOf sizes
   pub runs-is : runs ≡ length sizes
 
 -- the numbers are those of the group's rows
@@ -137,11 +137,11 @@ spotsOf at (l ∷ ls) = bytesOf 4 (spotOf at l) ++ spotsOf (at + l) ls
 -- offsets were put, and the next subtable would begin at next
 pub record Spotted (at first : ℕ) (sizes old new : List ℕ) (r next : ℕ) : Type 0 where
   pub put : Put at (spotsOf first sizes) old new r
-  pub next-is : next ≡ first + total sizes
+  pub next-is : next ≡ first + sumOf sizes
 
 -- the coordinates of all regions
-unfoldable pub coordsOf : List ℕ → ℕ → List ℕ → ℕ → ℕ → List (List ℕ)
-coordsOf src axes w starts regions = tabulate 0 regions (λ r. coordsAt src axes (getD w (starts + r) 0))
+unfoldable pub coordsIn : List ℕ → ℕ → List ℕ → ℕ → ℕ → List (List ℕ)
+coordsIn src axes w starts regions = tabulate 0 regions (λ r. coordsAt src axes (getD w (starts + r) 0))
 
 -- ---- the whole store
 
@@ -167,7 +167,7 @@ pub record Planned (axes : ℕ) (w : List ℕ) (regions groups count : ℕ) (mar
   pub numbered : Numbered marks regions numbers kept
   pub runs-is : runs ≡ length (sizesAt regions groups count w)
   pub runs-few : runs < 65536
-  pub short : 8 + 4 * runs + (4 + 6 * axes * kept) + total (sizesAt regions groups count w) < 4294967296
+  pub short : 8 + 4 * runs + (4 + 6 * axes * kept) + sumOf (sizesAt regions groups count w) < 4294967296
 
 -- the same, worked out before anything is written, and the bytes that the store takes
 pub record Drafted (axes : ℕ) (w : List ℕ) (regions groups count : ℕ) (marks numbers : List ℕ) (bytes runs kept : ℕ) : Type 0 where
@@ -177,14 +177,9 @@ pub record Drafted (axes : ℕ) (w : List ℕ) (regions groups count : ℕ) (mar
   pub numbered : Numbered marks regions numbers kept
   pub runs-is : runs ≡ length (sizesAt regions groups count w)
   pub runs-few : runs < 65536
-  pub bytes-is : bytes ≡ 8 + 4 * runs + (4 + 6 * axes * kept) + total (sizesAt regions groups count w)
+  pub bytes-is : bytes ≡ 8 + 4 * runs + (4 + 6 * axes * kept) + sumOf (sizesAt regions groups count w)
 
 -- ---- the map
-
--- words stored at their ids, one after another
-unfoldable pub stored : List (ℕ × ℕ) → List ℕ → List ℕ
-stored [] m = m
-stored (e ∷ l) m = stored l (set m (e .0) (e .1))
 
 -- the ids of these runs have their words, and what follows is at position r
 pub record Mapped (first : ℕ) (rs : List Final) (old new : List ℕ) (r : ℕ) : Type 0 where

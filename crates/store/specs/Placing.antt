@@ -5,7 +5,7 @@ use mathlib.Core.List.{List, [], _∷_, _++_, map}
 use mathlib.Core.Option.{Option, none, some}
 use Prim.Native.Nat.{ℕ, suc, _+_, _*_}
 use lib.Dec.{eqb}
-use lib.ListN.{length, getD, take, drop}
+use lib.ListN.{length, getD, take, drop, set}
 use Rattle.laws.specs.Pick.{pick}
 use Rattle.laws.specs.Bounded.{tabulate, upTo}
 use Rattle.laws.specs.Sorting.{keep}
@@ -38,6 +38,11 @@ inRun outer inner (x ∷ xs) = (x, outer * 65536 + inner) ∷ inRun outer (suc i
 unfoldable pub idWords : ℕ → List Final → List (ℕ × ℕ)
 idWords outer [] = []
 idWords outer (r ∷ rs) = inRun outer 0 (r .ids) ++ idWords (suc outer) rs
+
+-- the map: each id's word put at its place, one after another
+unfoldable pub stored : List (ℕ × ℕ) → List ℕ → List ℕ
+stored [] m = m
+stored (e ∷ l) m = stored l (set m (e .0) (e .1))
 
 -- ---- regions that are kept (C5)
 

@@ -3,11 +3,11 @@
 ghost use mathlib.Core.Path.{_≡_};
 ghost use Prim.Native.Nat.{_+_, _≤_, _<_};
 ghost use lib.ListN.{length};
-ghost use Rattle.laws.specs.Range.{seg};
+ghost use Rattle.laws.specs.LentRange.{seg};
 ghost use Rattle.laws.specs.Every.{All};
 ghost use Rattle.limits.specs.Limits.{maxItems};
-ghost use Rattle.store.specs.Placing.{inRun};
-ghost use Rattle.store.specs.Lent.{Named, spotOf, stored, tableSize};
+ghost use Rattle.store.specs.Placing.{inRun, stored};
+ghost use Rattle.store.specs.Lent.{Named, spotOf, tableSize};
 
 // Marks each region that has a width in the shape.
 pub fn mark_shape(shape: &[u32], marks: &mut [u32])

@@ -8,7 +8,7 @@ use lib.ListN.{length, getD, set, take, drop, length-set}
 use lib.Seq.{getD-set-same, getD-set-other}
 use Rattle.laws.specs.declared.Order.{Order}
 use Rattle.laws.specs.declared.Order.the-variants.{Less, Equal, Greater}
-use Rattle.laws.specs.Range.{Apart, Only, seg}
+use Rattle.laws.specs.LentRange.{Apart, Only, seg}
 use Rattle.laws.proofs.Cases.{Tri, tri, lt-or-ge}
 use Rattle.laws.proofs.Cases.Tri.{below, same, above}
 use Rattle.laws.proofs.RangeLaws.{only-refl, only-trans, only-set, only-weaken, length-seg}
@@ -20,7 +20,7 @@ use Rattle.shapes.proofs.OrderLaws.{order-equal, order-flip, order-chain}
 use Rattle.table.specs.declared.Shapes.{Shapes}
 use Rattle.table.specs.declared.Found.{Found}
 use Rattle.table.specs.declared.Found.the-variants.{At, Missing}
-use Rattle.table.specs.Table.{shapeIn, slotIn, SlotFits, Searchable, FoundAt, FoundGap, FoundIn, InsertedAt}
+use Rattle.table.specs.LentTable.{shapeIn, slotIn, SlotFits, Searchable, FoundAt, FoundGap, FoundIn, InsertedAt}
 use Rattle.groups.proofs.GroupLaws.{flip-less, flip-more}
 
 pub shape-in-length : (t : Shapes) (s : ℕ) (w : List ℕ) → SlotFits t s w → length (shapeIn t s w) ≡ t .regions

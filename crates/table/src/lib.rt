@@ -7,7 +7,7 @@ ghost use mathlib.Core.Path.{_≡_};
 ghost use Prim.Native.Nat.{_+_, _*_, _<_, _≤_};
 ghost use lib.ListN.{length};
 ghost use Rattle.shapes.specs.Order.{order};
-ghost use Rattle.table.specs.Table.{shapeIn, SlotFits, Searchable, FoundIn, InsertedAt};
+ghost use Rattle.table.specs.LentTable.{shapeIn, SlotFits, Searchable, FoundIn, InsertedAt};
 
 // Where the table lies: the slots, one more than `room` of them, of `regions` words each, from `slots` on; the slot of each group number
 // from `order` on, and the count of sets of each slot from `counts` on, `room` words each.

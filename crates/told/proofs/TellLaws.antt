@@ -16,8 +16,8 @@ use Rattle.sets.specs.Set.{Set, wordOf, Proper}
 use Rattle.sets.proofs.SetLaws.{word-past}
 use Rattle.said.specs.Records.{kind, axisKind, valueKind, endKind, regionOf, valueWord, recordAt}
 use Rattle.said.specs.Sets.{Region, regionList, firstLike, has, withUse, indexIn, withValue}
-use Rattle.said.specs.Job.{Said, inAxes, afterValue, afterEnd, regionsOnly, fine, walk}
-use Rattle.said.specs.Good.{Good}
+use Rattle.said.specs.Job.{Said, inAxes, afterValue, afterEnd, regionsOnly, fine, recordsFrom}
+use Rattle.said.specs.LentGood.{SetsGood}
 use Rattle.said.proofs.GoodLaws.{good-start, good-value, good-end, has-more, has-first, fresh-differs}
 use Rattle.said.proofs.PlacedLaws.{with-other, with-here}
 use Rattle.said.proofs.WalkLaws.{walk-keeps}
@@ -53,7 +53,7 @@ module _ (axes : ℕ) (job : List ℕ) where
 
   -- before record i, in the sets
   pub record Telling (i : ℕ) (s : Said) : Type 0 where
-    pub good : Good s
+    pub good : SetsGood s
     pub ends : endsBefore job i ≡ length (s .sets)
     pub regions-are : s .regions ≡ regionList axes (length (s .regions)) job
     pub used-low : All (λ p. p < length (s .regions)) (s .used)
@@ -294,7 +294,7 @@ module _ (axes : ℕ) (job : List ℕ) where
       }
 
 -- all that the records of a job have told
-pub all-told : (axes mode : ℕ) (job : List ℕ) (records : ℕ) (s : Said) → walk axes mode job job records 0 inAxes ≡ fine s
+pub all-told : (axes mode : ℕ) (job : List ℕ) (records : ℕ) (s : Said) → recordsFrom axes mode job job records 0 inAxes ≡ fine s
     → Telling axes job records s × (s .named ≡ [])
 all-told axes mode job records s e =
     walk-keeps axes mode job (Quiet axes job) (Telling axes job)

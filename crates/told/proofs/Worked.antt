@@ -10,8 +10,8 @@ use Rattle.laws.specs.Signed.{word, signed, zeroWord}
 use Rattle.sets.specs.Set.{Set, wordOf}
 use Rattle.said.specs.Records.{zeros, axisZeros, valueZeros, endZeros, valueWord, recordCount}
 use Rattle.said.specs.Refusals.{pairRecords, firstFailed, publishedWork, earlyNo, axisNo, valueNo, endNo}
-use Rattle.said.specs.Sets.{Region, coordinates, regionList, sameRegion, like, firstLike, has, withUse, indexIn, placed, withValue}
-use Rattle.said.specs.Job.{Said, fine, unless, afterValue, afterEnd, valueStep, endStep, setStep, regionsOnly, step, ended, endedSets, follow, walk, outcomeFrom, outcome}
+use Rattle.said.specs.Sets.{Region, coordinates, regionList, sameRegion, like, firstLike, has, withUse, indexIn, withEntry, withValue}
+use Rattle.said.specs.Job.{Said, fine, unless, afterValue, afterEnd, valueStep, endStep, setStep, regionsOnly, step, ended, endedSets, follow, recordsFrom, outcomeFrom, outcome}
 use Rattle.told.specs.Told.{countKind, endsBefore, ValueIn, coordinatesAt, indexOf, Given, Told}
 use Rattle.told.proofs.Bytes.{told}
 
@@ -49,7 +49,7 @@ s = record {
 }
 
 taken : outcome 1 0 job 4096 pairRecords ≡ fine s
-unfolding outcome outcomeFrom walk follow ended endedSets step regionsOnly setStep endStep valueStep afterEnd afterValue unless withValue placed indexIn withUse has firstLike like sameRegion regionList coordinates endNo valueNo axisNo earlyNo publishedWork firstFailed valueWord endZeros valueZeros axisZeros zeros word signed be allBelow
+unfolding outcome outcomeFrom recordsFrom follow ended endedSets step regionsOnly setStep endStep valueStep afterEnd afterValue unless withValue withEntry indexIn withUse has firstLike like sameRegion regionList coordinates endNo valueNo axisNo earlyNo publishedWork firstFailed valueWord endZeros valueZeros axisZeros zeros word signed be allBelow
 taken = refl
 
 -- end records before each record, and in all; regions by index and by coordinates

@@ -11,8 +11,7 @@ use Rattle.sets.specs.Set.{Set, Ascending, Proper}
 use Rattle.sets.specs.Ids.{place, distinct, sharedIds}
 use Rattle.sets.proofs.IdLaws as ids
 use Rattle.rule.specs.Told.{words}
-use Rattle.store.specs.Placing.{allRuns, idWords}
-use Rattle.store.specs.Lent.{stored}
+use Rattle.store.specs.Placing.{allRuns, idWords, stored}
 use Rattle.said.specs.Records.{recordBytes}
 use Rattle.said.specs.Job.{Said, fine}
 use Rattle.said.proofs.SoundLaws.{Bytes, WellSaid, well-said}
@@ -21,10 +20,10 @@ use Rattle.encoder.proofs.DenseIds.{ids-length}
 use Rattle.finishing.specs.declared.answers.Report.{Report}
 use Rattle.finishing.specs.declared.answers.Built.the-variants.{Done}
 use Rattle.finishing.specs.Late.{storeFor, reportOf}
-use Rattle.build.specs.Lending.{Lending}
-use Rattle.build.specs.Build.{coordsOf, packedOf, outcomeOf, answerOf, after}
-use Rattle.build.proofs.PackedLaws.{Good, shared-good}
-use Rattle.build.proofs.Accepted.{Accepted, accepted, packedIn, map-is, store-front, log-front, id-at}
+use Rattle.packer.specs.Lending.{Lending}
+use Rattle.packer.specs.Build.{coordsInUse, packedOf, outcomeOf, answerOf, after}
+use Rattle.packer.proofs.PackedLaws.{WellPacked, shared-good}
+use Rattle.packer.proofs.Accepted.{Accepted, accepted, packedIn, map-is, store-front, log-front, id-at}
 use Rattle.unordered.proofs.Alike.{Fine}
 
 -- ---- the packed sets of mode 0
@@ -51,10 +50,10 @@ sets-are s = ap (λ (k : Packed). k .sets) (shared-of s) ∙ shared-sets (length
 
 pub record IsDone (axes : ℕ) (a : Lending) (s : Said) (c : Report) : Type 0 where
   pub fine-sets : All (Fine (length (s .used))) (s .sets)
-  pub good : Good (length (s .used)) (packedOf 0 s)
-  pub report-is : c ≡ reportOf axes (coordsOf s) (packedOf 0 s)
+  pub good : WellPacked (length (s .used)) (packedOf 0 s)
+  pub report-is : c ≡ reportOf axes (coordsInUse s) (packedOf 0 s)
   pub map-room : length (packedOf 0 s .sets) ≤ length (a .lent .map)
-  pub store-is : take (c .bytes) (after a .lent .out) ≡ storeFor axes (coordsOf s) (packedOf 0 s)
+  pub store-is : take (c .bytes) (after a .lent .out) ≡ storeFor axes (coordsInUse s) (packedOf 0 s)
   pub log-is : take (3 * c .merges) (after a .lent .log) ≡ words (packedOf 0 s .log)
   pub map-is : after a .lent .map ≡ stored (idWords 0 (allRuns (packedOf 0 s .finals))) (a .lent .map)
   -- the id of set n is the place of that among the distinct ones
@@ -81,10 +80,10 @@ module _ (a : Lending) (c : Report) (mode : a .mode ≡ 0) (bytes : Bytes (a .jo
       let s = z .said in
       record {
         fine-sets = all-and (Ascending 0) (Proper (length (s .used))) (s .sets) (well .good .sets-rising) (well .good .sets-proper);
-        good = subst (Good (length (s .used))) (sym (shared-of s)) (shared-good (length (s .used)) (s .sets) (well .good .sets-proper) (well .words-low));
-        report-is = z .report-is ∙ ap (reportOf (a .axes) (coordsOf s)) packed-is;
+        good = subst (WellPacked (length (s .used))) (sym (shared-of s)) (shared-good (length (s .used)) (s .sets) (well .good .sets-proper) (well .words-low));
+        report-is = z .report-is ∙ ap (reportOf (a .axes) (coordsInUse s)) packed-is;
         map-room = subst (λ (k : Packed). length (k .sets) ≤ length (a .lent .map)) packed-is (z .room .map-fits);
-        store-is = store-front a c z ∙ ap (storeFor (a .axes) (coordsOf s)) packed-is;
+        store-is = store-front a c z ∙ ap (storeFor (a .axes) (coordsInUse s)) packed-is;
         log-is = log-front a c z ∙ ap (λ (k : Packed). words (k .log)) packed-is;
         map-is = map-is a c z ∙ ap (λ (k : Packed). stored (idWords 0 (allRuns (k .finals))) (a .lent .map)) packed-is;
         id-is = id-at-set;

@@ -7,15 +7,14 @@ use lib.ListN.{length, getD, length-map}
 use Rattle.laws.specs.Every.{All, EachTwo}
 use Rattle.laws.proofs.EveryLaws.{all-imp}
 use Rattle.laws.proofs.ListLaws.{getD-map-in}
-use Rattle.store.specs.Placing.{Final, allRuns, idWords, keptOf, storeOf, forecastOf}
-use Rattle.store.specs.Lent.{stored}
+use Rattle.store.specs.Placing.{Final, allRuns, idWords, keptOf, storeOf, forecastOf, stored}
 use Rattle.readback.proofs.MapBack.{map-at}
 use Rattle.encoder.specs.Packed.{Packed}
 use Rattle.encoder.specs.Lent.{relabel}
 use Rattle.finishing.specs.Late.{storeFor, regionsKept, reportOf}
 use Rattle.finishing.proofs.StoreLaws.{runs-relabel, runs-count, kept-relabel, forecast-relabel, store-relabel}
-use Rattle.build.proofs.PackedLaws.{Good}
-use Rattle.build.proofs.RunSound.{Spot, id-spot, ids-once}
+use Rattle.packer.proofs.PackedLaws.{WellPacked}
+use Rattle.packer.proofs.RunSound.{Spot, id-spot, ids-once}
 use Rattle.unordered.proofs.Rows.{Renamed}
 
 abbrev none : Final
@@ -57,7 +56,7 @@ word-relabel f rs rs′ m m′ x e p once once′ h h′ =
 
 -- ---- packed sets
 
-module _ (regions : ℕ) (f : ℕ → ℕ) (k m : Packed) (r : Renamed f k m) (good : Good regions k) (good′ : Good regions m) where
+module _ (regions : ℕ) (f : ℕ → ℕ) (k m : Packed) (r : Renamed f k m) (good : WellPacked regions k) (good′ : WellPacked regions m) where
   below-all : All (λ (g : Final). All (λ x. x < length (k .sets)) (g .ids)) (k .finals)
   below-all = all-imp (λ (g : Final) h. all-imp (λ x c. c .0) (g .ids) h) (k .finals) (good .covers)
 

@@ -16,10 +16,10 @@ use Rattle.encoder.specs.Packed.{Packed, shared}
 use Rattle.finishing.specs.declared.answers.Report.{Report}
 use Rattle.finishing.specs.declared.answers.Built.the-variants.{Done}
 use Rattle.finishing.specs.Late.{storeFor, reportOf}
-use Rattle.build.specs.Lending.{Lending}
-use Rattle.build.specs.Build.{regionBytes, coordsOf, packedOf, outcomeOf, answerOf, after}
-use Rattle.build.proofs.PackedLaws.{Good}
-use Rattle.build.proofs.Accepted.{coords-long}
+use Rattle.packer.specs.Lending.{Lending}
+use Rattle.packer.specs.Build.{regionBytes, coordsInUse, packedOf, outcomeOf, answerOf, after}
+use Rattle.packer.proofs.PackedLaws.{WellPacked}
+use Rattle.packer.proofs.Accepted.{coords-long}
 use Rattle.unordered.specs.Same.{SameSets, placeOf, SameBuild}
 use Rattle.unordered.proofs.Alike.{Fine}
 use Rattle.unordered.proofs.Rows.{Renamed, shared-same}
@@ -40,8 +40,8 @@ module _ (axes : ℕ) (a b : Lending) (s t : Said) (c d : Report) (same : SameSe
   fine-t : All (Fine n) (t .sets)
   fine-t = subst (λ (m : ℕ). All (Fine m) (t .sets)) used-same (q .fine-sets)
 
-  good-t : Good n (packedOf 0 t)
-  good-t = subst (λ (m : ℕ). Good m (packedOf 0 t)) used-same (q .good)
+  good-t : WellPacked n (packedOf 0 t)
+  good-t = subst (λ (m : ℕ). WellPacked m (packedOf 0 t)) used-same (q .good)
 
   renamed : Renamed other (packedOf 0 s) (packedOf 0 t)
   renamed =
@@ -49,15 +49,15 @@ module _ (axes : ℕ) (a b : Lending) (s t : Said) (c d : Report) (same : SameSe
       (subst (Renamed other (shared n (s .sets))) (sym (shared-of t ∙ ap (λ (m : ℕ). shared m (t .sets)) used-same))
       (shared-same n (s .sets) (t .sets) (p .fine-sets) fine-t (same .there) (same .back)))
 
-  stores : storeFor axes (coordsOf s) (packedOf 0 s) ≡ storeFor axes (coordsOf t) (packedOf 0 t)
+  stores : storeFor axes (coordsInUse s) (packedOf 0 s) ≡ storeFor axes (coordsInUse t) (packedOf 0 t)
   stores =
-      store-same n other (packedOf 0 s) (packedOf 0 t) renamed (p .good) good-t axes (coordsOf s)
+      store-same n other (packedOf 0 s) (packedOf 0 t) renamed (p .good) good-t axes (coordsInUse s)
       ∙ ap (λ (x : List (List ℕ)). storeFor axes x (packedOf 0 t)) (same .regions-same)
 
   reports : c ≡ d
   reports =
       p .report-is
-      ∙ report-same n other (packedOf 0 s) (packedOf 0 t) renamed (p .good) good-t axes (coordsOf s)
+      ∙ report-same n other (packedOf 0 s) (packedOf 0 t) renamed (p .good) good-t axes (coordsInUse s)
       ∙ ap (λ (x : List (List ℕ)). reportOf axes x (packedOf 0 t)) (same .regions-same)
       ∙ sym (q .report-is)
 
@@ -77,8 +77,8 @@ module _ (axes : ℕ) (a b : Lending) (s t : Said) (c d : Report) (same : SameSe
   both : a .axes ≡ axes → b .axes ≡ axes → SameBuild a b s t c d
   both f g = record {
     counts = reports;
-    store = ap (λ (n : ℕ). storeFor n (coordsOf s) (packedOf 0 s)) f ∙ stores ∙ sym (ap (λ (n : ℕ). storeFor n (coordsOf t) (packedOf 0 t)) g);
-    store-is = p .store-is ∙ sym (ap (λ (n : ℕ). storeFor n (coordsOf s) (packedOf 0 s)) f);
+    store = ap (λ (n : ℕ). storeFor n (coordsInUse s) (packedOf 0 s)) f ∙ stores ∙ sym (ap (λ (n : ℕ). storeFor n (coordsInUse t) (packedOf 0 t)) g);
+    store-is = p .store-is ∙ sym (ap (λ (n : ℕ). storeFor n (coordsInUse s) (packedOf 0 s)) f);
     out = p .store-is ∙ stores ∙ sym (q .store-is);
     log = p .log-is ∙ ap words (renamed .log-is) ∙ sym (q .log-is);
     places = places-same;
@@ -86,8 +86,8 @@ module _ (axes : ℕ) (a b : Lending) (s t : Said) (c d : Report) (same : SameSe
 
 -- of equal coordinates: where the regions in use, by first use, have these numbers as coordinates, their bytes are
 -- equal
-pub regions-same : (s t : Said) → map (λ q. getD (s .regions) q []) (s .used) ≡ map (λ q. getD (t .regions) q []) (t .used) → coordsOf s ≡ coordsOf t
-unfolding coordsOf
+pub regions-same : (s t : Said) → map (λ q. getD (s .regions) q []) (s .used) ≡ map (λ q. getD (t .regions) q []) (t .used) → coordsInUse s ≡ coordsInUse t
+unfolding coordsInUse
 regions-same s t e =
     sym (map-map regionBytes (λ q. getD (s .regions) q []) (s .used)) ∙ ap (map regionBytes) e ∙ map-map regionBytes (λ q. getD (t .regions) q []) (t .used)
 

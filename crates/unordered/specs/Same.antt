@@ -8,13 +8,13 @@ use Rattle.sets.specs.Set.{Set}
 use Rattle.said.specs.Job.{Said}
 use Rattle.finishing.specs.declared.answers.Report.{Report}
 use Rattle.finishing.specs.Late.{storeFor}
-use Rattle.build.specs.Lending.{Lending}
-use Rattle.build.specs.Build.{coordsOf, packedOf, after}
+use Rattle.packer.specs.Lending.{Lending}
+use Rattle.packer.specs.Build.{coordsInUse, packedOf, after}
 
 -- What two jobs say: the same regions by region index, which is by first use, and each set of the one is a set of the other.
 pub record SameSets (s t : Said) : Type 0 where
   -- the regions in use have equal coordinates, index by index
-  pub regions-same : coordsOf s ≡ coordsOf t
+  pub regions-same : coordsInUse s ≡ coordsInUse t
   -- each set of the one is a set of the other, however often
   pub there : (x : Set) → List·Memᴰ x (s .sets) → List·Memᴰ x (t .sets)
   pub back : (x : Set) → List·Memᴰ x (t .sets) → List·Memᴰ x (s .sets)
@@ -31,8 +31,8 @@ pub record SameBuild (a b : Lending) (s t : Said) (c d : Report) : Type 0 where
   -- the counts (A1), all ten
   pub counts : c ≡ d
   -- the bytes of the store, of the definition and of what lies in the lent output
-  pub store : storeFor (a .axes) (coordsOf s) (packedOf 0 s) ≡ storeFor (b .axes) (coordsOf t) (packedOf 0 t)
-  pub store-is : take (c .bytes) (after a .lent .out) ≡ storeFor (a .axes) (coordsOf s) (packedOf 0 s)
+  pub store : storeFor (a .axes) (coordsInUse s) (packedOf 0 s) ≡ storeFor (b .axes) (coordsInUse t) (packedOf 0 t)
+  pub store-is : take (c .bytes) (after a .lent .out) ≡ storeFor (a .axes) (coordsInUse s) (packedOf 0 s)
   pub out : take (c .bytes) (after a .lent .out) ≡ take (d .bytes) (after b .lent .out)
   -- the log (M5), an entry of three words a merge
   pub log : take (3 * c .merges) (after a .lent .log) ≡ take (3 * d .merges) (after b .lent .log)

@@ -10,17 +10,17 @@ use lib.Seq.{getD-set-same, getD-set-other, getD-at}
 use lib.Dec.{eqb}
 use borrow.Author.Tests.{eq-eqb, ne-eqb}
 use borrow.Author.Count.{below-more}
-use Rattle.laws.specs.Range.{Apart, Outside, Only}
+use Rattle.laws.specs.LentRange.{Apart, Outside, Only}
 use Rattle.laws.specs.Signed.{zeroWord}
 use Rattle.laws.proofs.Cases.{lt-or-ge, same-or-not}
 use Rattle.laws.proofs.RangeLaws.{only-refl, only-trans, only-set, only-weaken}
 use Rattle.sets.specs.Set.{Set, Ascending}
-use Rattle.sets.specs.Lent.{entries, startOf, countOf, setOf}
-use Rattle.values.specs.declared.tables.Tables.{Tables}
-use Rattle.said.specs.Sets.{has, withUse, indexIn, placed, withValue, firstLike}
+use Rattle.sets.specs.Lent.{entries, entriesAt, countOf, setOf}
+use Rattle.values.specs.declared.tables.SetTables.{SetTables}
+use Rattle.said.specs.Sets.{has, withUse, indexIn, withEntry, withValue, firstLike}
 use Rattle.said.specs.Job.{Said, afterValue, afterEnd}
 use Rattle.values.specs.Lent.{Stamps, Uses, UsedNow, PutEntry, Holds, ValueFits, PutValue, TookValue, EndedSet}
-use Rattle.said.specs.Good.{Good}
+use Rattle.said.specs.LentGood.{SetsGood}
 use Rattle.said.specs.Records.{regionOf, valueZeros, valueWord}
 use Rattle.said.specs.Refusals.{badRecord, unknownRegion, regionTwice, valueNo}
 use Rattle.said.proofs.RecordLaws.{value-bad, value-unknown, value-twice, value-passed}
@@ -67,14 +67,14 @@ stamps-put stamp regions mark q named w b room s = record {
 -- ---- one more value
 
 -- the entries of the set are as they were
-pub rising-kept : {t : Tables} {uses start count : ℕ} {w : List ℕ} (f : ValueFits w t uses start count) (q m : ℕ) (w₂ : List ℕ)
+pub rising-kept : {t : SetTables} {uses start count : ℕ} {w : List ℕ} (f : ValueFits w t uses start count) (q m : ℕ) (w₂ : List ℕ)
     → Only ((t .slot, t .regions) ∷ (t .used + uses, 1) ∷ []) (set w (t .stamp + q) m) w₂ → Ascending 0 (entries start count w₂)
 rising-kept {t} {uses} {start} {count} {w} f q m w₂ o =
     rw (entries-kept count start w w₂ (λ j x y.
     o .kept j (record { apart = λ p. absurd (omega (arith, f .used-in, f .body-in)) }, (record { apart = λ p. absurd (omega (arith, f .body-in)) }, tt))
     ∙ getD-set-other w (t .stamp + q) j m 0 (omega (arith, f .used-in, f .slot-to, f .body-in)))) (f .rising)
 
-module _ {t : Tables} {s : Said} {sets uses start count : ℕ} {w : List ℕ} (h : Holds w t s sets uses start count) (f : ValueFits w t uses start count)
+module _ {t : SetTables} {s : Said} {sets uses start count : ℕ} {w : List ℕ} (h : Holds w t s sets uses start count) (f : ValueFits w t uses start count)
     (q v : ℕ) (b : q < t .regions) (mark : ℕ) (m : mark ≡ sets + 1) where
   abbrev w₁ : List ℕ
   w₁ = set w (t .stamp + q) mark
@@ -134,7 +134,7 @@ module _ {t : Tables} {s : Said} {sets uses start count : ℕ} {w : List ℕ} (h
         → Holds w′ t (afterValue s q v) sets uses′ start count′
     unfolding afterValue setOf
     after w′ count′ n low high stamps us begun =
-        let start-same : (x : ℕ) → x < sets → startOf (t .rows) x w′ ≡ startOf (t .rows) x w = λ x l. low (t .rows + 2 * x) (omega (arith, h .rows-low)) in
+        let start-same : (x : ℕ) → x < sets → entriesAt (t .rows) x w′ ≡ entriesAt (t .rows) x w = λ x l. low (t .rows + 2 * x) (omega (arith, h .rows-low)) in
         let count-same : (x : ℕ) → x < sets → countOf (t .rows) x w′ ≡ countOf (t .rows) x w = λ x l. low (t .rows + 2 * x + 1) (omega (arith, h .rows-low)) in
         record {
           regions-are = h .regions-are;
@@ -146,7 +146,7 @@ module _ {t : Tables} {s : Said} {sets uses start count : ℕ} {w : List ℕ} (h
           begun-is = begun;
           sets-count = h .sets-count;
           rows-are = λ x l. rw (start-same x l, count-same x l)
-              (entries-kept (countOf (t .rows) x w) (startOf (t .rows) x w) w w′ (λ j a c. low j (omega (arith, h .bodies x l))) ∙ h .rows-are x l);
+              (entries-kept (countOf (t .rows) x w) (entriesAt (t .rows) x w) w w′ (λ j a c. low j (omega (arith, h .bodies x l))) ∙ h .rows-are x l);
           bodies = λ x l. rw (start-same x l, count-same x l) (h .bodies x l);
           bodies-low = λ x l. rw (start-same x l) (h .bodies-low x l);
           rows-low = h .rows-low;
@@ -194,7 +194,7 @@ module _ {t : Tables} {s : Said} {sets uses start count : ℕ} {w : List ℕ} (h
 
 -- ---- a value record
 
-module _ {t : Tables} {s : Said} {sets uses start count : ℕ} {w : List ℕ} (h : Holds w t s sets uses start count) (r : List ℕ) where
+module _ {t : SetTables} {s : Said} {sets uses start count : ℕ} {w : List ℕ} (h : Holds w t s sets uses start count) (r : List ℕ) where
   stopped : (nr : ℕ) → nr ≡ valueNo r (length (s .regions)) (has (firstLike (s .regions) (regionOf r)) (s .named)) → (nr ≡ 0 → ⊥)
       → TookValue r t s sets uses start count w w nr uses count
   stopped nr e z = record {
@@ -235,7 +235,7 @@ module _ {t : Tables} {s : Said} {sets uses start count : ℕ} {w : List ℕ} (h
 
 -- ---- the end of a set
 
-module _ {t : Tables} {s : Said} {sets uses start count : ℕ} {w : List ℕ} (h : Holds w t s sets uses start count)
+module _ {t : SetTables} {s : Said} {sets uses start count : ℕ} {w : List ℕ} (h : Holds w t s sets uses start count)
     (row : t .rows + 2 * sets + 2 ≤ t .body) (tail : start + 2 * count ≤ t .used) (used-in : t .used + uses ≤ t .slot)
     (slot-to : t .slot + t .regions ≤ t .stamp) (stamp-to : t .stamp + t .regions ≤ t .first) (first-to : t .first + t .regions ≤ length w) where
   abbrev e₁ : List ℕ
@@ -250,7 +250,7 @@ module _ {t : Tables} {s : Said} {sets uses start count : ℕ} {w : List ℕ} (h
   end-low : (j : ℕ) → j < t .rows + 2 * sets → getD e₂ j 0 ≡ getD w j 0
   end-low j l = getD-set-other e₁ (t .rows + 2 * sets + 1) j count 0 (omega arith) ∙ getD-set-other w (t .rows + 2 * sets) j start 0 (omega arith)
 
-  end-start : startOf (t .rows) sets e₂ ≡ start
+  end-start : entriesAt (t .rows) sets e₂ ≡ start
   end-start =
       getD-set-other e₁ (t .rows + 2 * sets + 1) (t .rows + 2 * sets) count 0 (omega arith)
       ∙ getD-set-same w (t .rows + 2 * sets) start 0 (omega (arith, h .start-low))
@@ -261,7 +261,7 @@ module _ {t : Tables} {s : Said} {sets uses start count : ℕ} {w : List ℕ} (h
   body-same : (a m : ℕ) → t .body ≤ a → entries a m e₂ ≡ entries a m w
   body-same a m l = entries-kept m a w e₂ (λ j x y. end-high j (omega arith))
 
-  start-same : (x : ℕ) → x < sets → startOf (t .rows) x e₂ ≡ startOf (t .rows) x w
+  start-same : (x : ℕ) → x < sets → entriesAt (t .rows) x e₂ ≡ entriesAt (t .rows) x w
   start-same x l = end-low (t .rows + 2 * x) (omega arith)
 
   count-same : (x : ℕ) → x < sets → countOf (t .rows) x e₂ ≡ countOf (t .rows) x w
@@ -285,7 +285,7 @@ module _ {t : Tables} {s : Said} {sets uses start count : ℕ} {w : List ℕ} (h
       sets-count = length-append (s .sets) (s .begun ∷ []) ∙ omega (arith, h .sets-count);
       rows-are = below-more _ _
           (λ x l. rw (start-same x l, count-same x l)
-          (body-same (startOf (t .rows) x w) (countOf (t .rows) x w) (h .bodies-low x l) ∙ h .rows-are x l
+          (body-same (entriesAt (t .rows) x w) (countOf (t .rows) x w) (h .bodies-low x l) ∙ h .rows-are x l
           ∙ sym (List·getD-append (s .sets) (s .begun ∷ []) [] x (omega (arith, h .sets-count)))))
           (rw (end-start, end-count) (body-same start count (h .start-low) ∙ h .begun-is ∙ sym (getD-at (s .sets) (s .begun) [] [] sets (h .sets-count))));
       bodies = below-more _ _

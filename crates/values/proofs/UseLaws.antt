@@ -9,13 +9,13 @@ use lib.ListN.{length, getD, set, length-set, length-append, List·getD-append}
 use lib.Seq.{getD-set-same, getD-set-other, getD-at}
 use borrow.Author.Tests.{eq-eqb, ne-eqb, lt-ltb, le-ltb}
 use borrow.Author.Count.{below-more}
-use Rattle.laws.specs.Range.{Only}
+use Rattle.laws.specs.LentRange.{Only}
 use Rattle.laws.proofs.Cases.{Which, which, lt-or-ge, same-or-not}
 use Rattle.laws.proofs.Cases.Which.{holds, fails}
 use Rattle.laws.proofs.RangeLaws.{only-refl, only-trans, only-set}
 use Rattle.sets.specs.Set.{Set, Ascending}
 use Rattle.sets.specs.Lent.{entries}
-use Rattle.said.specs.Sets.{has, indexIn, placed}
+use Rattle.said.specs.Sets.{has, indexIn, withEntry}
 use Rattle.values.specs.Lent.{slotIn, Uses, UsedNow, PutEntry}
 use Rattle.values.proofs.EntryLaws.{entries-kept}
 use Rattle.said.proofs.IndexLaws.{has-snoc, index-below, index-snoc-old, index-snoc-new, with-known, with-new}
@@ -149,8 +149,8 @@ rising-two (suc n) a t w (suc x) (suc y) s l h =
     rw (d, e) at (rising-two n (a + 2) (suc (getD w a 0)) w x y (s .1) (omega arith) (omega arith))
 
 placed-split : (m n a k v : ℕ) (w : List ℕ) → ((x : ℕ) → x < m → getD w (a + 2 * x) 0 ≤ k) → (0 < n → k < getD w (a + 2 * m) 0)
-    → placed k v (entries a (m + n) w) ≡ entries a m w ++ ((k, v) ∷ entries (a + 2 * m) n w)
-unfolding entries placed
+    → withEntry k v (entries a (m + n) w) ≡ entries a m w ++ ((k, v) ∷ entries (a + 2 * m) n w)
+unfolding entries withEntry
 placed-split zero zero a k v w low high = refl
 placed-split zero (suc n) a k v w low high =
     let e : a + 2 * 0 ≡ a = omega arith in
@@ -244,7 +244,7 @@ module _ (start count k : ℕ) (old : List ℕ) (room : start + 2 * count + 2 �
             (only-set rs u i₂ v (λ o. omega (arith, o .0 .apart (omega arith)))));
         is = ap (λ (m : ℕ). entries start m z) n′ ∙ entries-append j (suc (count - j)) start z
             ∙ ap₂ (λ (a b : Set). a ++ b) front (middle z (start + 2 * j) (count - j) first second ∙ ap (λ (l : Set). (k, v) ∷ l) back)
-            ∙ sym (ap (λ (m : ℕ). placed k v (entries start m old)) n
+            ∙ sym (ap (λ (m : ℕ). withEntry k v (entries start m old)) n
             ∙ placed-split j (count - j) start k v old (λ x l. lows x l (lt-or-ge x (j - 1))) (λ l. s .high (omega arith)));
       }
     where

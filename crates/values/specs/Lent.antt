@@ -5,17 +5,17 @@ use mathlib.Core.List.{List, [], _∷_}
 use Prim.Native.Nat.{ℕ, suc, _+_, _*_, _≤_, _<_}
 use lib.ListN.{length, getD}
 use Rattle.laws.specs.Pick.{pick}
-use Rattle.laws.specs.Range.{Only}
+use Rattle.laws.specs.LentRange.{Only}
 use Rattle.sets.specs.Set.{Ascending}
-use Rattle.sets.specs.Lent.{entries, startOf, countOf, setOf}
+use Rattle.sets.specs.Lent.{entries, entriesAt, countOf, setOf}
 use lib.Dec.{eqb}
 use Rattle.said.specs.Records.{regionOf, valueWord}
 use Rattle.said.specs.Refusals.{valueNo}
 use Rattle.said.specs.Job.{Said, afterValue, afterEnd}
 use Rattle.limits.specs.Limits.{mostRecords}
-use Rattle.values.specs.declared.tables.Tables.{Tables}
-use Rattle.said.specs.Sets.{firstLike, has, withUse, indexIn, placed}
-use Rattle.said.specs.Good.{Good}
+use Rattle.values.specs.declared.tables.SetTables.{SetTables}
+use Rattle.said.specs.Sets.{firstLike, has, withUse, indexIn, withEntry}
+use Rattle.said.specs.LentGood.{SetsGood}
 
 -- of the regions in use: at `slot` for each region its index and one, 0 where it is not in use; at `used` for each index its region
 unfoldable pub slotIn : ℕ → List ℕ → ℕ
@@ -36,7 +36,7 @@ pub record UsedNow (slot used regions count q : ℕ) (l old new : List ℕ) (r :
 -- an entry was put into a set
 pub record PutEntry (start count k v : ℕ) (old new : List ℕ) : Type 0 where
   pub only : Only ((start, 2 * count + 2) ∷ []) old new
-  pub is : entries start (count + 1) new ≡ placed k v (entries start count old)
+  pub is : entries start (count + 1) new ≡ withEntry k v (entries start count old)
 
 -- at `stamp` for each region the number of a set, the last `mark`: it is that where the set has named the region
 pub record Stamps (w : List ℕ) (stamp regions mark : ℕ) (named : List ℕ) : Type 0 where
@@ -45,7 +45,7 @@ pub record Stamps (w : List ℕ) (stamp regions mark : ℕ) (named : List ℕ) :
 
 -- Work holds what the records so far say: `sets` sets have ended, `uses` regions are in use, and the set that has not ended has `count`
 -- entries from `start` on.
-pub record Holds (w : List ℕ) (t : Tables) (s : Said) (sets uses start count : ℕ) : Type 0 where
+pub record Holds (w : List ℕ) (t : SetTables) (s : Said) (sets uses start count : ℕ) : Type 0 where
   pub regions-are : length (s .regions) ≡ t .regions
   pub firsts : (r : ℕ) → r < t .regions → getD w (t .first + r) 0 ≡ firstLike (s .regions) r
   pub firsts-low : (r : ℕ) → r < t .regions → getD w (t .first + r) 0 < t .regions
@@ -55,14 +55,14 @@ pub record Holds (w : List ℕ) (t : Tables) (s : Said) (sets uses start count :
   pub begun-is : entries start count w ≡ s .begun
   pub sets-count : length (s .sets) ≡ sets
   pub rows-are : (x : ℕ) → x < sets → setOf (t .rows) x w ≡ getD (s .sets) x []
-  pub bodies : (x : ℕ) → x < sets → startOf (t .rows) x w + 2 * countOf (t .rows) x w ≤ start
-  pub bodies-low : (x : ℕ) → x < sets → t .body ≤ startOf (t .rows) x w
+  pub bodies : (x : ℕ) → x < sets → entriesAt (t .rows) x w + 2 * countOf (t .rows) x w ≤ start
+  pub bodies-low : (x : ℕ) → x < sets → t .body ≤ entriesAt (t .rows) x w
   pub rows-low : t .rows + 2 * sets ≤ start
   pub start-low : t .body ≤ start
-  pub good : Good s
+  pub good : SetsGood s
 
 -- what one more value asks of the tables
-pub record ValueFits (w : List ℕ) (t : Tables) (uses start count : ℕ) : Type 0 where
+pub record ValueFits (w : List ℕ) (t : SetTables) (uses start count : ℕ) : Type 0 where
   pub firsts-low : (r : ℕ) → r < t .regions → getD w (t .first + r) 0 < t .regions
   pub rising : Ascending 0 (entries start count w)
   pub body-in : start + 2 * count + 2 ≤ t .used
@@ -74,7 +74,7 @@ pub record ValueFits (w : List ℕ) (t : Tables) (uses start count : ℕ) : Type
   pub regions-few : t .regions ≤ mostRecords
 
 -- a value record of the bytes r was refused by `no`, or (no is 0) is held now
-pub record TookValue (r : List ℕ) (t : Tables) (s : Said) (sets uses start count : ℕ) (old new : List ℕ) (no uses′ count′ : ℕ) : Type 0 where
+pub record TookValue (r : List ℕ) (t : SetTables) (s : Said) (sets uses start count : ℕ) (old new : List ℕ) (no uses′ count′ : ℕ) : Type 0 where
   pub no-is : no ≡ valueNo r (length (s .regions)) (has (firstLike (s .regions) (regionOf r)) (s .named))
   pub now-holds : no ≡ 0 → Holds new t (afterValue s (firstLike (s .regions) (regionOf r)) (valueWord r)) sets uses′ start count′
   pub only : Only ((0, t .first) ∷ []) old new
@@ -82,7 +82,7 @@ pub record TookValue (r : List ℕ) (t : Tables) (s : Said) (sets uses start cou
   pub count-few : count′ ≤ count + 1
 
 -- the word v of a value of region q, which the set has not named, is held now
-pub record PutValue (q v : ℕ) (t : Tables) (s : Said) (sets uses start count : ℕ) (old new : List ℕ) (no uses′ count′ : ℕ) : Type 0 where
+pub record PutValue (q v : ℕ) (t : SetTables) (s : Said) (sets uses start count : ℕ) (old new : List ℕ) (no uses′ count′ : ℕ) : Type 0 where
   pub no-is : no ≡ 0
   pub now-holds : has q (s .named) ≡ false → Holds new t (afterValue s q v) sets uses′ start count′
   pub only : Only ((0, t .first) ∷ []) old new
@@ -95,6 +95,6 @@ pub record UseKept (slot used regions count : ℕ) (old new : List ℕ) (r : ℕ
   pub small : r < 4294967296
 
 -- a set has ended
-pub record EndedSet (t : Tables) (s : Said) (sets uses start count : ℕ) (old new : List ℕ) : Type 0 where
+pub record EndedSet (t : SetTables) (s : Said) (sets uses start count : ℕ) (old new : List ℕ) : Type 0 where
   pub now-holds : Holds new t (afterEnd s) (sets + 1) uses (start + 2 * count) 0
   pub only : Only ((0, t .first) ∷ []) old new

@@ -2,6 +2,6 @@
 mod tables;
 mod values;
 
-pub use tables::Tables;
+pub use tables::SetTables;
 pub use values::Took;
 pub use values::take_value;

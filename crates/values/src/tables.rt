@@ -10,7 +10,7 @@ ghost use Rattle.values.specs.Lent.{Uses, UsedNow, UseKept, PutEntry};
 
 // Where the tables stand in work: rows and entries of the sets; regions in use by index; for each region its index and one, the last set
 // that named it, and the first region like it.
-pub struct Tables {
+pub struct SetTables {
     pub rows: usize,
     pub body: usize,
     pub used: usize,

@@ -1,5 +1,5 @@
 // A value record: its refusal, or the value in its set.
-use crate::tables::Tables;
+use crate::tables::SetTables;
 use crate::tables::put_entry;
 use crate::tables::use_region;
 use laws::wide;
@@ -40,7 +40,7 @@ fn grown(uses: usize, k: usize) -> usize
 // Stamps region q, gives it an index, and puts the word of its value into the set unless it is that of zero.
 fn put_value(
     work: &mut [u32],
-    t: Tables,
+    t: SetTables,
     q: usize,
     v: u32,
     mark: u32,
@@ -76,7 +76,7 @@ pub fn take_value(
     job: &[u8],
     i: usize,
     work: &mut [u32],
-    t: Tables,
+    t: SetTables,
     mark: u32,
     uses: usize,
     start: usize,

@@ -9,17 +9,17 @@ use lib.Dec.{T, eqb}
 use lib.ListN.{length}
 use borrow.Author.Tests.{eq-eqb, ne-eqb}
 use Rattle.laws.specs.Bag.{sum}
-use Rattle.laws.specs.Range.{Only, Outside}
+use Rattle.laws.specs.LentRange.{Only, Outside}
 use Rattle.laws.proofs.Cases.{same-or-not, lt-or-ge}
 use Rattle.laws.proofs.BagLaws.{sum-next}
 use Rattle.laws.proofs.Products.{product}
 use Rattle.shapes.specs.Group.{gain}
 use Rattle.pairs.specs.declared.Pair.{Pair}
-use Rattle.pairs.specs.Queue.{pairAt, HeapOrdered, Has, SameFrom, Pushed}
+use Rattle.pairs.specs.LentQueue.{pairAt, HeapOrdered, Has, SameFrom, Pushed}
 use Rattle.pairs.proofs.Content.{push-has, push-keeps, push-only}
-use Rattle.slots.specs.declared.tables.Tables.{Tables}
+use Rattle.slots.specs.declared.tables.MergeTables.{MergeTables}
 use Rattle.slots.specs.Lent.{Laid, groupIn}
-use Rattle.waits.specs.Waits.{room, placeOf, groupOf, alive, pairOf, Reached, Fair, Waits, Considered, Asked, Offered, OfferedAll, Opening, Opened, BothLive, Numbered, KeptLiving}
+use Rattle.waits.specs.LentWaits.{room, placeOf, groupOf, alive, pairOf, Reached, Fair, Waits, Considered, Asked, Offered, OfferedAll, Opening, Opened, BothLive, Numbered, KeptLiving}
 use Rattle.slots.proofs.SlotLaws.{shape-kept, group-is}
 
 -- ---- how many pairs can wait
@@ -45,7 +45,7 @@ holds : (b : Bool) → T b → b ≡ true
 holds true _ = refl
 holds false a = absurd a
 
-module _ {t : Tables} {p : Pair} {w : List ℕ} {b : Bool} (l : BothLive t p b w) (h : T b) where
+module _ {t : MergeTables} {p : Pair} {w : List ℕ} {b : Bool} (l : BothLive t p b w) (h : T b) where
   pub first-lives : 0 < placeOf t w (p .first)
   first-lives = l .yes-live (holds b h) .0
 
@@ -54,15 +54,15 @@ module _ {t : Tables} {p : Pair} {w : List ℕ} {b : Bool} (l : BothLive t p b w
 
 -- ---- living or dead
 
-pub alive-none : (t : Tables) (w : List ℕ) (c : ℕ) → placeOf t w c ≡ 0 → alive t w c ≡ 0
+pub alive-none : (t : MergeTables) (w : List ℕ) (c : ℕ) → placeOf t w c ≡ 0 → alive t w c ≡ 0
 unfolding alive
 alive-none t w c e = rw (eq-eqb (placeOf t w c) 0 e)
 
-pub alive-one : (t : Tables) (w : List ℕ) (c : ℕ) → (placeOf t w c ≡ 0 → ⊥) → alive t w c ≡ 1
+pub alive-one : (t : MergeTables) (w : List ℕ) (c : ℕ) → (placeOf t w c ≡ 0 → ⊥) → alive t w c ≡ 1
 unfolding alive
 alive-one t w c e = rw (ne-eqb (placeOf t w c) 0 e)
 
-pub alive-same : (t : Tables) (w w′ : List ℕ) (c : ℕ) → placeOf t w′ c ≡ placeOf t w c → alive t w′ c ≡ alive t w c
+pub alive-same : (t : MergeTables) (w w′ : List ℕ) (c : ℕ) → placeOf t w′ c ≡ placeOf t w c → alive t w′ c ≡ alive t w c
 unfolding alive
 alive-same t w w′ c e = rw e
 
@@ -74,11 +74,11 @@ sum-mono a n (suc m) h = ⊎-elim (λ (l : n < suc m). omega (arith, sum-mono a 
 -- ---- frames
 
 -- a slot whose words and count did not change holds the same group
-pub group-kept : {rs : List (ℕ × ℕ)} (t : Tables) (w w′ : List ℕ) (s : ℕ) → Laid t (length w) → s < t .groups → Only rs w w′
+pub group-kept : {rs : List (ℕ × ℕ)} (t : MergeTables) (w w′ : List ℕ) (s : ℕ) → Laid t (length w) → s < t .groups → Only rs w w′
     → ((k : ℕ) → t .slots + s * t .regions ≤ k → k < t .slots + s * t .regions + t .regions → Outside rs k) → Outside rs (t .counts + s) → groupIn t w′ s ≡ groupIn t w s
 group-kept t w w′ s h l p o q = group-is t w w′ s (shape-kept t w w′ s h l p o) (p .kept (t .counts + s) q)
 
-pub group-of-kept : (t : Tables) (w w′ : List ℕ) (c : ℕ) → 0 < t .groups → placeOf t w c ≤ t .groups → placeOf t w′ c ≡ placeOf t w c
+pub group-of-kept : (t : MergeTables) (w w′ : List ℕ) (c : ℕ) → 0 < t .groups → placeOf t w c ≤ t .groups → placeOf t w′ c ≡ placeOf t w c
     → ((s : ℕ) → s < t .groups → groupIn t w′ s ≡ groupIn t w s) → groupOf t w′ c ≡ groupOf t w c
 unfolding groupOf
 group-of-kept t w w′ c p l e f = ap (λ (x : ℕ). groupIn t w′ (x - 1)) e ∙ f (placeOf t w c - 1) (omega arith)
@@ -91,18 +91,18 @@ reached-less k c a b r n = record { order = r .order; below = r .below; last = �
 reached-more : (k c a b : ℕ) → Reached k c a b → Reached k (c + 1) a b
 reached-more k c a b r = record { order = r .order; below = r .below; last = λ e. let l = r .last e in omega arith }
 
-fair-more : (t : Tables) (w : List ℕ) (k c : ℕ) (q : Pair) → Fair t k c w q → Fair t k (c + 1) w q
+fair-more : (t : MergeTables) (w : List ℕ) (k c : ℕ) (q : Pair) → Fair t k c w q → Fair t k (c + 1) w q
 fair-more t w k c q f = record { reached = reached-more k c (q .first) (q .second) (f .reached); some = f .some; is = f .is }
 
-pub considered-dead : (t : Tables) (w : List ℕ) (c k : ℕ) → placeOf t w c ≡ 0 → Considered t c k 0 (record { gain = 0; first = c; second = k }) w
+pub considered-dead : (t : MergeTables) (w : List ℕ) (c k : ℕ) → placeOf t w c ≡ 0 → Considered t c k 0 (record { gain = 0; first = c; second = k }) w
 considered-dead t w c k e = record { weighed = sym (alive-none t w c e); first-is = refl; second-is = refl; dead = λ _. refl; gain-is = λ l. absurd (omega arith) }
 
-pub considered : (t : Tables) (w : List ℕ) (c k g : ℕ) → (placeOf t w c ≡ 0 → ⊥) → g ≡ gain (groupIn t w (placeOf t w c - 1)) (groupIn t w (placeOf t w k - 1))
+pub considered : (t : MergeTables) (w : List ℕ) (c k g : ℕ) → (placeOf t w c ≡ 0 → ⊥) → g ≡ gain (groupIn t w (placeOf t w c - 1)) (groupIn t w (placeOf t w k - 1))
     → Considered t c k 1 (record { gain = g; first = c; second = k }) w
 unfolding groupOf
 considered t w c k g d e = record { weighed = sym (alive-one t w c d); first-is = refl; second-is = refl; dead = λ z. absurd (d z); gain-is = λ _. e }
 
-module _ {t : Tables} {w : List ℕ} {ps : List Pair} {k c n v : ℕ} {p : Pair} (h : Asked t k c n w ps) (l : c < k) (q : Considered t c k v p w) where
+module _ {t : MergeTables} {w : List ℕ} {ps : List Pair} {k c n v : ℕ} {p : Pair} (h : Asked t k c n w ps) (l : c < k) (q : Considered t c k v p w) where
   -- they gain nothing, or c is dead
   pub offer-none : (m : ℕ) → p .gain ≡ 0 → Offered t k c n m n (m + v) w ps ps
   offer-none m z = record {
@@ -165,7 +165,7 @@ module _ {t : Tables} {w : List ℕ} {ps : List Pair} {k c n v : ℕ} {p : Pair}
 
 -- ---- weighing k with each number below it
 
-pub record Offering (t : Tables) (k n m : ℕ) (w : List ℕ) (ps₀ ps : List Pair) (n′ m′ c : ℕ) : Type 0 where
+pub record Offering (t : MergeTables) (k n m : ℕ) (w : List ℕ) (ps₀ ps : List Pair) (n′ m′ c : ℕ) : Type 0 where
   pub within : c ≤ k
   pub waits : Waits t k c n′ w ps
   pub weighed : m′ ≡ m + sum (alive t w) c
@@ -176,7 +176,7 @@ sum-zero : (a : ℕ → ℕ) → sum a 0 ≡ 0
 unfolding sum
 sum-zero a = refl
 
-module _ {t : Tables} {k n : ℕ} {w : List ℕ} {ps₀ : List Pair} (h : Asked t k 0 n w ps₀) where
+module _ {t : MergeTables} {k n : ℕ} {w : List ℕ} {ps₀ : List Pair} (h : Asked t k 0 n w ps₀) where
   pub offering-start : (m : ℕ) → Offering t k n m w ps₀ ps₀ n m 0
   offering-start m =
       let z = sum-zero (alive t w) in
@@ -209,7 +209,7 @@ module _ {t : Tables} {k n : ℕ} {w : List ℕ} {ps₀ : List Pair} (h : Asked 
         record { waits = rw e at (o .waits); weighed = rw e at (o .weighed); few = rw e at (o .few); rest = o .rest }
 
 -- all below k are weighed with each other
-pub waits-next : (t : Tables) (w : List ℕ) (ps : List Pair) (k n : ℕ) → Waits t k k n w ps → Waits t (k + 1) 0 n w ps
+pub waits-next : (t : MergeTables) (w : List ℕ) (ps : List Pair) (k n : ℕ) → Waits t k k n w ps → Waits t (k + 1) 0 n w ps
 waits-next t w ps k n h = record {
   ordered = h .ordered;
   all = λ a b r x y z.
@@ -224,7 +224,7 @@ waits-next t w ps k n h = record {
 
 -- ---- weighing each pair of the starting groups
 
-pub record Opens (t : Tables) (w : List ℕ) (ps₀ ps : List Pair) (n m k : ℕ) : Type 0 where
+pub record Opens (t : MergeTables) (w : List ℕ) (ps₀ ps : List Pair) (n m k : ℕ) : Type 0 where
   pub within : k ≤ t .groups
   pub waits : Waits t k 0 n w ps
   pub weighed : 2 * m + k ≡ k * k
@@ -243,7 +243,7 @@ open-arith (suc k) n m l e =
     let p : suc k * suc k ≤ (n - 1) * (n - 1) = product (n - 1) (n - 1) {a = suc k} {b = suc k} (omega arith) (omega arith) in
     omega arith
 
-module _ {t : Tables} {w : List ℕ} (h : Opening t w) (ps₀ : List Pair) where
+module _ {t : MergeTables} {w : List ℕ} (h : Opening t w) (ps₀ : List Pair) where
   pub opens-start : Opens t w ps₀ ps₀ 0 0 0
   opens-start = record {
     within = omega arith;
@@ -296,7 +296,7 @@ module _ {t : Tables} {w : List ℕ} (h : Opening t w) (ps₀ : List Pair) where
 
 -- ---- only the pairs whose two live are kept
 
-pub record Keeping (t : Tables) (n : ℕ) (w : List ℕ) (ps₀ ps : List Pair) (kept i : ℕ) : Type 0 where
+pub record Keeping (t : MergeTables) (n : ℕ) (w : List ℕ) (ps₀ ps : List Pair) (kept i : ℕ) : Type 0 where
   pub within : i ≤ n
   pub few : kept ≤ i
   pub ordered : HeapOrdered ps kept
@@ -304,7 +304,7 @@ pub record Keeping (t : Tables) (n : ℕ) (w : List ℕ) (ps₀ ps : List Pair) 
   pub only : (q : Pair) → Has ps kept q → Has ps₀ i q
   pub rest : SameFrom ps₀ i ps
 
-pub keeping-start : (t : Tables) (n : ℕ) (w : List ℕ) (ps : List Pair) → Keeping t n w ps ps 0 0
+pub keeping-start : (t : MergeTables) (n : ℕ) (w : List ℕ) (ps : List Pair) → Keeping t n w ps ps 0 0
 keeping-start t n w ps = record {
   within = omega arith;
   few = omega arith;
@@ -317,7 +317,7 @@ keeping-start t n w ps = record {
 has-more : {ps : List Pair} {i : ℕ} {q : Pair} → Has ps i q → Has ps (i + 1) q
 has-more h = record { place = h .place; below = omega (arith, h .below); here = h .here }
 
-module _ {t : Tables} {n : ℕ} {w : List ℕ} {ps₀ ps : List Pair} {kept i : ℕ} (s : Keeping t n w ps₀ ps kept i) where
+module _ {t : MergeTables} {n : ℕ} {w : List ℕ} {ps₀ ps : List Pair} {kept i : ℕ} (s : Keeping t n w ps₀ ps kept i) where
   module _ {p : Pair} (l : i < n) (e : p ≡ pairAt ps i) where
     is : pairAt ps₀ i ≡ p
     is = sym (s .rest i (omega arith)) ∙ sym e
@@ -374,7 +374,7 @@ module _ {t : Tables} {n : ℕ} {w : List ℕ} {ps₀ ps : List Pair} {kept i : 
       }
 
 -- what waits is still all there
-pub waits-kept : {t : Tables} {k n r : ℕ} {w : List ℕ} {ps ps′ : List Pair} → Waits t k 0 n w ps → KeptLiving t n r w ps ps′ → Waits t k 0 r w ps′
+pub waits-kept : {t : MergeTables} {k n r : ℕ} {w : List ℕ} {ps ps′ : List Pair} → Waits t k 0 n w ps → KeptLiving t n r w ps ps′ → Waits t k 0 r w ps′
 waits-kept h u = record {
   ordered = u .ordered;
   all = λ a b r x y z. u .keeps _ (h .all a b r x y z) x y;
@@ -382,7 +382,7 @@ waits-kept h u = record {
 }
 
 -- the numbers of what waits are known
-pub waits-numbered : {t : Tables} {k n : ℕ} {w : List ℕ} {ps : List Pair} → k ≤ 2 * t .groups → Waits t k 0 n w ps → Numbered t n ps
+pub waits-numbered : {t : MergeTables} {k n : ℕ} {w : List ℕ} {ps : List Pair} → k ≤ 2 * t .groups → Waits t k 0 n w ps → Numbered t n ps
 waits-numbered {t} {k} {n} {w} {ps} f h i l =
     let r = h .fair (pairAt ps i) (record { place = i; below = l; here = refl }) .reached in
     let b : pairAt ps i .second < k = ⊎-elim (λ (e : pairAt ps i .second ≡ k). absurd (omega (arith, r .last e))) (λ d. omega (arith, r .below)) (same-or-not (pairAt ps i .second) k) in

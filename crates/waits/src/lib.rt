@@ -3,11 +3,11 @@
 use pairs::Pair;
 use pairs::get;
 use pairs::push;
-use slots::Tables;
+use slots::MergeTables;
 ghost use Prim.Native.Nat.{_+_, _*_, _≤_, _<_};
 ghost use lib.ListN.{length};
 ghost use Rattle.laws.specs.Bag.{sum};
-ghost use Rattle.waits.specs.Waits.{room, alive, Weighable, Considered, Asked, Offered, OfferedAll, Opening, Opened, BothLive, Numbered, KeptLiving};
+ghost use Rattle.waits.specs.LentWaits.{room, alive, Weighable, Considered, Asked, Offered, OfferedAll, Opening, Opened, BothLive, Numbered, KeptLiving};
 ghost use Rattle.slots.specs.Lent.{Laid};
 
 // How many pairs wait, and how many were weighed.
@@ -23,7 +23,7 @@ pub struct Found {
 }
 
 // Weighs numbers c and k, if c lives.
-fn consider(work: &[u32], t: Tables, c: usize, k: usize) -> Found
+fn consider(work: &[u32], t: MergeTables, c: usize, k: usize) -> Found
     requires { ⌜ Weighable t k (now work) ⌝ }
     requires { ⌜ c < k ⌝ }
     ensures { λ r. ⌜ Considered t c k (r .weighed) (r .pair) (now (work .entry)) ⌝ }
@@ -55,7 +55,7 @@ fn consider(work: &[u32], t: Tables, c: usize, k: usize) -> Found
 }
 
 // Weighs numbers c and k, if c lives; where they gain, they wait.
-fn offer(pairs: &mut [Pair], work: &[u32], t: Tables, c: usize, k: usize, at: Tally) -> Tally
+fn offer(pairs: &mut [Pair], work: &[u32], t: MergeTables, c: usize, k: usize, at: Tally) -> Tally
     requires { ⌜ Asked t k c (at .waiting) (now work) (now pairs) ⌝ }
     requires { ⌜ c < k ⌝ }
     requires { ⌜ at .waiting + alive t (now work) c ≤ room (t .groups) ⌝ }
@@ -77,7 +77,7 @@ fn offer(pairs: &mut [Pair], work: &[u32], t: Tables, c: usize, k: usize, at: Ta
 }
 
 // Weighs number k with each living number below it.
-pub fn offer_all(pairs: &mut [Pair], work: &[u32], t: Tables, k: usize, at: Tally) -> Tally
+pub fn offer_all(pairs: &mut [Pair], work: &[u32], t: MergeTables, k: usize, at: Tally) -> Tally
     requires { ⌜ Asked t k 0 (at .waiting) (now work) (now pairs) ⌝ }
     requires { ⌜ at .waiting + sum (alive t (now work)) k ≤ room (t .groups) ⌝ }
     requires { ⌜ at .weighed + sum (alive t (now work)) k ≤ room (t .groups) ⌝ }
@@ -94,7 +94,7 @@ pub fn offer_all(pairs: &mut [Pair], work: &[u32], t: Tables, k: usize, at: Tall
 }
 
 // Weighs each pair of the starting groups.
-pub fn weigh_each(pairs: &mut [Pair], work: &[u32], t: Tables) -> Tally
+pub fn weigh_each(pairs: &mut [Pair], work: &[u32], t: MergeTables) -> Tally
     requires { ⌜ Opening t (now work) ⌝ }
     requires { ⌜ room (t .groups) ≤ length (now pairs) ⌝ }
     ensures { λ r. ⌜ Opened t (r .waiting) (r .weighed) (now (work .entry)) (now (pairs .entry)) (now (pairs .exit)) ⌝ }
@@ -113,7 +113,7 @@ pub fn weigh_each(pairs: &mut [Pair], work: &[u32], t: Tables) -> Tally
 }
 
 // Whether both groups of the pair p live.
-pub fn living(work: &[u32], t: Tables, p: Pair) -> bool
+pub fn living(work: &[u32], t: MergeTables, p: Pair) -> bool
     requires { ⌜ Laid t (length (now work)) ⌝ }
     requires { ⌜ p .first < 2 * t .groups ⌝ }
     requires { ⌜ p .second < 2 * t .groups ⌝ }
@@ -132,7 +132,7 @@ pub fn living(work: &[u32], t: Tables, p: Pair) -> bool
 }
 
 // Of the first n pairs those whose two groups live, in front and in heap order; returns how many. A record is pushed no further than it was read.
-pub fn keep_living(pairs: &mut [Pair], work: &[u32], t: Tables, n: usize) -> usize
+pub fn keep_living(pairs: &mut [Pair], work: &[u32], t: MergeTables, n: usize) -> usize
     requires { ⌜ Laid t (length (now work)) ⌝ }
     requires { ⌜ n ≤ length (now pairs) ⌝ }
     requires { ⌜ Numbered t n (now pairs) ⌝ }

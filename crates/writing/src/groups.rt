@@ -7,7 +7,7 @@ use rows::write_runs;
 ghost use mathlib.Core.Path.{_≡_};
 ghost use Prim.Native.Nat.{ℕ, _+_, _*_, _≤_, _<_};
 ghost use lib.ListN.{length};
-ghost use Rattle.laws.specs.Range.{seg};
+ghost use Rattle.laws.specs.LentRange.{seg};
 ghost use Rattle.laws.specs.Every.{All};
 ghost use Rattle.rows.specs.Lent.{Put, Stored, numberIn, runsBytes, setAt};
 ghost use Rattle.store.specs.Lent.{Handed, chain, finalAt, groupBytes, subtableOf};

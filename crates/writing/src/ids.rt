@@ -6,11 +6,11 @@ use store::map_run;
 ghost use mathlib.Core.Path.{_≡_};
 ghost use Prim.Native.Nat.{ℕ, _+_, _*_, _≤_, _<_};
 ghost use lib.ListN.{length};
-ghost use Rattle.laws.specs.Range.{seg};
+ghost use Rattle.laws.specs.LentRange.{seg};
 ghost use Rattle.shapes.specs.Shape.{Shape};
 ghost use Rattle.laws.specs.Every.{All};
-ghost use Rattle.store.specs.Placing.{allRuns, idWords, runsOf};
-ghost use Rattle.store.specs.Lent.{Handed, IdsBelow, Mapped, Small, finalAt, finalsAt, stored};
+ghost use Rattle.store.specs.Placing.{allRuns, idWords, runsOf, stored};
+ghost use Rattle.store.specs.Lent.{Handed, IdsBelow, Mapped, Small, finalAt, finalsAt};
 ghost use Rattle.limits.specs.Limits.{mostRecords, maxShapes};
 
 // The runs of count ids; answers the position of what follows.

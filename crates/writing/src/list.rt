@@ -6,7 +6,7 @@ ghost use mathlib.Core.Path.{_≡_};
 ghost use mathlib.Core.List.{map};
 ghost use Prim.Native.Nat.{ℕ, _+_, _*_, _≤_, _<_};
 ghost use lib.ListN.{length, getD};
-ghost use Rattle.laws.specs.Range.{seg};
+ghost use Rattle.laws.specs.LentRange.{seg};
 ghost use Rattle.laws.specs.Bytes.{over};
 ghost use Rattle.laws.specs.Bounded.{upTo};
 ghost use Rattle.laws.specs.Sorting.{keep};

@@ -8,7 +8,7 @@ use store::offset;
 use store::table_size;
 ghost use Prim.Native.Nat.{ℕ, _+_, _*_, _≤_, _<_};
 ghost use lib.ListN.{length};
-ghost use Rattle.store.specs.Lent.{Handed, Small, Spotted, finalAt, groupSizes, runSizes, sizesAt, spotsOf, total};
+ghost use Rattle.store.specs.Lent.{Handed, Small, Spotted, finalAt, groupSizes, runSizes, sizesAt, spotsOf, sumOf};
 ghost use Rattle.limits.specs.Limits.{mostRecords, maxRegions};
 
 // Where the offsets end, and where the next subtable begins.
@@ -30,7 +30,7 @@ fn write_run_spots(
     requires { ⌜ row < 262144 ⌝ }
     requires { ⌜ count ≤ mostRecords ⌝ }
     requires { ⌜ at + length (spotsOf first (runSizes n row count)) ≤ length (now out) ⌝ }
-    requires { ⌜ first + total (runSizes n row count) < 4294967296 ⌝ }
+    requires { ⌜ first + sumOf (runSizes n row count) < 4294967296 ⌝ }
     ensures { λ r. ⌜ Spotted at first (runSizes n row count) (now (out .entry)) (now (out .exit)) (r .at) (r .next) ⌝ }
 {
     let runs = run_count(count);
@@ -61,7 +61,7 @@ fn write_group_spots(
     requires { ⌜ Handed regions index (now work) group ⌝ }
     requires { ⌜ Small (now work) group ⌝ }
     requires { ⌜ at + length (spotsOf first (groupSizes (finalAt regions (now work) group))) ≤ length (now out) ⌝ }
-    requires { ⌜ first + total (groupSizes (finalAt regions (now work) group)) < 4294967296 ⌝ }
+    requires { ⌜ first + sumOf (groupSizes (finalAt regions (now work) group)) < 4294967296 ⌝ }
     ensures { λ r. ⌜ Spotted at first (groupSizes (finalAt regions (now (work .entry)) group)) (now (out .entry)) (now (out .exit)) (r .at) (r .next) ⌝ }
 {
     let form = form_of(work, regions, group, index);
@@ -87,7 +87,7 @@ pub fn write_spots(
     requires { ⌜ ((g : ℕ) → g < count → Handed regions index (now work) (groups + 3 * g)) ⌝ }
     requires { ⌜ ((g : ℕ) → g < count → Small (now work) (groups + 3 * g)) ⌝ }
     requires { ⌜ at + length (spotsOf first (sizesAt regions groups count (now work))) ≤ length (now out) ⌝ }
-    requires { ⌜ first + total (sizesAt regions groups count (now work)) < 4294967296 ⌝ }
+    requires { ⌜ first + sumOf (sizesAt regions groups count (now work)) < 4294967296 ⌝ }
     ensures { λ r. ⌜ Spotted at first (sizesAt regions groups count (now (work .entry))) (now (out .entry)) (now (out .exit)) (r .at) (r .next) ⌝ }
 {
     let mut p = at;

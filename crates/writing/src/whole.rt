@@ -8,7 +8,7 @@ ghost use Prim.Native.Nat.{_+_, _*_, _≤_, _<_};
 ghost use lib.ListN.{length};
 ghost use Rattle.store.specs.Placing.{storeOf};
 ghost use Rattle.rows.specs.Lent.{Put, setAt};
-ghost use Rattle.store.specs.Lent.{Planned, Ready, coordsOf, finalsAt, headerBytes};
+ghost use Rattle.store.specs.Lent.{Planned, Ready, coordsIn, finalsAt, headerBytes};
 
 fn write_header(out: &mut [u8], runs: usize) -> usize
     requires { ⌜ 8 ≤ length (now out) ⌝ }
@@ -39,8 +39,8 @@ pub fn write_store(
 ) -> usize
     requires { ⌜ Ready (now src) axes starts (now work) regions groups count index ⌝ }
     requires { ⌜ Planned axes (now work) regions groups count (now marks) (now numbers) runs kept ⌝ }
-    requires { ⌜ length (storeOf axes (coordsOf (now src) axes (now work) starts regions) (setAt index (now work)) (finalsAt regions groups count (now work))) ≤ length (now out) ⌝ }
-    ensures { λ r. ⌜ Put 0 (storeOf axes (coordsOf (now (src .entry)) axes (now (work .entry)) starts regions) (setAt index (now (work .entry))) (finalsAt regions groups count (now (work .entry)))) (now (out .entry)) (now (out .exit)) r ⌝ }
+    requires { ⌜ length (storeOf axes (coordsIn (now src) axes (now work) starts regions) (setAt index (now work)) (finalsAt regions groups count (now work))) ≤ length (now out) ⌝ }
+    ensures { λ r. ⌜ Put 0 (storeOf axes (coordsIn (now (src .entry)) axes (now (work .entry)) starts regions) (setAt index (now (work .entry))) (finalsAt regions groups count (now (work .entry)))) (now (out .entry)) (now (out .exit)) r ⌝ }
 {
     let at = write_header(out, runs);
     let first = 8 + 4 * runs + (4 + 6 * axes * kept);

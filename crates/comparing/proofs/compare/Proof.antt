@@ -9,7 +9,7 @@ use Rattle.comparing.proofs.compare.Statement.{statement}
 use Rattle.comparing.proofs.compare.Tie as tie
 use Rattle.comparing.proofs.compare.Reads as reads
 use Rattle.comparing.proofs.compare.Lts as lts
-use Rattle.comparing.proofs.walk.Reads as walk-reads
+use Rattle.comparing.proofs.along.Reads as along-reads
 use Rattle.laws.proofs.wide.Reads as wide-reads
 
 mul-wide : tie.Need-mul-wide
@@ -78,15 +78,15 @@ shared-slice-read-wide-4 c = omega arith
 wide-requires-4 : tie.Need-wide-requires-4
 wide-requires-4 c κs = search needs
 
-walk-requires : tie.Need-walk-requires
-walk-requires c κs = search needs
+along-requires : tie.Need-along-requires
+along-requires c κs = search needs
 
 returns : tie.Need-returns
 unfolding setOf
 returns c =
     let s = c .before .before .before .before .before .before .before .before .before .before in
     let a = s .args in
-    let e : c .walk .result ≡ order (setOf (a .index) (a .x) (now (a .work))) (setOf (a .index) (a .y) (now (a .work))) = cc in
+    let e : c .along .result ≡ order (setOf (a .index) (a .x) (now (a .work))) (setOf (a .index) (a .y) (now (a .work))) = cc in
     (e, rw e (order-right _ _ 0 (s .pre .0 .ascending) (s .pre .1 .ascending)))
 
 pub compare-spec : {M : Type 1} → statement M
@@ -115,5 +115,5 @@ compare-spec =
     mul-wide-8
     shared-slice-read-wide-4
     wide-requires-4
-    walk-requires
+    along-requires
     returns)

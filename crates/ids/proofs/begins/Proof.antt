@@ -1,5 +1,5 @@
 use mathlib.Core.Path.{_≡_, sym, _∙_}
-use Rattle.ids.specs.Inner.{isSame}
+use Rattle.ids.specs.LentFirsts.{isSame}
 use Rattle.ids.proofs.FirstSteps.{begins-none, begins-some}
 use native.Mathlib.Omega.{arith}
 use borrow.Author.Needs.{needs}

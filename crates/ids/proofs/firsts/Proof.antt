@@ -1,7 +1,7 @@
 use Prim.Native.Nat.{_-_}
 use mathlib.Core.Path.{_≡_, sym, _∙_}
 use native.Mathlib.Omega.{arith}
-use Rattle.ids.specs.Inner.{FirstsFit}
+use Rattle.ids.specs.LentFirsts.{FirstsFit}
 use Rattle.ids.proofs.FirstSteps.{Firsting, first-start, first-more, again-some, again-more, first-done, new-below, new-stored}
 use borrow.Author.Needs.{needs}
 use Rattle.ids.proofs.firsts.Statement.{statement}

@@ -38,8 +38,8 @@ use denote.Triple.Table.{entered, cited}
 use denote.Triple.Walked.{Stays, stay-ref, stay-slice, stay-none-slice, stay-none, walkOf, goes-ref, goes-slice, goes-none-slice, goes-none, Walks, ends-at, walked, walk-meets}
 use denote.Exit.{yes}
 use Rattle.finishing.specs.Buffers.{buffers}
-use Rattle.build.specs.Lending.{lending, leaves}
-use Rattle.ivs.specs.Told.{Told}
+use Rattle.packer.specs.Lending.{lending, leaves}
+use Rattle.ivs.specs.Answered.{Answered}
 use Rattle.ivs.proofs.TellLaws.{answer-few}
 use Rattle.pairs.specs.declared.Pair.{Pair}
 use Rattle.pairs.proofs.Pair as T
@@ -50,9 +50,9 @@ use Rattle.pairs.proofs.Slices.{ref, Has, Sees}
 use Rattle.pairs.proofs.Refs.{HasRef, at-ref}
 use Rattle.pairs.proofs.Clauses.{needs-none}
 use Rattle.ivs.proofs.Calls.{Build-of, Tell-of, build-see-mut-mut-mut-mut-mut-mut, tell-call, After-build-see-mut-mut-mut-mut-mut-mut, After-tell-call}
-use Rattle.build.proofs.build.Symbol as build-def
-use Rattle.build.proofs.build.Symbol.{name as #build·build}
-use Rattle.build.proofs.build.Met as build-thm
+use Rattle.packer.proofs.build.Symbol as build-def
+use Rattle.packer.proofs.build.Symbol.{name as #packer·build}
+use Rattle.packer.proofs.build.Met as build-thm
 use Rattle.ivs.proofs.report.tell.Symbol as tell-def
 use Rattle.ivs.proofs.report.tell.Symbol.{name as #ivs·tell}
 use Rattle.ivs.proofs.report.tell.Met as tell-thm
@@ -151,12 +151,12 @@ module _ {M : Type 1} (𝓤 : URA M) (H : Heap 𝓤) (A : Atoms 𝓤) (W : Given
   abbrev Post : Val → SProp 𝓤
   Post = walkOf 𝓤 H A ivs-build.ended stayed (ivs-build.clauses 𝓤 H A mem run) .post bound
 
-  exits : (work′ : List ℕ) → length work′ ≡ ν₂ → (pairs′ : List Pair) → length pairs′ ≡ ν₃ → (out′ : List ℕ) → length out′ ≡ ν₄ → (ids′ : List ℕ) → length ids′ ≡ ν₅ → (map′ : List ℕ) → length map′ ≡ ν₆ → (log′ : List ℕ) → length log′ ≡ ν₇ → (report′ : List ℕ) → (r : ℕ) → r < 2 ^ 32 → (Told (lending axes mode job work pairs (buffers out ids map log)) r (leaves work′ pairs′ (buffers out′ ids′ map′ log′)) report report′) → ent 𝓤 (⋆ 𝓤 H A (Slice job ∷ Slice₂ work′ ∷ Slice₃ pairs′ ∷ Slice₄ out′ ∷ Slice₅ ids′ ∷ Slice₆ map′ ∷ Slice₇ log′ ∷ Slice₈ report′ ∷ [])) (Post (vint w32 r))
+  exits : (work′ : List ℕ) → length work′ ≡ ν₂ → (pairs′ : List Pair) → length pairs′ ≡ ν₃ → (out′ : List ℕ) → length out′ ≡ ν₄ → (ids′ : List ℕ) → length ids′ ≡ ν₅ → (map′ : List ℕ) → length map′ ≡ ν₆ → (log′ : List ℕ) → length log′ ≡ ν₇ → (report′ : List ℕ) → (r : ℕ) → r < 2 ^ 32 → (Answered (lending axes mode job work pairs (buffers out ids map log)) r (leaves work′ pairs′ (buffers out′ ids′ map′ log′)) report report′) → ent 𝓤 (⋆ 𝓤 H A (Slice job ∷ Slice₂ work′ ∷ Slice₃ pairs′ ∷ Slice₄ out′ ∷ Slice₅ ids′ ∷ Slice₆ map′ ∷ Slice₇ log′ ∷ Slice₈ report′ ∷ [])) (Post (vint w32 r))
   exits work′ long₂ pairs′ long₃ out′ long₄ ids′ long₅ map′ long₆ log′ long₇ report′ r g e =
       qed W (Slice job ∷ Slice₂ work′ ∷ Slice₃ pairs′ ∷ Slice₄ out′ ∷ Slice₅ ids′ ∷ Slice₆ map′ ∷ Slice₇ log′ ∷ Slice₈ report′ ∷ []) ∵ suffices ! _ (ends-at 𝓤 H A ivs-build.ended stayed (ivs-build.clauses 𝓤 H A mem run) W bound (vint w32 r) r (tt, (tt, (tt, (work′, (pairs′, (out′, (ids′, (map′, (log′, (report′, tt)))))))))) (tt, (tt, (tt, (long₂, (long₃, (long₄, (long₅, (long₆, (long₇, (tt, tt))))))))))) $
-      split ! $ move ! (2 ∷ []) $ split ! $ move ! (4 ∷ []) $ split ! $ move ! (6 ∷ []) $ split ! $ move ! (8 ∷ []) $ split ! $ move ! (10 ∷ []) $ split ! $ move ! (12 ∷ []) $ split ! $ move ! (14 ∷ []) $ split ! $ nothing ! $ move ! (2 ∷ 0 ∷ []) $ join ! $ move ! (3 ∷ 0 ∷ []) $ join ! $ move ! (4 ∷ 0 ∷ []) $ join ! $ move ! (5 ∷ 0 ∷ []) $ join ! $ move ! (6 ∷ 0 ∷ []) $ join ! $ move ! (7 ∷ 0 ∷ []) $ join ! $ move ! (8 ∷ 0 ∷ []) $ join ! $ move ! (9 ∷ 0 ∷ []) $ join ! $ owned ! u32 (Is u32) (uint-makes 𝓤 H A W w32) r _ (refl, g) $ nothing ! $ move ! (3 ∷ 0 ∷ []) $ fjoin ! $ move ! (3 ∷ 0 ∷ []) $ fjoin ! $ move ! (3 ∷ 0 ∷ []) $ fjoin ! $ move ! (3 ∷ 0 ∷ []) $ fjoin ! $ move ! (3 ∷ 0 ∷ []) $ fjoin ! $ move ! (3 ∷ 0 ∷ []) $ fjoin ! $ move ! (3 ∷ 0 ∷ []) $ fjoin ! $ move ! (3 ∷ 0 ∷ []) $ fjoin ! $ owned ! u32 (Is u32) (uint-makes 𝓤 H A W w32) mode _ (refl, g-mode) $ fjoin ! $ owned ! u32 (Is u32) (uint-makes 𝓤 H A W w32) axes _ (refl, g-axes) $ fjoin ! $ join ! $ move ! (1 ∷ 0 ∷ []) $ join ! $ frame ! $ use0 W (raw (fact 𝓤 (Told (lending axes mode job work pairs (buffers out ids map log)) r (leaves work′ pairs′ (buffers out′ ids′ map′ log′)) report report′))) (factI 𝓤 (Told (lending axes mode job work pairs (buffers out ids map log)) r (leaves work′ pairs′ (buffers out′ ids′ map′ log′)) report report′) (emp 𝓤) e) $ done !
+      split ! $ move ! (2 ∷ []) $ split ! $ move ! (4 ∷ []) $ split ! $ move ! (6 ∷ []) $ split ! $ move ! (8 ∷ []) $ split ! $ move ! (10 ∷ []) $ split ! $ move ! (12 ∷ []) $ split ! $ move ! (14 ∷ []) $ split ! $ nothing ! $ move ! (2 ∷ 0 ∷ []) $ join ! $ move ! (3 ∷ 0 ∷ []) $ join ! $ move ! (4 ∷ 0 ∷ []) $ join ! $ move ! (5 ∷ 0 ∷ []) $ join ! $ move ! (6 ∷ 0 ∷ []) $ join ! $ move ! (7 ∷ 0 ∷ []) $ join ! $ move ! (8 ∷ 0 ∷ []) $ join ! $ move ! (9 ∷ 0 ∷ []) $ join ! $ owned ! u32 (Is u32) (uint-makes 𝓤 H A W w32) r _ (refl, g) $ nothing ! $ move ! (3 ∷ 0 ∷ []) $ fjoin ! $ move ! (3 ∷ 0 ∷ []) $ fjoin ! $ move ! (3 ∷ 0 ∷ []) $ fjoin ! $ move ! (3 ∷ 0 ∷ []) $ fjoin ! $ move ! (3 ∷ 0 ∷ []) $ fjoin ! $ move ! (3 ∷ 0 ∷ []) $ fjoin ! $ move ! (3 ∷ 0 ∷ []) $ fjoin ! $ move ! (3 ∷ 0 ∷ []) $ fjoin ! $ owned ! u32 (Is u32) (uint-makes 𝓤 H A W w32) mode _ (refl, g-mode) $ fjoin ! $ owned ! u32 (Is u32) (uint-makes 𝓤 H A W w32) axes _ (refl, g-axes) $ fjoin ! $ join ! $ move ! (1 ∷ 0 ∷ []) $ join ! $ frame ! $ use0 W (raw (fact 𝓤 (Answered (lending axes mode job work pairs (buffers out ids map log)) r (leaves work′ pairs′ (buffers out′ ids′ map′ log′)) report report′))) (factI 𝓤 (Answered (lending axes mode job work pairs (buffers out ids map log)) r (leaves work′ pairs′ (buffers out′ ids′ map′ log′)) report report′) (emp 𝓤) e) $ done !
 
-  module _ (𝓣 : AllCalls 𝓤 H) (known-build : Triple 𝓤 (𝓣 .C #build·build) (Build-of 𝓤 H A mem run)) (known-tell : Triple 𝓤 (𝓣 .C #ivs·tell) (Tell-of 𝓤 H A mem run)) (sized : Room u8 ν) (sized₂ : Room u32 ν₂) (sized₃ : Room T.the-row ν₃) (sized₄ : Room u8 ν₄) (sized₅ : Room u32 ν₅) (sized₆ : Room u32 ν₆) (sized₇ : Room u32 ν₇) where
+  module _ (𝓣 : AllCalls 𝓤 H) (known-build : Triple 𝓤 (𝓣 .C #packer·build) (Build-of 𝓤 H A mem run)) (known-tell : Triple 𝓤 (𝓣 .C #ivs·tell) (Tell-of 𝓤 H A mem run)) (sized : Room u8 ν) (sized₂ : Room u32 ν₂) (sized₃ : Room T.the-row ν₃) (sized₄ : Room u8 ν₄) (sized₅ : Room u32 ν₅) (sized₆ : Room u32 ν₆) (sized₇ : Room u32 ν₇) where
     abbrev C : Calls 𝓤 H
     C = 𝓣 .C
 
@@ -202,7 +202,7 @@ module _ {M : Type 1} (𝓤 : URA M) (H : Heap 𝓤) (A : Atoms 𝓤) (W : Given
           join ! $
           move ! (1 ∷ 0 ∷ []) $
           join ! $
-          use1 W (later (raw (C #build·build (vint w32 axes ∷ vint w32 mode ∷ σ ∷ σ₂ ∷ σ₃ ∷ σ₄ ∷ σ₅ ∷ σ₆ ∷ σ₇ ∷ []) (λ w. mean 𝓤 H A (After-build-see-mut-mut-mut-mut-mut-mut 𝓤 H A W mem run C fm known-build κ θ γ β ι ν job κ₂ θ₂ γ₂ β₂ ι₂ ν₂ work κ₃ θ₃ γ₃ β₃ ι₃ ν₃ pairs κ₄ θ₄ γ₄ β₄ ι₄ ν₄ out κ₅ θ₅ γ₅ β₅ ι₅ ν₅ ids κ₆ θ₆ γ₆ β₆ ι₆ ν₆ map κ₇ θ₇ γ₇ β₇ ι₇ ν₇ log axes mode w))))) (build-see-mut-mut-mut-mut-mut-mut 𝓤 H A W mem run C fm known-build κ θ γ β ι ν job κ₂ θ₂ γ₂ β₂ ι₂ ν₂ work κ₃ θ₃ γ₃ β₃ ι₃ ν₃ pairs κ₄ θ₄ γ₄ β₄ ι₄ ν₄ out κ₅ θ₅ γ₅ β₅ ι₅ ν₅ ids κ₆ θ₆ γ₆ β₆ ι₆ ν₆ map κ₇ θ₇ γ₇ β₇ ι₇ ν₇ log axes mode refl refl refl refl refl refl sized₂ sized₃ sized₄ sized₅ sized₆ sized₇ g-axes g-mode) $ await ! tt $
+          use1 W (later (raw (C #packer·build (vint w32 axes ∷ vint w32 mode ∷ σ ∷ σ₂ ∷ σ₃ ∷ σ₄ ∷ σ₅ ∷ σ₆ ∷ σ₇ ∷ []) (λ w. mean 𝓤 H A (After-build-see-mut-mut-mut-mut-mut-mut 𝓤 H A W mem run C fm known-build κ θ γ β ι ν job κ₂ θ₂ γ₂ β₂ ι₂ ν₂ work κ₃ θ₃ γ₃ β₃ ι₃ ν₃ pairs κ₄ θ₄ γ₄ β₄ ι₄ ν₄ out κ₅ θ₅ γ₅ β₅ ι₅ ν₅ ids κ₆ θ₆ γ₆ β₆ ι₆ ν₆ map κ₇ θ₇ γ₇ β₇ ι₇ ν₇ log axes mode w))))) (build-see-mut-mut-mut-mut-mut-mut 𝓤 H A W mem run C fm known-build κ θ γ β ι ν job κ₂ θ₂ γ₂ β₂ ι₂ ν₂ work κ₃ θ₃ γ₃ β₃ ι₃ ν₃ pairs κ₄ θ₄ γ₄ β₄ ι₄ ν₄ out κ₅ θ₅ γ₅ β₅ ι₅ ν₅ ids κ₆ θ₆ γ₆ β₆ ι₆ ν₆ map κ₇ θ₇ γ₇ β₇ ι₇ ν₇ log axes mode refl refl refl refl refl refl sized₂ sized₃ sized₄ sized₅ sized₆ sized₇ g-axes g-mode) $ await ! tt $
           calls ! fm (After-build-see-mut-mut-mut-mut-mut-mut 𝓤 H A W mem run C fm known-build κ θ γ β ι ν job κ₂ θ₂ γ₂ β₂ ι₂ ν₂ work κ₃ θ₃ γ₃ β₃ ι₃ ν₃ pairs κ₄ θ₄ γ₄ β₄ ι₄ ν₄ out κ₅ θ₅ γ₅ β₅ ι₅ ν₅ ids κ₆ θ₆ γ₆ β₆ ι₆ ν₆ map κ₇ θ₇ γ₇ β₇ ι₇ ν₇ log axes mode) (and-then ! (load ! (from ! (stop !)) (look ! 48 refl)) (and-then ! (load ! (from ! (stop !)) (look ! 46 refl)) (and-then ! (load ! (from ! (stop !)) (look ! 44 refl)) (and-then ! (load ! (from ! (stop !)) (look ! 24 refl)) (and-then ! (load ! (from ! (stop !)) (look ! 20 refl)) (and-then ! (load ! (from ! (stop !)) (look ! 16 refl)) (and-then ! (load ! (from ! (stop !)) (look ! 12 refl)) (and-then ! (load ! (from ! (stop !)) (look ! 8 refl)) (and-then ! (load ! (from ! (stop !)) (look ! 4 refl)) (no-more !)))))))))) (λ r-b. await ! tt $ pick ! (λ b. pick ! (λ x-b. learn ! (λ e-b. split ! $ move ! (1 ∷ []) $ facts ! D.the-row (Is D.the-row) (shows 𝓤 H A D.the-row) b (r-b ∷ []) (λ g-b.
           land ! (from ! (stop !)) (init ! 28 refl (EL.lawful D.the-type D′.the-laws 𝓤 H A W tt .typed b _ g-b .0)) $
           rewrite ! 28 (λ (u : Val). ‵ (fat fullShare (D′.mir) l₁₁ 0 u)) (spelt-D b r-b g-b) refl $
@@ -301,15 +301,15 @@ module _ {M : Type 1} (𝓤 : URA M) (H : Heap 𝓤) (A : Atoms 𝓤) (W : Given
   abbrev Entry : SProp 𝓤
   Entry = onEntry 𝓤 H A ivs-build.signature (κ, (κ₂, (κ₃, (κ₄, (κ₅, (κ₆, (κ₇, (κ₈, tt)))))))) (θ, (θ₂, (θ₃, (θ₄, (θ₅, (θ₆, (θ₇, (θ₈, tt)))))))) (bound .0 .3) (bound .0 .4)
 
-  starts : (𝓣 : AllCalls 𝓤 H) → Triple 𝓤 (𝓣 .C #build·build) (Build-of 𝓤 H A mem run) → Triple 𝓤 (𝓣 .C #ivs·tell) (Tell-of 𝓤 H A mem run) → Room u8 ν → Room u32 ν₂ → Room T.the-row ν₃ → Room u8 ν₄ → Room u32 ν₅ → Room u32 ν₆ → Room u32 ν₇ → ent 𝓤 (sep 𝓤 Entry (emp 𝓤)) (WpFn 𝓤 H (𝓣 .C) (𝓣 .Λ) code.function (vint w32 axes ∷ vint w32 mode ∷ σ ∷ σ₂ ∷ σ₃ ∷ σ₄ ∷ σ₅ ∷ σ₆ ∷ σ₇ ∷ σ₈ ∷ []) Post)
+  starts : (𝓣 : AllCalls 𝓤 H) → Triple 𝓤 (𝓣 .C #packer·build) (Build-of 𝓤 H A mem run) → Triple 𝓤 (𝓣 .C #ivs·tell) (Tell-of 𝓤 H A mem run) → Room u8 ν → Room u32 ν₂ → Room T.the-row ν₃ → Room u8 ν₄ → Room u32 ν₅ → Room u32 ν₆ → Room u32 ν₇ → ent 𝓤 (sep 𝓤 Entry (emp 𝓤)) (WpFn 𝓤 H (𝓣 .C) (𝓣 .Λ) code.function (vint w32 axes ∷ vint w32 mode ∷ σ ∷ σ₂ ∷ σ₃ ∷ σ₄ ∷ σ₅ ∷ σ₆ ∷ σ₇ ∷ σ₈ ∷ []) Post)
   starts 𝓣 k-build k-tell sized sized₂ sized₃ sized₄ sized₅ sized₆ sized₇ = needs-none 𝓤 Entry (emp 𝓤) (walk 𝓣 k-build k-tell sized sized₂ sized₃ sized₄ sized₅ sized₆ sized₇)
 
 module _ {M : Type 1} (𝓤 : URA M) (H : Heap 𝓤) (A : Atoms 𝓤) (W : Given 𝓤 H A) (mem : Memory → SProp 𝓤) (run : Routine → Fun 𝓤) (𝓣 : AllCalls 𝓤 H) where
-  ivs-build-walks : Triple 𝓤 (𝓣 .C #build·build) (Build-of 𝓤 H A mem run) → Triple 𝓤 (𝓣 .C #ivs·tell) (Tell-of 𝓤 H A mem run) → Walks 𝓤 H A ivs-build.ended stayed (WpFn 𝓤 H (𝓣 .C) (𝓣 .Λ) code.function) (ivs-build.clauses 𝓤 H A mem run)
+  ivs-build-walks : Triple 𝓤 (𝓣 .C #packer·build) (Build-of 𝓤 H A mem run) → Triple 𝓤 (𝓣 .C #ivs·tell) (Tell-of 𝓤 H A mem run) → Walks 𝓤 H A ivs-build.ended stayed (WpFn 𝓤 H (𝓣 .C) (𝓣 .Λ) code.function) (ivs-build.clauses 𝓤 H A mem run)
   ivs-build-walks k-build k-tell = walked 𝓤 H A ivs-build.ended stayed (ivs-build.clauses 𝓤 H A mem run) (WpFn 𝓤 H (𝓣 .C) (𝓣 .Λ) code.function) (λ κs. (uint-vals w32, (uint-vals w32, (slice-vals, (slice-vals, (slice-vals, (slice-vals, (slice-vals, (slice-vals, (slice-vals, (ptr-vals, tt))))))))))) (λ κs. (uint-tells w32, (uint-tells w32, (shr-slice-tells (named 0) (κs .0) u8, (mut-slice-tells (named 1) (κs .1 .0) u32, (mut-slice-tells (named 2) (κs .1 .1 .0) T.the-row, (mut-slice-tells (named 3) (κs .1 .1 .1 .0) u8, (mut-slice-tells (named 4) (κs .1 .1 .1 .1 .0) u32, (mut-slice-tells (named 5) (κs .1 .1 .1 .1 .1 .0) u32, (mut-slice-tells (named 6) (κs .1 .1 .1 .1 .1 .1 .0) u32, (mut-tells (named 7) (κs .1 .1 .1 .1 .1 .1 .1 .0) (Array u64 tt 16), tt)))))))))))
       (λ κs qs bounds a g are. starts 𝓤 H A W mem run (κs .0) (qs .0) (a .1 .1 .0 .name) (a .1 .1 .0 .ptr .0) (a .1 .1 .0 .ptr .1) (a .1 .1 .0 .now) (κs .1 .0) (qs .1 .0) (a .1 .1 .1 .0 .name) (a .1 .1 .1 .0 .ptr .0) (a .1 .1 .1 .0 .ptr .1) (a .1 .1 .1 .0 .now) (κs .1 .1 .0) (qs .1 .1 .0) (a .1 .1 .1 .1 .0 .name) (a .1 .1 .1 .1 .0 .ptr .0) (a .1 .1 .1 .1 .0 .ptr .1) (a .1 .1 .1 .1 .0 .now) (κs .1 .1 .1 .0) (qs .1 .1 .1 .0) (a .1 .1 .1 .1 .1 .0 .name) (a .1 .1 .1 .1 .1 .0 .ptr .0) (a .1 .1 .1 .1 .1 .0 .ptr .1) (a .1 .1 .1 .1 .1 .0 .now) (κs .1 .1 .1 .1 .0) (qs .1 .1 .1 .1 .0) (a .1 .1 .1 .1 .1 .1 .0 .name) (a .1 .1 .1 .1 .1 .1 .0 .ptr .0) (a .1 .1 .1 .1 .1 .1 .0 .ptr .1) (a .1 .1 .1 .1 .1 .1 .0 .now) (κs .1 .1 .1 .1 .1 .0) (qs .1 .1 .1 .1 .1 .0) (a .1 .1 .1 .1 .1 .1 .1 .0 .name) (a .1 .1 .1 .1 .1 .1 .1 .0 .ptr .0) (a .1 .1 .1 .1 .1 .1 .1 .0 .ptr .1) (a .1 .1 .1 .1 .1 .1 .1 .0 .now) (κs .1 .1 .1 .1 .1 .1 .0) (qs .1 .1 .1 .1 .1 .1 .0) (a .1 .1 .1 .1 .1 .1 .1 .1 .0 .name) (a .1 .1 .1 .1 .1 .1 .1 .1 .0 .ptr .0) (a .1 .1 .1 .1 .1 .1 .1 .1 .0 .ptr .1) (a .1 .1 .1 .1 .1 .1 .1 .1 .0 .now) (κs .1 .1 .1 .1 .1 .1 .1 .0) (qs .1 .1 .1 .1 .1 .1 .1 .0) (a .1 .1 .1 .1 .1 .1 .1 .1 .1 .0 .name) (a .1 .1 .1 .1 .1 .1 .1 .1 .1 .0 .ptr .0) (a .1 .1 .1 .1 .1 .1 .1 .1 .1 .0 .ptr .1) (a .1 .1 .1 .1 .1 .1 .1 .1 .1 .0 .now) (a .0) (a .1 .0) (are .0 .1) (are .1 .0 .1) 𝓣 k-build k-tell (are .1 .1 .0 .0 .1) (are .1 .1 .1 .0 .0 .1) (are .1 .1 .1 .1 .0 .0 .1) (are .1 .1 .1 .1 .1 .0 .0 .1) (are .1 .1 .1 .1 .1 .1 .0 .0 .1) (are .1 .1 .1 .1 .1 .1 .1 .0 .0 .1) (are .1 .1 .1 .1 .1 .1 .1 .1 .0 .0 .1))
 
-  ivs-build-meets : Triple 𝓤 (𝓣 .C #build·build) (Build-of 𝓤 H A mem run) → Triple 𝓤 (𝓣 .C #ivs·tell) (Tell-of 𝓤 H A mem run) → Meets 𝓤 H A ivs-build.signature (WpFn 𝓤 H (𝓣 .C) (𝓣 .Λ) code.function) (ivs-build.spec 𝓤 H A mem run)
+  ivs-build-meets : Triple 𝓤 (𝓣 .C #packer·build) (Build-of 𝓤 H A mem run) → Triple 𝓤 (𝓣 .C #ivs·tell) (Tell-of 𝓤 H A mem run) → Meets 𝓤 H A ivs-build.signature (WpFn 𝓤 H (𝓣 .C) (𝓣 .Λ) code.function) (ivs-build.spec 𝓤 H A mem run)
   ivs-build-meets k-build k-tell = walk-meets 𝓤 H A ivs-build.ended stayed W (goes-none 𝓤 H A W 8 (λ _. u32) yes (λ κs x f. refl), (goes-none 𝓤 H A W 8 (λ _. u32) yes (λ κs x f. refl), (goes-none-slice 𝓤 H A W 8 (0 ∷ []) tt (plain (λ _. u8)) yes, (goes-slice 𝓤 H A W 8 1 tt (plain (λ _. u32)), (goes-slice 𝓤 H A W 8 2 tt (plain (λ _. T.the-row)), (goes-slice 𝓤 H A W 8 3 tt (plain (λ _. u8)), (goes-slice 𝓤 H A W 8 4 tt (plain (λ _. u32)), (goes-slice 𝓤 H A W 8 5 tt (plain (λ _. u32)), (goes-slice 𝓤 H A W 8 6 tt (plain (λ _. u32)), (goes-ref 𝓤 H A W 8 7 tt (plain (λ _. (Array u64 tt 16))), tt)))))))))) (ivs-build.clauses 𝓤 H A mem run) (WpFn 𝓤 H (𝓣 .C) (𝓣 .Λ) code.function) (WpFn-mono 𝓤 H (W .laws) 𝓣 code.function) (ivs-build-walks k-build k-tell)
 
 pub ivs-build-spec : {M : Type 1} → stated.statement M
@@ -318,5 +318,5 @@ ivs-build-spec 𝓤 H 𝓜 𝓖 𝓡 =
     entered 𝓤 H (tripleOf 𝓤 H (𝓖 .A) ivs-build.signature (ivs-build.spec 𝓤 H (𝓖 .A) (𝓜 .mem) (𝓡 .run)))
     (tables 𝓤 H 𝓜 𝓡 code.env .C) (tables 𝓤 H 𝓜 𝓡 code.env .Λ) #ivs·ivs-build code.function (code.unfolded 𝓤 H 𝓜 𝓡)
     (ivs-build-meets 𝓤 H (𝓖 .A) (givenOf 𝓤 H 𝓜 𝓖) (𝓜 .mem) (𝓡 .run) (tablesOf 𝓤 H 𝓜 (tables 𝓤 H 𝓜 𝓡 code.env))
-    (cited 𝓤 H (Build-of 𝓤 H (𝓖 .A) (𝓜 .mem) (𝓡 .run)) 𝓜 𝓡 code.env #build·build build-def.routine code.calls-build·build (build-thm.met 𝓤 H 𝓜 𝓖 𝓡))
+    (cited 𝓤 H (Build-of 𝓤 H (𝓖 .A) (𝓜 .mem) (𝓡 .run)) 𝓜 𝓡 code.env #packer·build build-def.routine code.calls-packer·build (build-thm.met 𝓤 H 𝓜 𝓖 𝓡))
     (cited 𝓤 H (Tell-of 𝓤 H (𝓖 .A) (𝓜 .mem) (𝓡 .run)) 𝓜 𝓡 code.env #ivs·tell tell-def.routine code.calls-ivs·report·tell (tell-thm.met 𝓤 H 𝓜 𝓖 𝓡)))

@@ -3,10 +3,9 @@ use mathlib.Core.List.{List}
 use Prim.Native.Nat.{ℕ, _+_, _-_, _*_, _≤_, _<_}
 use denote.Ref.{now}
 use lib.ListN.{length, getD, length-set}
-use Rattle.laws.specs.Range.{seg}
+use Rattle.laws.specs.LentRange.{seg}
 use Rattle.laws.proofs.RangeLaws.{seg-all}
-use Rattle.store.specs.Placing.{inRun}
-use Rattle.store.specs.Lent.{stored}
+use Rattle.store.specs.Placing.{inRun, stored}
 use Rattle.store.proofs.MapLaws.{run-all, run-more, run-done}
 use borrow.Author.Needs.{needs}
 use native.Mathlib.Omega.{arith}

@@ -3,7 +3,7 @@ use mathlib.Core.Path.{_≡_, refl}
 use denote.Ref.{now}
 use lib.ListN.{length}
 use Rattle.laws.specs.Bytes.{over}
-use Rattle.laws.specs.Range.{seg}
+use Rattle.laws.specs.LentRange.{seg}
 use Rattle.finishing.proofs.LoopLaws.{copy-start, copy-long, copy-more, copy-done}
 use native.Mathlib.Omega.{arith}
 use Rattle.finishing.proofs.finishing.copy_words.Statement.{statement}

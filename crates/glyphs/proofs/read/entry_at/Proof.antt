@@ -3,7 +3,7 @@ use Prim.Native.Nat.{ℕ, _+_, _/_}
 use denote.Ref.{now}
 use Rattle.laws.proofs.Products.{product}
 use Rattle.laws.proofs.BytesLaws.{pow-top}
-use Rattle.glyphs.specs.Reading.{startOf}
+use Rattle.glyphs.specs.Reading.{entriesFrom}
 use Rattle.glyphs.proofs.ReadLaws.{map-fits, place-inside, entry-there}
 use native.Mathlib.Omega.{arith}
 use borrow.Author.Needs.{needs}
@@ -43,12 +43,12 @@ add-at c = let f = map-fits _ (c .before .before .before .before .before .before
 be-requires-3 : tie.Need-be-requires-3
 be-requires-3 c κs =
     let f = map-fits _ (c .before .before .before .before .before .before .pre) in
-    (omega (arith, f .form, c .before .before .before .before .be .ensures .is), place-inside (now (c .before .before .before .before .before .before .args .s)) (c .before .before .entry-no .result) _ _ f (omega (arith, c .before .before .before .count .ensures .0)) (ap (λ (x : ℕ). x / 16 + 1) (c .before .before .before .before .be .ensures .is)) (c .start .ensures .0 ∙ ap startOf (c .before .be2 .ensures .is)))
+    (omega (arith, f .form, c .before .before .before .before .be .ensures .is), place-inside (now (c .before .before .before .before .before .before .args .s)) (c .before .before .entry-no .result) _ _ f (omega (arith, c .before .before .before .count .ensures .0)) (ap (λ (x : ℕ). x / 16 + 1) (c .before .before .before .before .be .ensures .is)) (c .start .ensures .0 ∙ ap entriesFrom (c .before .be2 .ensures .is)))
 
 returns : tie.Need-returns
 returns c =
     let f = map-fits _ (c .before .before .before .before .before .before .before .pre) in
-    (entry-there (now (c .before .before .before .before .before .before .before .args .s)) (c .before .before .before .before .before .before .before .args .glyph) _ _ _ (c .before .before .before .before .count .result) _ (ap (λ (x : ℕ). x / 16 + 1) (c .before .before .before .before .before .be .ensures .is)) (c .before .start .ensures .0 ∙ ap startOf (c .before .before .be2 .ensures .is)) (c .before .before .before .before .count .ensures .0) (c .before .before .before .entry-no .ensures .0) (c .be3 .ensures), omega (arith, c .be3 .ensures .below, pow-top 4 {i = c .before .before .before .before .before .be .result / 16 + 1} (omega (arith, f .form, c .before .before .before .before .before .be .ensures .is))))
+    (entry-there (now (c .before .before .before .before .before .before .before .args .s)) (c .before .before .before .before .before .before .before .args .glyph) _ _ _ (c .before .before .before .before .count .result) _ (ap (λ (x : ℕ). x / 16 + 1) (c .before .before .before .before .before .be .ensures .is)) (c .before .start .ensures .0 ∙ ap entriesFrom (c .before .before .be2 .ensures .is)) (c .before .before .before .before .count .ensures .0) (c .before .before .before .entry-no .ensures .0) (c .be3 .ensures), omega (arith, c .be3 .ensures .below, pow-top 4 {i = c .before .before .before .before .before .be .result / 16 + 1} (omega (arith, f .form, c .before .before .before .before .before .be .ensures .is))))
 
 pub entry-at-spec : {M : Type 1} → statement M
 entry-at-spec =

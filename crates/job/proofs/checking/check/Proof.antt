@@ -5,7 +5,7 @@ use Rattle.job.proofs.checking.check.Statement.{statement}
 use Rattle.job.proofs.checking.check.Tie as tie
 use Rattle.job.proofs.checking.check.Reads as reads
 use Rattle.job.proofs.checking.check.Lts as lts
-use Rattle.job.proofs.early.clear.Reads as clear-reads
+use Rattle.job.proofs.early.clear_work.Reads as clear-work-reads
 use Rattle.job.proofs.early.early_no.Reads as early-no-reads
 use Rattle.job.proofs.whole.read_job.Reads as read-job-reads
 use Rattle.laws.proofs.wide.Reads as wide-reads
@@ -31,8 +31,8 @@ read-job-requires c κs =
     let o = c .before .before .before .before .early-no .ensures .1 (c .before .before .before .if1 .left) in
     omega (arith, o .some, o .most, o .few, o .whole, room _ _ _ _ _ o, c .before .before .wide .ensures, c .before .records-in .ensures)
 
-clear-requires : tie.Need-clear-requires
-clear-requires c κs = search needs
+clear-work-requires : tie.Need-clear-work-requires
+clear-work-requires c κs = search needs
 
 same-length : tie.Need-same-length
 same-length c = search needs
@@ -42,7 +42,7 @@ returns-2 c =
     let a = c .before .before .before .before .before .before .before .before .before .before .before .before .before .before .before .before .args in
     let n = c .before .before .before .before .before .before .before .before .before .before .before .before .before .early-no in
     let z = c .before .before .before .before .before .before .before .before .before .before .before .before .if1 .left in
-    (refused-record (a .axes) (a .mode) (a .job .now) (a .work .now) (a .pairs) (n .result) (n .ensures .0) z (c .before .before .before .before .before .before .before .before .before .before .before .wide .ensures) (c .before .before .before .before .before .before .before .before .before .before .records-in .ensures) (c .before .before .before .before .before .before .before .before .read-job .ensures) (c .if2 .taken), left-zeros (a .axes) (a .mode) (a .job .now) (a .work .now) (a .pairs) (n .result) (n .ensures .0) z _ _ (c .before .before .before .before .before .before .before .before .read-job .ensures .only .long) (c .before .before .before .before .clear .ensures))
+    (refused-record (a .axes) (a .mode) (a .job .now) (a .work .now) (a .pairs) (n .result) (n .ensures .0) z (c .before .before .before .before .before .before .before .before .before .before .before .wide .ensures) (c .before .before .before .before .before .before .before .before .before .before .records-in .ensures) (c .before .before .before .before .before .before .before .before .read-job .ensures) (c .if2 .taken), left-zeros (a .axes) (a .mode) (a .job .now) (a .work .now) (a .pairs) (n .result) (n .ensures .0) z _ _ (c .before .before .before .before .before .before .before .before .read-job .ensures .only .long) (c .before .before .before .before .clear-work .ensures))
 
 same-length-2 : tie.Need-same-length-2
 same-length-2 c = search needs
@@ -52,7 +52,7 @@ returns-3 c =
     let a = c .before .before .before .before .before .before .before .before .before .before .before .before .before .before .before .before .args in
     let n = c .before .before .before .before .before .before .before .before .before .before .before .before .before .early-no in
     let z = c .before .before .before .before .before .before .before .before .before .before .before .before .if1 .left in
-    (sound-all (a .axes) (a .mode) (a .job .now) (a .work .now) (a .pairs) (n .result) (n .ensures .0) z (c .before .before .before .before .before .before .before .before .before .before .before .wide .ensures) (c .before .before .before .before .before .before .before .before .before .before .records-in .ensures) (c .before .before .before .before .before .before .before .before .read-job .ensures) (c .if2 .left), left-zeros (a .axes) (a .mode) (a .job .now) (a .work .now) (a .pairs) (n .result) (n .ensures .0) z _ _ (c .before .before .before .before .before .before .before .before .read-job .ensures .only .long) (c .before .before .before .before .clear .ensures))
+    (sound-all (a .axes) (a .mode) (a .job .now) (a .work .now) (a .pairs) (n .result) (n .ensures .0) z (c .before .before .before .before .before .before .before .before .before .before .before .wide .ensures) (c .before .before .before .before .before .before .before .before .before .before .records-in .ensures) (c .before .before .before .before .before .before .before .before .read-job .ensures) (c .if2 .left), left-zeros (a .axes) (a .mode) (a .job .now) (a .work .now) (a .pairs) (n .result) (n .ensures .0) z _ _ (c .before .before .before .before .before .before .before .before .read-job .ensures .only .long) (c .before .before .before .before .clear-work .ensures))
 
 pub check-spec : {M : Type 1} → statement M
 check-spec =
@@ -63,7 +63,7 @@ check-spec =
     wide-requires
     records-in-requires
     read-job-requires
-    clear-requires
+    clear-work-requires
     same-length
     returns-2
     same-length-2

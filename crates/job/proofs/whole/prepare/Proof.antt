@@ -7,7 +7,7 @@ use Rattle.job.proofs.whole.prepare.Statement.{statement}
 use Rattle.job.proofs.whole.prepare.Tie as tie
 use Rattle.job.proofs.whole.prepare.Reads as reads
 use Rattle.job.proofs.whole.prepare.Lts as lts
-use Rattle.walk.proofs.find_firsts.Reads as find-firsts-reads
+use Rattle.job_scan.proofs.find_firsts.Reads as find-firsts-reads
 use Rattle.laws.proofs.zero_part.Reads as zero-part-reads
 
 mul-find-firsts : tie.Need-mul-find-firsts

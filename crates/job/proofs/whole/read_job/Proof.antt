@@ -8,8 +8,8 @@ use Rattle.job.proofs.whole.read_job.Statement.{statement}
 use Rattle.job.proofs.whole.read_job.Tie as tie
 use Rattle.job.proofs.whole.read_job.Reads as reads
 use Rattle.job.proofs.whole.read_job.Lts as lts
-use Rattle.walk.proofs.axes_end.Reads as axes-end-reads
-use Rattle.walk.proofs.read_sets.Reads as read-sets-reads
+use Rattle.job_scan.proofs.axes_end.Reads as axes-end-reads
+use Rattle.job_scan.proofs.read_sets.Reads as read-sets-reads
 use Rattle.job.proofs.whole.prepare.Reads as prepare-reads
 use Rattle.job.proofs.whole.tables_at.Reads as tables-at-reads
 

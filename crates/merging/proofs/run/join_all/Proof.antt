@@ -39,14 +39,14 @@ use denote.Triple.Statement.{Triple}
 use denote.Triple.Table.{entered, cited}
 use denote.Triple.Walked.{needs, Stays, stay-slice, stay-none, walkOf, goes-slice, goes-none, Walks, ends-at, walked, walk-meets}
 use denote.Exit.{yes}
-use Rattle.waits.specs.Waits.{room}
-use Rattle.merging.specs.Held.{SomeStanding, Ran}
+use Rattle.waits.specs.LentWaits.{room}
+use Rattle.merging.specs.LentHeld.{SomeStanding, Ran}
 use Rattle.merging.proofs.RunLaws.{turned-some, Running, running-start, running-more, running-less, running-done}
 use Rattle.pairs.specs.declared.Pair.{Pair}
 use Rattle.pairs.proofs.Pair as T
-use Rattle.slots.specs.declared.tables.Tables.{Tables}
-use Rattle.slots.proofs.tables.Tables as L
-use Rattle.slots.proofs.tables.Tables.Laws as L′
+use Rattle.slots.specs.declared.tables.MergeTables.{MergeTables}
+use Rattle.slots.proofs.tables.MergeTables as L
+use Rattle.slots.proofs.tables.MergeTables.Laws as L′
 use Rattle.merging.specs.declared.run.Progress.{Progress}
 use Rattle.merging.proofs.run.Progress as Z
 use Rattle.merging.proofs.run.Progress.Laws as Z′
@@ -85,7 +85,7 @@ test true = inl tt
 test false = inr tt
 
 -- THE INVARIANT: the run has come to s
-pub record Now (tb : Tables) (start : Progress) (work : List ℕ) (pairs : List Pair) : Type 0 where
+pub record Now (tb : MergeTables) (start : Progress) (work : List ℕ) (pairs : List Pair) : Type 0 where
   pub s : Progress
   pub zs : List Pair
   pub ws : List ℕ
@@ -97,7 +97,7 @@ pub record Now (tb : Tables) (start : Progress) (work : List ℕ) (pairs : List 
 abbrev stayed : Stays (join-all.ended .signature .params) (join-all.ended .kept)
 stayed = (stay-slice (0 ∷ []) tt (plain (λ _. T.the-row)), (stay-slice (1 ∷ []) tt (plain (λ _. u32)), (stay-none (λ _. L.the-row) yes, (stay-none (λ _. Z.the-row) yes, tt))))
 
-module _ {M : Type 1} (𝓤 : URA M) (H : Heap 𝓤) (A : Atoms 𝓤) (W : Given 𝓤 H A) (mem : Memory → SProp 𝓤) (run : Routine → Fun 𝓤) (κ : Lft) (θ : Share) (γ : GName) (β ι : ℕ) (pairs : List Pair) (κ₂ : Lft) (θ₂ : Share) (γ₂ : GName) (β₂ ι₂ : ℕ) (work : List ℕ) (tb : Tables) (start : Progress) (g-tb : Is L.the-row tb (mach-tables tb ∷ [])) (g-start : Is Z.the-row start (mach-progress start ∷ [])) where
+module _ {M : Type 1} (𝓤 : URA M) (H : Heap 𝓤) (A : Atoms 𝓤) (W : Given 𝓤 H A) (mem : Memory → SProp 𝓤) (run : Routine → Fun 𝓤) (κ : Lft) (θ : Share) (γ : GName) (β ι : ℕ) (pairs : List Pair) (κ₂ : Lft) (θ₂ : Share) (γ₂ : GName) (β₂ ι₂ : ℕ) (work : List ℕ) (tb : MergeTables) (start : Progress) (g-tb : Is L.the-row tb (mach-tables tb ∷ [])) (g-start : Is Z.the-row start (mach-progress start ∷ [])) where
   abbrev ν : ℕ
   ν = length pairs
 

@@ -14,7 +14,7 @@ use Rattle.planning.proofs.outline.draft.Statement.{statement}
 use Rattle.planning.proofs.outline.draft.Tie as tie
 use Rattle.planning.proofs.outline.draft.Reads as reads
 use Rattle.planning.proofs.outline.draft.Lts as lts
-use Rattle.rows.proofs.clear.Reads as clear-reads
+use Rattle.rows.proofs.clear_places.Reads as clear-places-reads
 use Rattle.planning.proofs.regions.mark_groups.Reads as mark-groups-reads
 use Rattle.planning.proofs.regions.number.Reads as number-reads
 use Rattle.planning.proofs.size.size_groups.Reads as size-groups-reads
@@ -26,14 +26,14 @@ few c = omega (arith, c .before .before .before .number .ensures .all, kept-most
 bytes : (c : tie.After-size-groups) → 6 * c .before .before .before .before .before .before .before .before .before .before .before .before .before .before .before .before .before .args .axes * c .before .before .before .number .result ≤ 98304
 bytes c = product (6 * mostAxes) maxRegions {a = 6 * c .before .before .before .before .before .before .before .before .before .before .before .before .before .before .before .before .before .args .axes} {b = c .before .before .before .number .result} (omega (arith, c .before .before .before .before .before .before .before .before .before .before .before .before .before .before .before .before .before .pre .0)) (few c)
 
-clear-requires : tie.Need-clear-requires
-clear-requires c κs = search needs
+clear-places-requires : tie.Need-clear-places-requires
+clear-places-requires c κs = search needs
 
 mark-groups-requires : tie.Need-mark-groups-requires
 mark-groups-requires c κs =
     let a = c .before .before .before .before .before .before .before .before .args in
-    let e = c .before .before .before .clear .ensures in
-    (c .before .before .before .before .before .before .before .before .pre .1 .1 .1 .0, (c .before .before .before .before .before .before .before .before .pre .1 .1 .1 .1 .0, (omega (arith, c .before .before .before .clear .kept .0, c .before .before .before .before .before .before .before .before .pre .1 .1 .1 .1 .1 .1 .0), marks-none (a .regions) (a .groups) (now (a .work)) _ (λ r. ap (λ (l : List ℕ). getD l r 0) e ∙ zeros-at (length (now (a .marks))) r))))
+    let e = c .before .before .before .clear-places .ensures in
+    (c .before .before .before .before .before .before .before .before .pre .1 .1 .1 .0, (c .before .before .before .before .before .before .before .before .pre .1 .1 .1 .1 .0, (omega (arith, c .before .before .before .clear-places .kept .0, c .before .before .before .before .before .before .before .before .pre .1 .1 .1 .1 .1 .1 .0), marks-none (a .regions) (a .groups) (now (a .work)) _ (λ r. ap (λ (l : List ℕ). getD l r 0) e ∙ zeros-at (length (now (a .marks))) r))))
 
 number-requires : tie.Need-number-requires
 number-requires c κs = search needs
@@ -75,7 +75,7 @@ pub draft-spec : {M : Type 1} → statement M
 draft-spec =
     tie.close
     (tie.spec
-    clear-requires
+    clear-places-requires
     mark-groups-requires
     number-requires
     size-groups-requires

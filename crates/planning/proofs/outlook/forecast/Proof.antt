@@ -5,7 +5,7 @@ use denote.Ref.{now}
 use Rattle.laws.specs.Bounded.{tabulate}
 use Rattle.laws.proofs.Products.{product}
 use Rattle.store.specs.Placing.{modelOf}
-use Rattle.store.specs.Lent.{finalAt, total}
+use Rattle.store.specs.Lent.{finalAt, sumOf}
 use Rattle.store.proofs.SizeLaws.{sum-start, sum-more, sum-done, forecast-is}
 use borrow.Author.Needs.{needs}
 use native.Mathlib.Omega.{arith}
@@ -20,7 +20,7 @@ abbrev Inv-loop : tie.InvT-loop
 Inv-loop axes kept work regions groups count index sum₀ g₀ sum g =
     (g ≤ count)
     × (sum ≤ 549755813888 * g)
-    × (sum + total (tabulate g (count - g) (λ g. modelOf (finalAt regions work (groups + 3 * g)))) ≡ total (tabulate 0 count (λ g. modelOf (finalAt regions work (groups + 3 * g)))))
+    × (sum + sumOf (tabulate g (count - g) (λ g. modelOf (finalAt regions work (groups + 3 * g)))) ≡ sumOf (tabulate 0 count (λ g. modelOf (finalAt regions work (groups + 3 * g)))))
 
 abbrev μ-loop : tie.MeasureT-loop
 μ-loop axes kept work regions groups count index sum₀ g₀ sum g = count - g

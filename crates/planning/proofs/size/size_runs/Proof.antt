@@ -2,7 +2,7 @@ use mathlib.Core.Path.{_≡_}
 use Prim.Native.Nat.{ℕ, _+_, _-_, _*_, _≤_, min}
 use Rattle.laws.specs.Bounded.{tabulate}
 use Rattle.rows.specs.Subtable.{runCount}
-use Rattle.store.specs.Lent.{tableSize, total}
+use Rattle.store.specs.Lent.{tableSize, sumOf}
 use Rattle.store.proofs.SizeLaws.{runs-few, sum-start, sum-more, sum-done, sized}
 use borrow.Author.Needs.{needs}
 use native.Mathlib.Omega.{arith}
@@ -19,7 +19,7 @@ Inv-loop n row count runs bytes₀ k₀ bytes k =
     (runs ≡ runCount count)
     × (k ≤ runCount count)
     × (bytes ≤ 34359738368 * k)
-    × (bytes + total (tabulate k (runCount count - k) (λ k. tableSize n row (min 65535 (count - 65535 * k)))) ≡ total (tabulate 0 (runCount count) (λ k. tableSize n row (min 65535 (count - 65535 * k)))))
+    × (bytes + sumOf (tabulate k (runCount count - k) (λ k. tableSize n row (min 65535 (count - 65535 * k)))) ≡ sumOf (tabulate 0 (runCount count) (λ k. tableSize n row (min 65535 (count - 65535 * k)))))
 
 abbrev μ-loop : tie.MeasureT-loop
 μ-loop n row count runs bytes₀ k₀ bytes k = runs - k

@@ -11,17 +11,17 @@ use Rattle.rows.proofs.row.write_row.Tie as tie
 use Rattle.rows.proofs.row.write_row.Reads as reads
 use Rattle.rows.proofs.row.write_row.Lts as lts
 use Rattle.reader.proofs.column_at.Reads as column-at-reads
-use Rattle.rows.proofs.row.clear.Reads as clear-reads
+use Rattle.rows.proofs.row.clear_row.Reads as clear-row-reads
 use Rattle.rows.proofs.row.lay.Reads as lay-reads
 
 column-at-requires : tie.Need-column-at-requires
 column-at-requires c κs = search needs
 
-clear-requires : tie.Need-clear-requires
-clear-requires c κs = search needs
+clear-row-requires : tie.Need-clear-row-requires
+clear-row-requires c κs = search needs
 
 lay-requires : tie.Need-lay-requires
-lay-requires c κs = (c .before .before .before .before .before .before .before .before .before .before .pre .0, (c .before .before .before .before .before .before .before .before .before .before .pre .1 .0, (omega (arith, c .before .before .before .clear .kept .0, c .before .before .before .before .before .before .before .before .before .before .pre .1 .1 .0), (cleared-take (c .before .before .before .before .before .before .before .before .before .before .args .word) (now (c .before .before .before .before .before .before .before .before .before .before .args .cols)) (now (c .before .before .before .before .before .before .before .before .before .before .args .row)) _ _ (c .before .before .before .before .column-at .ensures .0) (c .before .before .before .clear .ensures), (c .before .before .before .before .before .before .before .before .before .before .pre .1 .1 .1 .0, c .before .before .before .before .before .before .before .before .before .before .pre .1 .1 .1 .1)))))
+lay-requires c κs = (c .before .before .before .before .before .before .before .before .before .before .pre .0, (c .before .before .before .before .before .before .before .before .before .before .pre .1 .0, (omega (arith, c .before .before .before .clear-row .kept .0, c .before .before .before .before .before .before .before .before .before .before .pre .1 .1 .0), (cleared-take (c .before .before .before .before .before .before .before .before .before .before .args .word) (now (c .before .before .before .before .before .before .before .before .before .before .args .cols)) (now (c .before .before .before .before .before .before .before .before .before .before .args .row)) _ _ (c .before .before .before .before .column-at .ensures .0) (c .before .before .before .clear-row .ensures), (c .before .before .before .before .before .before .before .before .before .before .pre .1 .1 .1 .0, c .before .before .before .before .before .before .before .before .before .before .pre .1 .1 .1 .1)))))
 
 same-length : tie.Need-same-length
 same-length c = search needs
@@ -29,8 +29,8 @@ same-length c = search needs
 returns : tie.Need-returns
 returns c =
     let a = c .before .before .before .before .before .before .before .before .before .before .before .before .before .args in
-    c .before .before .lay .ensures ∙ ap (λ (l : List ℕ). rowBytes (a .word) 0 (cellWords (entriesAt (a .start) (a .count) (now (a .work))) (now (a .cols))) ++ l) (cleared-drop (a .word) (now (a .cols)) (now (a .row)) _ _ (c .before .before .before .before .before .before .before .column-at .ensures .0) (c .before .before .before .before .before .before .clear .ensures))
+    c .before .before .lay .ensures ∙ ap (λ (l : List ℕ). rowBytes (a .word) 0 (cellWords (entriesAt (a .start) (a .count) (now (a .work))) (now (a .cols))) ++ l) (cleared-drop (a .word) (now (a .cols)) (now (a .row)) _ _ (c .before .before .before .before .before .before .before .column-at .ensures .0) (c .before .before .before .before .before .before .clear-row .ensures))
 
 pub write-row-spec : {M : Type 1} → statement M
 write-row-spec =
-    tie.close (tie.spec column-at-requires clear-requires lay-requires same-length returns)
+    tie.close (tie.spec column-at-requires clear-row-requires lay-requires same-length returns)

@@ -3,7 +3,7 @@ use mathlib.Core.List.{List}
 use Prim.Native.Nat.{ℕ, _+_, _-_, _*_, _≤_, _<_}
 use denote.Ref.{now}
 use lib.ListN.{length}
-use Rattle.laws.specs.Range.{seg}
+use Rattle.laws.specs.LentRange.{seg}
 use Rattle.laws.specs.Bounded.{tabulate}
 use Rattle.laws.specs.Joining.{joinAll}
 use Rattle.laws.proofs.RangeLaws.{length-seg}

@@ -1,7 +1,7 @@
 use mathlib.Core.Path.{_≡_, sym, ap, _∙_}
 use denote.Ref.{now}
 use lib.ListN.{length}
-use Rattle.laws.specs.Range.{seg}
+use Rattle.laws.specs.LentRange.{seg}
 use Rattle.rows.specs.Lent.{numberIn, setAt}
 use Rattle.store.proofs.GroupLaws.{formed-few, formed-room, formed-long, formed-ok, formed-word, group-is}
 use native.Mathlib.Omega.{arith}

@@ -1,6 +1,6 @@
 use denote.Ref.{now}
 use lib.ListN.{getD}
-use Rattle.laws.specs.Range.{seg}
+use Rattle.laws.specs.LentRange.{seg}
 use Rattle.store.specs.Lent.{finalAt}
 use native.Mathlib.Omega.{arith}
 use borrow.Author.Needs.{needs}

@@ -3,15 +3,14 @@ use mathlib.Core.List.{List}
 use Prim.Native.Nat.{ℕ, _+_, _-_, _*_, _≤_, _<_}
 use denote.Ref.{now}
 use lib.ListN.{length}
-use Rattle.laws.specs.Range.{seg}
+use Rattle.laws.specs.LentRange.{seg}
 use Rattle.laws.specs.Bounded.{tabulate}
 use Rattle.laws.proofs.RangeLaws.{length-seg}
 use Rattle.laws.specs.Every.{All}
 use Rattle.shapes.specs.Shape.{Shape}
 use Rattle.rows.specs.Subtable.{runCount}
-use Rattle.store.specs.Placing.{Final, inRun, idWords, runsOf}
+use Rattle.store.specs.Placing.{Final, inRun, idWords, runsOf, stored}
 use Rattle.rows.specs.Lent.{runAt}
-use Rattle.store.specs.Lent.{stored}
 use Rattle.rows.proofs.RunLaws.{run-starts, run-seg, all-part}
 use Rattle.store.proofs.SizeLaws.{runs-few}
 use Rattle.store.proofs.MapLaws.{runs-all, runs-more, runs-done}

@@ -5,8 +5,8 @@ use denote.Ref.{now}
 use lib.ListN.{length}
 use Rattle.laws.specs.Bounded.{tabulate}
 use Rattle.laws.specs.Joining.{joinAll}
-use Rattle.store.specs.Placing.{Final, allRuns, idWords, runsOf}
-use Rattle.store.specs.Lent.{finalAt, finalsAt, stored}
+use Rattle.store.specs.Placing.{Final, allRuns, idWords, runsOf, stored}
+use Rattle.store.specs.Lent.{finalAt, finalsAt}
 use Rattle.store.proofs.MapLaws.{groups-all, groups-more, groups-done}
 use borrow.Author.Needs.{needs}
 use native.Mathlib.Omega.{arith}

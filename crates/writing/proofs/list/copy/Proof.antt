@@ -1,5 +1,5 @@
 use Prim.Native.Nat.{_+_, _-_, _≤_}
-use Rattle.laws.specs.Range.{seg}
+use Rattle.laws.specs.LentRange.{seg}
 use Rattle.rows.proofs.PutLaws.{Putting}
 use Rattle.store.proofs.ListLaws.{copy-start, copy-more, copy-done}
 use borrow.Author.Needs.{needs}

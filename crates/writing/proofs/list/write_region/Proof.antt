@@ -2,7 +2,7 @@ use Prim.Native.Nat.{ℕ, _+_, _-_, _*_}
 use mathlib.Core.List.{List}
 use denote.Ref.{now}
 use Rattle.laws.specs.Bounded.{tabulate}
-use Rattle.laws.specs.Range.{seg}
+use Rattle.laws.specs.LentRange.{seg}
 use Rattle.laws.specs.Joining.{joinAll}
 use Rattle.laws.proofs.RangeLaws.{length-seg}
 use Rattle.said.specs.Records.{axisCoords, coordsLong}

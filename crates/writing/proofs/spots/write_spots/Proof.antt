@@ -5,7 +5,7 @@ use denote.Ref.{now}
 use lib.ListN.{length}
 use Rattle.laws.specs.Bounded.{tabulate}
 use Rattle.laws.specs.Joining.{joinAll}
-use Rattle.store.specs.Lent.{chain, finalAt, groupSizes, sizesAt, spotsOf, total}
+use Rattle.store.specs.Lent.{chain, finalAt, groupSizes, sizesAt, spotsOf, sumOf}
 use Rattle.store.proofs.GroupLaws.{left, left-step}
 use Rattle.store.proofs.SpotLaws.{Spotting, spot-start, spot-group, group-spots, spot-done, left-all, left-none}
 use borrow.Author.Needs.{needs}
@@ -28,7 +28,7 @@ piece work regions groups g = groupSizes (finalAt regions work (groups + 3 * g))
 here : (c : tie.In-loop Inv-loop μ-loop) → Spotting (c .before .before .before .before .args .at) (c .before .before .before .before .args .first) (chain (piece (now (c .before .before .before .before .args .work)) (c .before .before .before .before .args .regions) (c .before .before .before .before .args .groups)) (c .before .before .before .before .args .count)) (now (c .before .before .before .before .args .out)) (c .before .loop .out) (c .before .loop .p) (c .before .loop .next) (piece (now (c .before .before .before .before .args .work)) (c .before .before .before .before .args .regions) (c .before .before .before .before .args .groups) (c .before .loop .g) ++ left (piece (now (c .before .before .before .before .args .work)) (c .before .before .before .before .args .regions) (c .before .before .before .before .args .groups)) (c .before .before .before .before .args .count) (c .before .loop .g + 1))
 here c = rw (left-step (piece (now (c .before .before .before .before .args .work)) (c .before .before .before .before .args .regions) (c .before .before .before .before .args .groups)) (c .before .before .before .before .args .count) (c .before .loop .g) (c .loop-test .taken)) at (c .before .loop .inv)
 
-bounds : (c : tie.In-loop Inv-loop μ-loop) → (c .before .loop .p + length (spotsOf (c .before .loop .next) (piece (now (c .before .before .before .before .args .work)) (c .before .before .before .before .args .regions) (c .before .before .before .before .args .groups) (c .before .loop .g))) ≤ length (c .before .loop .out)) × (c .before .loop .next + total (piece (now (c .before .before .before .before .args .work)) (c .before .before .before .before .args .regions) (c .before .before .before .before .args .groups) (c .before .loop .g)) < 4294967296)
+bounds : (c : tie.In-loop Inv-loop μ-loop) → (c .before .loop .p + length (spotsOf (c .before .loop .next) (piece (now (c .before .before .before .before .args .work)) (c .before .before .before .before .args .regions) (c .before .before .before .before .args .groups) (c .before .loop .g))) ≤ length (c .before .loop .out)) × (c .before .loop .next + sumOf (piece (now (c .before .before .before .before .args .work)) (c .before .before .before .before .args .regions) (c .before .before .before .before .args .groups) (c .before .loop .g)) < 4294967296)
 unfolding sizesAt
 bounds c = group-spots _ _ _ _ (c .before .before .before .before .pre .1 .1 .1 .1 .0) _ _ _ _ _ (here c) (c .before .before .before .before .pre .1 .1 .1 .1 .1)
 

@@ -1,4 +1,0 @@
-pub mod Lending
-pub mod Build
-pub mod Collected
-pub mod Opened

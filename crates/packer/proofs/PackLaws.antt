@@ -1,0 +1,198 @@
+-- Sets packed by either mode are what the last part of a build asks for, and what that leaves is what the definitions say. Assumes nothing.
+use mathlib.Core.Path.{_≡_, refl, sym, ap, ap₂, subst, _∙_}
+use mathlib.Core.Logic.{⊎-elim}
+use mathlib.Core.Bool.{Bool, true, false}
+use mathlib.Core.List.{List, [], _∷_, map}
+use Prim.Native.Nat.{ℕ, zero, suc, _+_, _-_, _*_, _≤_, _<_}
+use native.Mathlib.Omega.{arith}
+use borrow.Author.Tests.{eq-eqb, ne-eqb, lt-leb}
+use lib.Dec.{eqb, leb}
+use lib.ListN.{length, getD}
+use Rattle.laws.specs.Pick.{pick}
+use Rattle.laws.specs.Every.{All}
+use Rattle.laws.specs.Bounded.{tabulate, upTo}
+use Rattle.laws.specs.LentRange.{Only, seg}
+use Rattle.laws.proofs.Cases.{same-or-not}
+use Rattle.laws.proofs.EveryLaws.{all-getD}
+use Rattle.laws.proofs.BoundedLaws.{tabulate-same}
+use Rattle.laws.proofs.UpLaws.{up-at}
+use Rattle.laws.proofs.RangeLaws.{getD-seg}
+use Rattle.shapes.specs.Group.{Group}
+use Rattle.sets.specs.Set.{Set}
+use Rattle.sets.specs.Ids.{sharedIds, distinct}
+use Rattle.sets.specs.Lent.{setsIn}
+use Rattle.sets.proofs.HeldLaws.{kept-only, held-kept, sets-same, sets-length}
+use Rattle.groups.specs.Groups.{groupsOf, maxShapes}
+use Rattle.rule.specs.Model.{merged}
+use Rattle.rule.proofs.Theorems.{fewer, none-of-none}
+use Rattle.store.specs.Lent as store
+use Rattle.said.specs.Refusals.{shapesFull, firstFailed}
+use Rattle.said.specs.Job.{Said}
+use Rattle.encoder.specs.declared.places.Places.{Places}
+use Rattle.encoder.specs.declared.encoded.Encoded.{Encoded}
+use Rattle.encoder.specs.Packed.{Packed, shared, own}
+use Rattle.encoder.specs.LentPlaces.{Laid}
+use Rattle.encoder.specs.Lent.{Fit, PackedAt, OwnAt}
+use Rattle.encoder.specs.LentArranged.{JoinedGroups}
+use Rattle.encoder.proofs.DenseIds.{ids-length, ids-below}
+use Rattle.finishing.specs.declared.answers.Built.{Built}
+use Rattle.finishing.specs.declared.answers.Built.the-variants.{Refused}
+use Rattle.finishing.specs.Buffers.{Buffers, Lengths, lengths}
+use Rattle.finishing.specs.Late.{lateNo, lateAnswer, buffersLeft}
+use Rattle.packer.specs.Build.{coordsInUse, packedOf}
+use Rattle.finishing.specs.Lent.{FinishFit, Finished}
+use Rattle.packer.specs.LentCollected.{Collected}
+
+-- ---- fewer merges than groups, and ids below their count
+
+merges-most : (xs : List Group) → length (merged xs .log) ≤ length xs - 1
+unfolding merged
+merges-most xs = ⊎-elim
+    (λ (z : length xs ≡ 0). omega (arith, none-of-none (length xs) xs z .0))
+    (λ n. omega (arith, fewer (length xs) xs (omega arith)))
+    (same-or-not (length xs) 0)
+
+shared-merges : (n : ℕ) (all : List Set) → length (shared n all .log) ≤ shared n all .groups - 1
+unfolding shared
+shared-merges n all = merges-most (groupsOf n all)
+
+shared-ids : (n : ℕ) (all : List Set) (x : ℕ) → x < length all → getD (shared n all .ids) x 0 < length (shared n all .sets)
+unfolding shared
+shared-ids n all x h = all-getD (λ (y : ℕ). y < length (distinct all)) (sharedIds all) x 0 (ids-below all) (omega (arith, ids-length all))
+
+own-ids : (n : ℕ) (all : List Set) (x : ℕ) → x < length all → getD (own n all .ids) x 0 < length (own n all .sets)
+unfolding own
+own-ids n all x h = omega (arith, up-at (length all) x h)
+
+own-merges : (n : ℕ) (all : List Set) → length (own n all .log) ≤ own n all .groups - 1
+unfolding own
+own-merges n all = omega arith
+
+-- ---- a refusal leaves everything as it was
+
+pub refused-late : (axes : ℕ) (coords : List (List ℕ)) (k : Packed) (n : ℕ) (old : Buffers) → lateNo axes coords k (lengths old) ≡ suc n
+    → Finished axes coords k (Refused (suc n) 0) old old
+unfolding lateAnswer buffersLeft
+refused-late axes coords k n old e =
+    let z : eqb (lateNo axes coords k (lengths old)) 0 ≡ false = ap (λ (x : ℕ). eqb x 0) e ∙ ne-eqb (suc n) 0 (λ x. omega arith) in
+    record { answer = rw (z, e); left = rw z }
+
+too-many : (axes : ℕ) (coords : List (List ℕ)) (k : Packed) (l : Lengths) → maxShapes < k .groups → lateNo axes coords k l ≡ shapesFull
+unfolding lateNo firstFailed
+too-many axes coords k l h = rw (lt-leb (k .groups) maxShapes h)
+
+pub pack-full : (axes mode : ℕ) (s : Said) → mode ≡ 0 → maxShapes < length (groupsOf (length (s .used)) (s .sets)) → (old : Buffers)
+    → Finished axes (coordsInUse s) (packedOf mode s) (Refused shapesFull 0) old old
+unfolding packedOf shared
+pack-full axes mode s z many old =
+    refused-late axes (coordsInUse s) (packedOf mode s) 9 old
+    (too-many axes (coordsInUse s) (packedOf mode s) (lengths old) (rw (eq-eqb mode 0 z) many))
+
+module _ {axes starts : ℕ} {job w : List ℕ} {p : Places} {s : Said} (c : Collected axes starts job p s w) where
+  abbrev all : List Set
+  all = setsIn 0 (p .sets) w
+
+  lies : Laid p (length w)
+  lies = c .fit .laid
+
+  shared-is : (mode : ℕ) → mode ≡ 0 → shared (p .regions) all ≡ packedOf mode s
+  unfolding packedOf
+  shared-is mode e = rw (eq-eqb mode 0 e, c .sets-are, c .regions-are) refl
+
+  own-is : (mode : ℕ) → (mode ≡ 0 → ⊥) → own (p .regions) all ≡ packedOf mode s
+  unfolding packedOf
+  own-is mode e = rw (ne-eqb mode 0 e, c .sets-are, c .regions-are) refl
+
+  module _ {w′ : List ℕ} (only : Only ((p .line, length w) ∷ []) w w′) where
+    kept : (i : ℕ) → i < p .line → getD w′ i 0 ≡ getD w i 0
+    kept i h = only .kept i (record { apart = λ x. absurd (omega arith) }, tt)
+
+    start-kept : (r : ℕ) → r < p .regions → getD w′ (starts + r) 0 ≡ getD w (starts + r) 0
+    start-kept r h = kept (starts + r) (omega (arith, c .starts-to))
+
+    coords-kept : store.coordsIn job axes w′ starts (p .regions) ≡ coordsInUse s
+    unfolding store.coordsIn
+    coords-kept =
+        tabulate-same 0 (p .regions) (λ r. store.coordsAt job axes (getD w′ (starts + r) 0)) (λ r. store.coordsAt job axes (getD w (starts + r) 0))
+        (λ r a b. ap (store.coordsAt job axes) (start-kept r (omega arith))) ∙ c .coords-are
+
+    -- what a job says is still held where only the tables changed
+    pub collected-kept : Collected axes starts job p s w′
+    collected-kept =
+        let below = kept-only {end = p .line} only (omega arith, tt) in
+        record {
+          fit = record { laid = rw (only .long) lies; held = held-kept (c .fit .held) below };
+          axes-few = c .axes-few;
+          starts-to = c .starts-to;
+          sets-are = sets-same (c .fit .held) below ∙ c .sets-are;
+          regions-are = c .regions-are;
+          sourced = λ r h. rw (start-kept r h) (c .sourced r h);
+          coords-are = coords-kept;
+          no-use = c .no-use;
+        }
+
+    module _ (k : Packed) (e : Encoded) (packed : PackedAt k p e w′) (merges : length (k .log) ≤ k .groups - 1)
+        (low : (x : ℕ) → x < length all → getD (k .ids) x 0 < length (k .sets)) where
+      pub finish-fit : FinishFit axes starts job p e w′
+      finish-fit = record {
+        axes-few = c .axes-few;
+        packed-as = k;
+        packed = packed;
+        starts-to = omega (arith, c .starts-to, lies);
+        sourced = λ r h. rw (start-kept r h) (c .sourced r h);
+        merges-few = omega (arith, packed .merges-is, packed .groups-is);
+        ids-below = λ x h.
+            let v : getD w′ (p .ids + x) 0 ≡ getD (k .ids) x 0 = sym (getD-seg (p .ids) (p .sets) w′ x h) ∙ ap (λ (l : List ℕ). getD l x 0) (packed .ids-are) in
+            let b = low x (omega (arith, sets-length 0 (p .sets) w)) in
+            omega (arith, packed .distinct-is);
+      }
+
+    finished : (k k′ : Packed) (r : Built) (old new : Buffers) → k ≡ k′
+        → Finished axes (store.coordsIn job axes w′ starts (p .regions)) k r old new → Finished axes (coordsInUse s) k′ r old new
+    finished k k′ r old new e f =
+        subst (λ (x : Packed). Finished axes (coordsInUse s) x r old new) e
+        (subst (λ (z : List (List ℕ)). Finished axes z k r old new) coords-kept f)
+
+  -- ---- mode 0
+
+  module _ {w′ : List ℕ} {e : Encoded} (h : JoinedGroups p w w′ e) where
+    pub shared-fit : FinishFit axes starts job p e w′
+    shared-fit = finish-fit (h .only) (shared (p .regions) all) e (h .packed) (shared-merges (p .regions) all) (shared-ids (p .regions) all)
+
+    pub shared-done : (mode : ℕ) → mode ≡ 0 → (b : Built) (old new : Buffers)
+        → ((k : Packed) → PackedAt k p e w′ → Finished axes (store.coordsIn job axes w′ starts (p .regions)) k b old new)
+        → Finished axes (coordsInUse s) (packedOf mode s) b old new
+    shared-done mode z b old new f =
+        finished (h .only) (shared (p .regions) all) (packedOf mode s) b old new (shared-is mode z) (f (shared (p .regions) all) (h .packed))
+
+  -- ---- mode 1
+
+  module _ {w′ : List ℕ} {e : Encoded} (h : OwnAt p w w′ e) where
+    pub own-fit : FinishFit axes starts job p e w′
+    own-fit = finish-fit (h .only) (own (p .regions) all) e (h .result) (own-merges (p .regions) all) (own-ids (p .regions) all)
+
+    pub own-done : (mode : ℕ) → (mode ≡ 0 → ⊥) → (b : Built) (old new : Buffers)
+        → ((k : Packed) → PackedAt k p e w′ → Finished axes (store.coordsIn job axes w′ starts (p .regions)) k b old new)
+        → Finished axes (coordsInUse s) (packedOf mode s) b old new
+    own-done mode z b old new f =
+        finished (h .only) (own (p .regions) all) (packedOf mode s) b old new (own-is mode z) (f (own (p .regions) all) (h .result))
+
+  -- without sets
+  pub none-own : (mode : ℕ) → (mode ≡ 0 → ⊥) → p .sets ≡ 0 → (b : Built) (old new : Buffers)
+      → Finished axes [] (own 0 []) b old new → Finished axes (coordsInUse s) (packedOf mode s) b old new
+  none-own mode z n b old new f =
+      let long : length (s .sets) ≡ 0 = ap length (sym (c .sets-are)) ∙ sets-length 0 (p .sets) w ∙ n in
+      let none : s .sets ≡ [] = empty (s .sets) long in
+      let idle : s .used ≡ [] = empty (s .used) (c .no-use long) in
+      subst (λ (x : Packed). Finished axes (coordsInUse s) x b old new) (sym (own-none mode z none idle))
+      (subst (λ (x : List (List ℕ)). Finished axes x (own 0 []) b old new) (sym (coords-none idle)) f)
+    where
+      empty : {A : Type 0} (l : List A) → length l ≡ 0 → l ≡ []
+      empty [] e = refl
+      empty (x ∷ l) e = absurd (omega arith)
+
+      coords-none : s .used ≡ [] → coordsInUse s ≡ []
+      coords-none e = unfold coordsInUse in rw e
+
+      own-none : (mode : ℕ) → (mode ≡ 0 → ⊥) → s .sets ≡ [] → s .used ≡ [] → packedOf mode s ≡ own 0 []
+      own-none mode z a b = unfold packedOf in rw (ne-eqb mode 0 z, a, b)

@@ -1,0 +1,4 @@
+pub mod Lending
+pub mod Build
+pub mod LentCollected
+pub mod LentOpened
