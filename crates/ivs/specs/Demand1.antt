@@ -2,10 +2,12 @@
 -- afterwards (L1 to L4). Assumes nothing.
 use mathlib.Core.Path.{_≡_}
 use mathlib.Core.Logic.{_⊎_}
-use Prim.Native.Nat.{ℕ, _-_, _*_, _/_, _%_, _≤_, _<_}
+use Prim.Native.Nat.{ℕ, _-_, _*_, _≤_, _<_}
 use lib.ListN.{length, replicate}
-use Rattle.said.specs.Records.{recordAt, recordCount}
-use Rattle.said.specs.Refusals.{publishedWork, pairRecords}
+use Rattle.said.specs.Records.{recordAt, recordCount, spareBytes}
+use Rattle.limits.specs.Limits.{mostRecords, mostAxes, maxShapes}
+use Rattle.said.specs.Refusals as refusals
+use Rattle.said.specs.Refusals.{publishedWork, pairRecords, badAxes, badMode, badJobLength, workShort, badRecord, unknownRegion, regionTwice, setsFull, shapesFull, idsShort, mapShort, logShort, outShort}
 use Rattle.said.specs.Job.{Said, fine}
 use Rattle.finishing.specs.declared.answers.Report.{Report}
 use Rattle.finishing.specs.declared.answers.Built.{Built}
@@ -31,22 +33,22 @@ Sound c = AllPass c (Unfinished (c .axes) (c .job) (recordCount (c .job)) → �
 
 -- the table. `Taken` is of a job that is sound, and of what it says
 pub record Table (c : Lending) : Type 0 where
-  pub bad-axes : (p : ℕ) → Row c 1 p ((p ≡ 0) × ((c .axes ≡ 0) ⊎ (64 < c .axes)))
-  pub bad-mode : (p : ℕ) → Row c 2 p ((p ≡ 0) × (AxesFit (c .axes) × (1 < c .mode)))
-  pub bad-job-length : (p : ℕ) → Row c 3 p ((p ≡ 0) × (ModeFit (c .axes) (c .mode) × ((length (c .job) % 12 ≡ 0 → ⊥) ⊎ (1048576 < length (c .job) / 12))))
-  pub work-short : (p : ℕ) → Row c 4 p
+  pub bad-axes : (p : ℕ) → Row c badAxes p ((p ≡ 0) × ((c .axes ≡ 0) ⊎ (mostAxes < c .axes)))
+  pub bad-mode : (p : ℕ) → Row c badMode p ((p ≡ 0) × (AxesFit (c .axes) × (1 < c .mode)))
+  pub bad-job-length : (p : ℕ) → Row c badJobLength p ((p ≡ 0) × (ModeFit (c .axes) (c .mode) × ((spareBytes (length (c .job)) ≡ 0 → ⊥) ⊎ (mostRecords < recordCount (c .job)))))
+  pub work-short : (p : ℕ) → Row c workShort p
       ((p ≡ 0) × (LengthFit (c .axes) (c .mode) (length (c .job)) × ((length (c .work) < publishedWork (recordCount (c .job))) ⊎ (length (c .pairs) < pairRecords))))
-  pub bad-record : (i : ℕ) → Row c 5 i (EarliestBad c i (BadRecord (c .axes) (c .job) i (recordAt (c .job) i)))
-  pub unknown-region : (i : ℕ) → Row c 6 i (EarliestBad c i (UnknownRegion (c .axes) (c .job) i (recordAt (c .job) i)))
-  pub region-twice : (i : ℕ) → Row c 7 i (EarliestBad c i (RegionTwice (c .axes) (c .job) i (recordAt (c .job) i)))
-  pub unfinished : (p : ℕ) → Row c 8 p ((p ≡ recordCount (c .job)) × AllPass c (Unfinished (c .axes) (c .job) (recordCount (c .job))))
-  pub sets-full : (i : ℕ) → Row c 9 i (EarliestBad c i (SetsFull (c .axes) (c .mode) (c .job) i (recordAt (c .job) i)))
-  pub shapes-full : (p : ℕ) → Row c 10 p ((p ≡ 0) × Taken c (λ s. (c .mode ≡ 0) × (1024 < shapeCount (c .mode) s)))
-  pub ids-short : (p : ℕ) → Row c 11 p ((p ≡ 0) × Taken c (λ s. ShapesFit (c .mode) s × (length (c .lent .ids) < endRecords (c .job))))
-  pub map-short : (p : ℕ) → Row c 12 p ((p ≡ 0) × Taken c (λ s. IdsFit c s × (length (c .lent .map) < distinctIds (c .mode) s)))
-  pub log-short : (p : ℕ) → Row c 13 p
+  pub bad-record : (i : ℕ) → Row c badRecord i (EarliestBad c i (BadRecord (c .axes) (c .job) i (recordAt (c .job) i)))
+  pub unknown-region : (i : ℕ) → Row c unknownRegion i (EarliestBad c i (UnknownRegion (c .axes) (c .job) i (recordAt (c .job) i)))
+  pub region-twice : (i : ℕ) → Row c regionTwice i (EarliestBad c i (RegionTwice (c .axes) (c .job) i (recordAt (c .job) i)))
+  pub unfinished : (p : ℕ) → Row c refusals.unfinished p ((p ≡ recordCount (c .job)) × AllPass c (Unfinished (c .axes) (c .job) (recordCount (c .job))))
+  pub sets-full : (i : ℕ) → Row c setsFull i (EarliestBad c i (SetsFull (c .axes) (c .mode) (c .job) i (recordAt (c .job) i)))
+  pub shapes-full : (p : ℕ) → Row c shapesFull p ((p ≡ 0) × Taken c (λ s. (c .mode ≡ 0) × (maxShapes < shapeCount (c .mode) s)))
+  pub ids-short : (p : ℕ) → Row c idsShort p ((p ≡ 0) × Taken c (λ s. ShapesFit (c .mode) s × (length (c .lent .ids) < endRecords (c .job))))
+  pub map-short : (p : ℕ) → Row c mapShort p ((p ≡ 0) × Taken c (λ s. IdsFit c s × (length (c .lent .map) < distinctIds (c .mode) s)))
+  pub log-short : (p : ℕ) → Row c logShort p
       ((p ≡ 0) × Taken c (λ s. MapFit c s × (c .mode ≡ 0) × (1 ≤ shapeCount (c .mode) s) × (length (c .lent .log) < 3 * (shapeCount (c .mode) s - 1))))
-  pub out-short : (p : ℕ) → Row c 14 p ((p ≡ 0) × Taken c (λ s. LogFit c s × (length (c .lent .out) < storeBytes (c .axes) (c .mode) s)))
+  pub out-short : (p : ℕ) → Row c outShort p ((p ≡ 0) × Taken c (λ s. LogFit c s × (length (c .lent .out) < storeBytes (c .axes) (c .mode) s)))
   -- done exactly where no row is given
   pub is-done : (r : Report) → Exactly (answerOf c ≡ Done r) (Taken c (λ s. OutFit c s × (r ≡ reportOf (c .axes) (coordsInUse s) (packedOf (c .mode) s))))
   -- and there are no other numbers

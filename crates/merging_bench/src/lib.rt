@@ -6,6 +6,7 @@ use slots::MergeTables;
 ghost use mathlib.Core.Path.{_≡_};
 ghost use Prim.Native.Nat.{_≤_};
 ghost use lib.ListN.{length, getD, set};
+ghost use Rattle.pairs.specs.LentQueue.{SameFrom};
 ghost use Rattle.waits.specs.LentWaits.{room};
 ghost use Rattle.merging.specs.LentOptimized.{Ready, Optimized};
 
@@ -43,6 +44,7 @@ pub extern "C" fn fenikezo_optimize(
     requires { ⌜ room groups ≤ length (now pairs) ⌝ }
     requires { ⌜ length (now told) ≡ 3 ⌝ }
     ensures { λ r. ⌜ Optimized (record { regions = regions; groups = groups; slots = slots; order = order; counts = counts; place = place; costs = costs; columns = columns; into = into; log = log }) r (getD (now (told .exit)) 0 0) (getD (now (told .exit)) 1 0) (getD (now (told .exit)) 2 0) (now (work .entry)) (now (work .exit)) ⌝ }
+    ensures { λ _. ⌜ SameFrom (now (pairs .entry)) (room groups) (now (pairs .exit)) ⌝ }
 {
     let t = MergeTables {
         regions,

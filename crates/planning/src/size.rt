@@ -1,8 +1,7 @@
 // How many bytes the subtables take, worked out without writing.
-use limits::Limits;
 use reader::column_at;
 use rows::Form;
-use rows::columns;
+use rows::form_alone;
 use rows::run_count;
 use rows::run_items;
 use store::table_size;
@@ -43,8 +42,7 @@ pub fn form_of(work: &[u32], regions: usize, group: usize, index: usize) -> Form
     ensures { λ r. ⌜ FormOf (finalAt regions (now (work .entry)) group) (r .word) (r .count) ⌝ }
 {
     let shape = work[group] as usize;
-    let mut cols = [0u32; Limits::REGIONS];
-    columns(&work[shape..shape + regions], &mut cols)
+    form_alone(&work[shape..shape + regions])
 }
 
 // Of one group.

@@ -24,13 +24,13 @@ use Rattle.rows.proofs.OverLaws.{over-none, over-join, over-front, set-
 -- ---- one width
 
 module _ (w : ℕ) (s : Shape) (i : ℕ) (h : i < length s) where
-  rest-same : getD s i 0 ≡ w → ofWidth w i (drop i s) ≡ i ∷ ofWidth w (i + 1) (drop (i + 1) s)
+  pub rest-same : getD s i 0 ≡ w → ofWidth w i (drop i s) ≡ i ∷ ofWidth w (i + 1) (drop (i + 1) s)
   unfolding ofWidth addIf
   rest-same e =
       let z : drop i s ≡ getD s i 0 ∷ drop (i + 1) s = rw add-one (drop-cons s i 0 h) in
       rw (z, eq-eqb (getD s i 0) w e)
 
-  rest-other : (getD s i 0 ≡ w → ⊥) → ofWidth w i (drop i s) ≡ ofWidth w (i + 1) (drop (i + 1) s)
+  pub rest-other : (getD s i 0 ≡ w → ⊥) → ofWidth w i (drop i s) ≡ ofWidth w (i + 1) (drop (i + 1) s)
   unfolding ofWidth addIf
   rest-other n =
       let z : drop i s ≡ getD s i 0 ∷ drop (i + 1) s = rw add-one (drop-cons s i 0 h) in

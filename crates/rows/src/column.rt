@@ -6,7 +6,7 @@ ghost use Prim.Native.Nat.{ℕ, _+_, _≤_, _<_};
 ghost use mathlib.Core.Bool.{true};
 ghost use lib.ListN.{length, replicate};
 ghost use Rattle.reader.specs.Store.{columnsOk, find};
-ghost use Rattle.rows.specs.Columns.{ofWidth};
+ghost use Rattle.rows.specs.Columns.{columnsOf, ofWidth, wordCount};
 ghost use Rattle.rows.specs.Lent.{Placed, Put, Formed};
 
 // The column of a region, by the table that has 0 for a region without one, else one more than its number.
@@ -58,6 +58,42 @@ pub fn columns(shape: &[u32], cols: &mut [u32]) -> Form
     let fours = collect(shape, 4, cols, 0);
     let twos = collect(shape, 2, cols, fours);
     let count = collect(shape, 1, cols, twos);
+    if 0 < fours {
+        return Form {
+            word: fours + 0x8000,
+            count,
+        };
+    }
+    Form { word: twos, count }
+}
+
+// How many regions have one width.
+fn count_width(shape: &[u32], width: u32) -> usize
+    requires { ⌜ length (now shape) < 32768 ⌝ }
+    ensures { λ r. ⌜ r ≡ length (ofWidth width 0 (now (shape .entry))) ⌝ }
+    ensures { λ r. ⌜ r ≤ length (now (shape .entry)) ⌝ }
+{
+    let mut n: usize = 0;
+    let mut i: usize = 0;
+    while i < shape.len() {
+        if shape[i] == width {
+            n += 1;
+            i += 1;
+        } else {
+            i += 1;
+        }
+    }
+    n
+}
+
+// The form of a shape's rows alone: its columns are counted and not written.
+pub fn form_alone(shape: &[u32]) -> Form
+    requires { ⌜ length (now shape) < 32768 ⌝ }
+    ensures { λ r. ⌜ (r .word ≡ wordCount (now (shape .entry))) × (r .count ≡ length (columnsOf (now (shape .entry)))) ⌝ }
+{
+    let fours = count_width(shape, 4);
+    let twos = count_width(shape, 2);
+    let count = fours + twos + count_width(shape, 1);
     if 0 < fours {
         return Form {
             word: fours + 0x8000,

@@ -9,6 +9,7 @@ pub use bytes::put;
 pub use column::Form;
 pub use column::clear_places;
 pub use column::columns;
+pub use column::form_alone;
 pub use column::place;
 pub use subtable::run_count;
 pub use subtable::run_items;

@@ -1,8 +1,10 @@
 // Reads a list of stores from standard input, damaged ones among them, and writes what the reader answers for each. A case is a line of
 // hexadecimal bytes: outer, inner, region, then the store. Blanks are skipped, and so is the rest of a line from a '#' on.
-use lines::Place;
-use lines::more;
-use lines::start;
+mod lines;
+
+use crate::lines::Place;
+use crate::lines::more;
+use crate::lines::start;
 use reader::Reading;
 
 // How far a number is from zero.

@@ -1,4 +1,6 @@
--- A job, record by record: where it is refused, or what it says (RULES J1 to J6, R1 to R9, T1 to T3, T5).
+-- A job, record by record: where it is refused, or what it says (RULES J1 to J6, R1 to R9, T1 to T3, T5). The axis records come first and say the
+-- regions (state `inAxes`); from the first value or end on, each value goes into the set that is begun and each end ends it (state `inSets`, with all
+-- that was said so far). A record is judged in the state before it: it stops the reading by a number, or leads to the next state.
 use mathlib.Core.Bool.{Bool, true, false}
 use mathlib.Core.List.{List, [], _∷_, _++_}
 use Prim.Native.Nat.{ℕ, zero, suc, _+_, _*_, _/_, _%_}
@@ -33,12 +35,12 @@ pub data Step : Type 0 where
   on : State → Step
 
 -- on, unless there is a refusal number
-unfoldable pub unless : ℕ → State → Step
+unfoldable pub unless : (number : ℕ) → State → Step
 unless zero s = on s
 unless (suc n) s = stop (suc n)
 
 -- a value of the first region like it, q, whose index is that among the regions in use
-unfoldable pub afterValue : Said → ℕ → ℕ → Said
+unfoldable pub afterValue : Said → (region word : ℕ) → Said
 afterValue s q w = record {
   regions = s .regions;
   used = withUse (s .used) q;
@@ -52,16 +54,16 @@ afterValue s q w = record {
 unfoldable pub afterEnd : Said → Said
 afterEnd s = record { regions = s .regions; used = s .used; sets = s .sets ++ (s .begun ∷ []); values = s .values; named = []; begun = [] }
 
-unfoldable pub valueStep : List ℕ → Said → Step
+unfoldable pub valueStep : (bytes : List ℕ) → Said → Step
 valueStep r s =
     unless (valueNo r (length (s .regions)) (has (firstLike (s .regions) (regionOf r)) (s .named)))
     (inSets (afterValue s (firstLike (s .regions) (regionOf r)) (valueWord r)))
 
-unfoldable pub endStep : ℕ → List ℕ → Said → Step
+unfoldable pub endStep : (mode : ℕ) (bytes : List ℕ) → Said → Step
 endStep mode r s = unless (endNo mode r (length (s .sets))) (inSets (afterEnd s))
 
 -- R5: an unknown kind, or an axis record that comes too late
-unfoldable pub setStep : ℕ → List ℕ → Said → Step
+unfoldable pub setStep : (mode : ℕ) (bytes : List ℕ) → Said → Step
 setStep mode r s = pick (eqb (kind r) valueKind) (valueStep r s) (pick (eqb (kind r) endKind) (endStep mode r s) (stop badRecord))
 
 -- no sets yet
@@ -69,7 +71,7 @@ unfoldable pub regionsOnly : List Region → Said
 regionsOnly regions = record { regions = regions; used = []; sets = []; values = 0; named = []; begun = [] }
 
 -- Record i, of the bytes r. R5: a value or end where a region is not complete
-unfoldable pub step : ℕ → ℕ → List ℕ → List ℕ → ℕ → State → Step
+unfoldable pub step : (axes mode : ℕ) (job bytes : List ℕ) (i : ℕ) → State → Step
 step axes mode job r i inAxes =
     pick (eqb (kind r) axisKind) (unless (axisNo axes r i) inAxes)
     (pick (eqb (i % axes) 0) (setStep mode r (regionsOnly (regionList axes (i / axes) job))) (stop badRecord))
@@ -81,31 +83,31 @@ pub data Outcome : Type 0 where
   fine : Said → Outcome
 
 -- the job ends after i records. R8: within a region or a set; its place is the record count
-unfoldable pub endedSets : ℕ → Said → List ℕ → Outcome
+unfoldable pub endedSets : (records : ℕ) → Said → (named : List ℕ) → Outcome
 endedSets i s [] = fine s
 endedSets i s (q ∷ named) = refused unfinished i
 
-unfoldable pub ended : ℕ → List ℕ → ℕ → State → Outcome
+unfoldable pub ended : (axes : ℕ) (job : List ℕ) (records : ℕ) → State → Outcome
 ended axes job i inAxes = pick (eqb (i % axes) 0) (fine (regionsOnly (regionList axes (i / axes) job))) (refused unfinished i)
 ended axes job i (inSets s) = endedSets i s (s .named)
 
-unfoldable pub follow : ℕ → Step → (State → Outcome) → Outcome
+unfoldable pub follow : (i : ℕ) → Step → (State → Outcome) → Outcome
 follow i (stop n) go = refused n i
 follow i (on s) go = go s
 
 -- so many records from record i on, from a state: `rest` are the bytes from that record on. The first bad one decides
 -- (T2)
-unfoldable pub recordsFrom : ℕ → ℕ → List ℕ → List ℕ → ℕ → ℕ → State → Outcome
+unfoldable pub recordsFrom : (axes mode : ℕ) (job rest : List ℕ) (left i : ℕ) → State → Outcome
 recordsFrom axes mode job rest zero i s = ended axes job i s
 recordsFrom axes mode job rest (suc left) i s =
     follow i (step axes mode job rest i s) (λ s′. recordsFrom axes mode job (afterRecord rest) left (i + 1) s′)
 
 -- T1, then T2; the place of R1 to R4 is 0 (T5)
-unfoldable pub outcomeFrom : ℕ → Outcome → Outcome
+unfoldable pub outcomeFrom : (early : ℕ) → Outcome → Outcome
 outcomeFrom zero o = o
 outcomeFrom (suc n) o = refused (suc n) 0
 
 -- of axis count, mode, job, the words of work and the number of pair records
-unfoldable pub outcome : ℕ → ℕ → List ℕ → ℕ → ℕ → Outcome
+unfoldable pub outcome : (axes mode : ℕ) (job : List ℕ) (work pairs : ℕ) → Outcome
 outcome axes mode job work pairs =
     outcomeFrom (earlyNo axes mode (length job) work pairs) (recordsFrom axes mode job job (recordCount job) 0 inAxes)

@@ -7,7 +7,7 @@ use Prim.Native.Nat.{ℕ, zero, suc, _+_, _-_, _*_, _/_, _≤_, _<_, min}
 use native.Mathlib.Numerals.{add-one}
 use native.Mathlib.Omega.{arith}
 use lib.Dec.{eqb}
-use lib.ListN.{length, getD, length-append}
+use lib.ListN.{length, getD, length-append, drop}
 use borrow.Author.Tests.{eq-eqb, ne-eqb}
 use Rattle.laws.specs.Bag.{weigh}
 use Rattle.laws.specs.Bytes.{bytesOf}
@@ -95,6 +95,13 @@ form-is regions w group old new word count few inside f =
       word-below = formed-word s old new word count f (omega arith);
       count-most = omega (arith, formed-few s old new word count f);
     }
+
+-- by its word count and how many columns it has
+pub form-by : (regions : ℕ) (w : List ℕ) (group word count : ℕ) → regions ≤ maxRegions → getD w group 0 + regions ≤ length w
+    → word ≡ wordCount (seg (getD w group 0) regions w) → count ≡ length (columnsOf (seg (getD w group 0) regions w)) → FormOf (finalAt regions w group) word count
+form-by regions w group word count few inside a b =
+    let s = seg (getD w group 0) regions w in
+    form-is regions w group [] (columnsOf s ++ drop (length (columnsOf s)) []) word count few inside (record { word-is = a; count-is = b; is = refl })
 
 pub group-sized : (regions : ℕ) (w : List ℕ) (group word count row bytes runs : ℕ)
     → getD w (group + 1) 0 + getD w (group + 2) 0 ≤ length w → FormOf (finalAt regions w group) word count → row ≡ columnAt word count

@@ -37,6 +37,7 @@ use denote.Triple.Table.{entered, cited}
 use denote.Triple.Walked.{needs, Stays, stay-slice, stay-none, walkOf, goes-slice, goes-none, Walks, ends-at, walked, walk-meets}
 use denote.Exit.{yes}
 use lib.ListN.{getD}
+use Rattle.pairs.specs.LentQueue.{SameFrom}
 use Rattle.waits.specs.LentWaits.{room}
 use Rattle.merging.specs.LentOptimized.{Ready, Optimized}
 use Rattle.merging_bench.proofs.ToldLaws.{told-of}
@@ -106,10 +107,10 @@ module _ {M : Type 1} (𝓤 : URA M) (H : Heap 𝓤) (A : Atoms 𝓤) (W : Given
   abbrev Post : Val → SProp 𝓤
   Post = walkOf 𝓤 H A fenikezo-optimize.ended stayed (fenikezo-optimize.clauses 𝓤 H A mem run) .post bound
 
-  exits : (pairs′ : List Pair) → length pairs′ ≡ ν → (work′ : List ℕ) → length work′ ≡ ν₂ → (told′ : List ℕ) → length told′ ≡ ν₃ → (r : ℕ) → r < 2 ^ 64 → (Optimized (record { regions = regions; groups = groups; slots = slots; order = order; counts = counts; place = place; costs = costs; columns = columns; into = into; log = log }) r (getD told′ 0 0) (getD told′ 1 0) (getD told′ 2 0) work work′) → ent 𝓤 (⋆ 𝓤 H A (Slice pairs′ ∷ Slice₂ work′ ∷ Slice₃ told′ ∷ [])) (Post (vint w64 r))
+  exits : (pairs′ : List Pair) → length pairs′ ≡ ν → (work′ : List ℕ) → length work′ ≡ ν₂ → (told′ : List ℕ) → length told′ ≡ ν₃ → (r : ℕ) → r < 2 ^ 64 → ((Optimized (record { regions = regions; groups = groups; slots = slots; order = order; counts = counts; place = place; costs = costs; columns = columns; into = into; log = log }) r (getD told′ 0 0) (getD told′ 1 0) (getD told′ 2 0) work work′) × (SameFrom pairs (room groups) pairs′)) → ent 𝓤 (⋆ 𝓤 H A (Slice pairs′ ∷ Slice₂ work′ ∷ Slice₃ told′ ∷ [])) (Post (vint w64 r))
   exits pairs′ long work′ long₂ told′ long₃ r g e =
       qed W (Slice pairs′ ∷ Slice₂ work′ ∷ Slice₃ told′ ∷ []) ∵ suffices ! _ (ends-at 𝓤 H A fenikezo-optimize.ended stayed (fenikezo-optimize.clauses 𝓤 H A mem run) W bound (vint w64 r) r (pairs′, (work′, (tt, (tt, (tt, (tt, (tt, (tt, (tt, (tt, (tt, (tt, (told′, tt))))))))))))) (long, (long₂, (tt, (tt, (tt, (tt, (tt, (tt, (tt, (tt, (tt, (tt, (long₃, tt)))))))))))))) $
-      split ! $ move ! (2 ∷ []) $ split ! $ move ! (4 ∷ []) $ split ! $ nothing ! $ move ! (2 ∷ 0 ∷ []) $ join ! $ move ! (3 ∷ 0 ∷ []) $ join ! $ move ! (4 ∷ 0 ∷ []) $ join ! $ owned ! usize (Is usize) (uint-makes 𝓤 H A W w64) r _ (refl, g) $ nothing ! $ move ! (3 ∷ 0 ∷ []) $ fjoin ! $ owned ! usize (Is usize) (uint-makes 𝓤 H A W w64) log _ (refl, g-log) $ fjoin ! $ owned ! usize (Is usize) (uint-makes 𝓤 H A W w64) into _ (refl, g-into) $ fjoin ! $ owned ! usize (Is usize) (uint-makes 𝓤 H A W w64) columns _ (refl, g-columns) $ fjoin ! $ owned ! usize (Is usize) (uint-makes 𝓤 H A W w64) costs _ (refl, g-costs) $ fjoin ! $ owned ! usize (Is usize) (uint-makes 𝓤 H A W w64) place _ (refl, g-place) $ fjoin ! $ owned ! usize (Is usize) (uint-makes 𝓤 H A W w64) counts _ (refl, g-counts) $ fjoin ! $ owned ! usize (Is usize) (uint-makes 𝓤 H A W w64) order _ (refl, g-order) $ fjoin ! $ owned ! usize (Is usize) (uint-makes 𝓤 H A W w64) slots _ (refl, g-slots) $ fjoin ! $ owned ! usize (Is usize) (uint-makes 𝓤 H A W w64) groups _ (refl, g-groups) $ fjoin ! $ owned ! usize (Is usize) (uint-makes 𝓤 H A W w64) regions _ (refl, g-regions) $ fjoin ! $ move ! (3 ∷ 0 ∷ []) $ fjoin ! $ move ! (3 ∷ 0 ∷ []) $ fjoin ! $ join ! $ move ! (1 ∷ 0 ∷ []) $ join ! $ frame ! $ use0 W (raw (fact 𝓤 (Optimized (record { regions = regions; groups = groups; slots = slots; order = order; counts = counts; place = place; costs = costs; columns = columns; into = into; log = log }) r (getD told′ 0 0) (getD told′ 1 0) (getD told′ 2 0) work work′))) (factI 𝓤 (Optimized (record { regions = regions; groups = groups; slots = slots; order = order; counts = counts; place = place; costs = costs; columns = columns; into = into; log = log }) r (getD told′ 0 0) (getD told′ 1 0) (getD told′ 2 0) work work′) (emp 𝓤) e) $ done !
+      split ! $ move ! (2 ∷ []) $ split ! $ move ! (4 ∷ []) $ split ! $ nothing ! $ move ! (2 ∷ 0 ∷ []) $ join ! $ move ! (3 ∷ 0 ∷ []) $ join ! $ move ! (4 ∷ 0 ∷ []) $ join ! $ owned ! usize (Is usize) (uint-makes 𝓤 H A W w64) r _ (refl, g) $ nothing ! $ move ! (3 ∷ 0 ∷ []) $ fjoin ! $ owned ! usize (Is usize) (uint-makes 𝓤 H A W w64) log _ (refl, g-log) $ fjoin ! $ owned ! usize (Is usize) (uint-makes 𝓤 H A W w64) into _ (refl, g-into) $ fjoin ! $ owned ! usize (Is usize) (uint-makes 𝓤 H A W w64) columns _ (refl, g-columns) $ fjoin ! $ owned ! usize (Is usize) (uint-makes 𝓤 H A W w64) costs _ (refl, g-costs) $ fjoin ! $ owned ! usize (Is usize) (uint-makes 𝓤 H A W w64) place _ (refl, g-place) $ fjoin ! $ owned ! usize (Is usize) (uint-makes 𝓤 H A W w64) counts _ (refl, g-counts) $ fjoin ! $ owned ! usize (Is usize) (uint-makes 𝓤 H A W w64) order _ (refl, g-order) $ fjoin ! $ owned ! usize (Is usize) (uint-makes 𝓤 H A W w64) slots _ (refl, g-slots) $ fjoin ! $ owned ! usize (Is usize) (uint-makes 𝓤 H A W w64) groups _ (refl, g-groups) $ fjoin ! $ owned ! usize (Is usize) (uint-makes 𝓤 H A W w64) regions _ (refl, g-regions) $ fjoin ! $ move ! (3 ∷ 0 ∷ []) $ fjoin ! $ move ! (3 ∷ 0 ∷ []) $ fjoin ! $ join ! $ move ! (1 ∷ 0 ∷ []) $ join ! $ frame ! $ use0 W (raw (fact 𝓤 (SameFrom pairs (room groups) pairs′))) (factI 𝓤 (SameFrom pairs (room groups) pairs′) (emp 𝓤) (e .1)) $ use0 W (raw (fact 𝓤 (Optimized (record { regions = regions; groups = groups; slots = slots; order = order; counts = counts; place = place; costs = costs; columns = columns; into = into; log = log }) r (getD told′ 0 0) (getD told′ 1 0) (getD told′ 2 0) work work′))) (factI 𝓤 (Optimized (record { regions = regions; groups = groups; slots = slots; order = order; counts = counts; place = place; costs = costs; columns = columns; into = into; log = log }) r (getD told′ 0 0) (getD told′ 1 0) (getD told′ 2 0) work work′) (emp 𝓤) (e .0)) $ done !
 
   module _ (𝓣 : AllCalls 𝓤 H) (known-optimize : Triple 𝓤 (𝓣 .C #merging·optimize) (Optimize-of 𝓤 H A mem run)) (known-tell : Triple 𝓤 (𝓣 .C #merging_bench·tell) (Tell-of 𝓤 H A mem run)) (sized : Room T.the-row ν) (sized₂ : Room u32 ν₂) (sized₃ : Room u64 ν₃) (ready : Ready (record { regions = regions; groups = groups; slots = slots; order = order; counts = counts; place = place; costs = costs; columns = columns; into = into; log = log }) work) (enough : room groups ≤ length pairs) (three : length told ≡ 3) where
     abbrev C : Calls 𝓤 H
@@ -155,7 +156,7 @@ module _ {M : Type 1} (𝓤 : URA M) (H : Heap 𝓤) (A : Atoms 𝓤) (W : Given
           forget ! 45 refl $ forget ! 43 refl $ forget ! 41 refl $ forget ! 39 refl $ forget ! 37 refl $ forget ! 35 refl $ forget ! 33 refl $ forget ! 31 refl $ forget ! 29 refl $ forget ! 27 refl $ forget ! 25 refl $ forget ! 23 refl $ forget ! 21 refl $ forget ! 19 refl $ forget ! 17 refl $ forget ! 15 refl $ forget ! 13 refl $ forget ! 11 refl $ forget ! 9 refl $ forget ! 7 refl $ forget ! 5 refl $ forget ! 3 refl $
           move ! (45 ∷ 46 ∷ []) $ free1 ! $ move ! (43 ∷ 44 ∷ []) $ free1 ! $ move ! (41 ∷ 42 ∷ []) $ free1 ! $ move ! (39 ∷ 40 ∷ []) $ free1 ! $ move ! (37 ∷ 38 ∷ []) $ free1 ! $ move ! (35 ∷ 36 ∷ []) $ free1 ! $ move ! (33 ∷ 34 ∷ []) $ free1 ! $ move ! (31 ∷ 32 ∷ []) $ free1 ! $ move ! (29 ∷ 30 ∷ []) $ free1 ! $ move ! (27 ∷ 28 ∷ []) $ free1 ! $ move ! (25 ∷ 26 ∷ []) $ free1 ! $ move ! (23 ∷ 24 ∷ []) $ free1 ! $ move ! (21 ∷ 22 ∷ []) $ free1 ! $ move ! (19 ∷ 20 ∷ []) $ free1 ! $ move ! (17 ∷ 18 ∷ []) $ free1 ! $ move ! (15 ∷ 16 ∷ []) $ free1 ! $ move ! (13 ∷ 14 ∷ []) $ free1 ! $ move ! (11 ∷ 12 ∷ []) $ free1 ! $ move ! (9 ∷ 10 ∷ []) $ free1 ! $ move ! (7 ∷ 8 ∷ []) $ free1 ! $ move ! (5 ∷ 6 ∷ []) $ free1 ! $ move ! (3 ∷ 4 ∷ []) $ free1 ! $ free0 ! $
           move ! (1 ∷ 2 ∷ 0 ∷ []) $
-          by ! (exits (x-m .0) (e-m .0 .0) (x-m .1) (e-m .0 .1) x-n (e-n .0) n (g-n .1) (told-of _ m _ _ _ told _ three (e-m .1 .0) (e-n .1 .0) (e-n .1 .1)))))))))))))
+          by ! (exits (x-m .0) (e-m .0 .0) (x-m .1) (e-m .0 .1) x-n (e-n .0) n (g-n .1) ((told-of _ m _ _ _ told _ three (e-m .1 .0) (e-n .1 .0) (e-n .1 .1), e-m .1 .1)))))))))))))
 
     walk : ent 𝓤 (onEntry 𝓤 H A fenikezo-optimize.signature (κ, (κ₂, (κ₃, tt))) (θ, (θ₂, (θ₃, tt))) (bound .0 .3) (bound .0 .4)) (WpFn 𝓤 H C Λ code.function (σ ∷ σ₂ ∷ vint w64 regions ∷ vint w64 groups ∷ vint w64 slots ∷ vint w64 order ∷ vint w64 counts ∷ vint w64 place ∷ vint w64 costs ∷ vint w64 columns ∷ vint w64 into ∷ vint w64 log ∷ σ₃ ∷ []) Post)
     walk =

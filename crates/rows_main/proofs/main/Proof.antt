@@ -9,7 +9,7 @@ use Rattle.rows_main.proofs.main.Reads as reads
 use Rattle.rows_main.proofs.main.Lts as lts
 use Rattle.io.proofs.large_buffer.Reads as large-buffer-reads
 use Rattle.io.proofs.read_full.Reads as read-full-reads
-use Rattle.lines.proofs.start.Reads as start-reads
+use Rattle.rows_main.proofs.lines.start.Reads as start-reads
 use Rattle.rows_main.proofs.step.Reads as step-reads
 
 abbrev Inv-loop : tie.InvT-loop

@@ -1,4 +1,4 @@
-// Lines of hexadecimal bytes, read byte by byte into a case: blanks are skipped, and so is the rest of a line from a '#' on. For rows_main.
+// Lines of hexadecimal bytes, read byte by byte into a case: blanks are skipped, and so is the rest of a line from a '#' on.
 ghost use Prim.Native.Nat.{_≤_};
 
 // A digit's number; 16 for what is none.
