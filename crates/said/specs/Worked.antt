@@ -55,11 +55,14 @@ answers =
     ∷ one (twins (valueRecord 1 5 ++ (endRecord ++ (valueRecord 0 5 ++ endRecord))))
     ∷ one (twins (valueRecord 0 5 ++ (valueRecord 1 0 ++ endRecord)))
     ∷ one (two (endRecord ++ axisRecord 2 0 64))
+    ∷ one (two (valueRecord 0 5 ++ axisRecord 3 0 64))
     ∷ one (axisRecord 1 0 64)
     ∷ one (two (valueRecord 2 5 ++ endRecord))
     ∷ one (two (valueRecord 0 5))
     ∷ outcome 2 0 (axisRecord 0 0 64) 4096 pairRecords
     ∷ outcome 2 0 (axisRecord 0 0 64 ++ endRecord) 4096 pairRecords
+    ∷ outcome 2 0 (axisRecord 0 0 64 ++ (axisRecord 0 1 64 ++ (endRecord ++ axisRecord 1 0 64))) 4096 pairRecords
+    ∷ outcome 2 0 (axisRecord 0 0 64 ++ (axisRecord 0 1 64 ++ (endRecord ++ axisRecord 0 1 64))) 4096 pairRecords
     ∷ outcome 1 1 endRecord 16 pairRecords
     ∷ outcome 1 1 endRecord 17 pairRecords
     ∷ outcome 1 1 endRecord 17 1048575
@@ -78,11 +81,14 @@ worked : answers ≡
     ∷ says (r₀ ∷ r₀ ∷ []) (0 ∷ []) (((0, up 5) ∷ []) ∷ ((0, up 5) ∷ []) ∷ []) 2
     ∷ refused 7 3
     ∷ refused 33 3
+    ∷ refused 32 3
     ∷ refused 32 0
     ∷ refused 6 2
     ∷ refused 8 3
     ∷ refused 8 1
     ∷ refused 34 1
+    ∷ refused 33 3
+    ∷ refused 32 3
     ∷ refused 4 0
     ∷ says [] [] ([] ∷ []) 0
     ∷ refused 4 0
