@@ -1,3 +1,4 @@
+pub mod LineSteps
 pub mod CountSteps
 pub mod DealSteps
 pub mod DealAll

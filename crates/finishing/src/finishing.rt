@@ -9,6 +9,8 @@ use planning::Plan;
 use planning::draft;
 use planning::forecast;
 use said::Refusal;
+use store::Coords;
+use store::Finals;
 use writing::write_map;
 use writing::write_store;
 ghost use mathlib.Core.Path.{_≡_};
@@ -100,21 +102,14 @@ fn write_out(
     requires { ⌜ length (storeIn axes starts (now job) p e (now work)) ≤ length (now out) ⌝ }
     ensures { λ _. ⌜ now (out .exit) ≡ over (now (out .entry)) 0 (length (storeIn axes starts (now (job .entry)) p e (now (work .entry)))) (storeIn axes starts (now (job .entry)) p e (now (work .entry))) ⌝ }
 {
-    write_store(
-        out,
-        job,
-        axes,
-        starts,
-        work,
-        p.regions,
-        p.columns,
-        e.count,
-        0,
-        marks,
-        numbers,
-        plan.runs,
-        plan.kept,
-    );
+    let c = Coords { axes, starts };
+    let t = Finals {
+        regions: p.regions,
+        groups: p.columns,
+        count: e.count,
+        index: 0,
+    };
+    write_store(out, job, c, work, t, marks, numbers, plan);
 }
 
 // Writes ids, log and map. The map comes last: its words stand at ids, and the rows, which are numbers of sets until then, become ids for it.
@@ -135,7 +130,13 @@ fn write_words(
     copy_words(work, p.ids, p.sets, ids);
     copy_words(work, p.log, 3 * e.merges, log);
     name_rows(work, p.rows, p.sets, p.ids);
-    write_map(work, p.regions, p.columns, e.count, 0, map);
+    let t = Finals {
+        regions: p.regions,
+        groups: p.columns,
+        count: e.count,
+        index: 0,
+    };
+    write_map(work, t, map);
 }
 
 // What a done build answers: the counts as they were packed and planned, and the forecast.
@@ -179,16 +180,13 @@ pub fn finish(
 {
     let mut marks = [0u32; Limits::REGIONS];
     let mut numbers = [0u32; Limits::REGIONS];
-    let plan = draft(
-        axes,
-        work,
-        p.regions,
-        p.columns,
-        e.count,
-        0,
-        &mut marks,
-        &mut numbers,
-    );
+    let t = Finals {
+        regions: p.regions,
+        groups: p.columns,
+        count: e.count,
+        index: 0,
+    };
+    let plan = draft(axes, work, t, &mut marks, &mut numbers);
     let no = short_no(p, e, plan.bytes, out.len(), ids.len(), map.len(), log.len());
     if no != 0 {
         return Built::Refused(no, 0);

@@ -3,6 +3,7 @@ use crate::regions::mark_groups;
 use crate::regions::number;
 use crate::size::size_groups;
 use rows::clear_places;
+use store::Finals;
 ghost use mathlib.Core.Path.{_≡_};
 ghost use Prim.Native.Nat.{ℕ, _+_, _*_, _≤_, _<_};
 ghost use lib.ListN.{length};
@@ -15,31 +16,22 @@ pub struct Plan {
     pub kept: usize,
 }
 
-// Marks and numbers the regions of count groups, and sums the bytes of the store.
-pub fn draft(
-    axes: usize,
-    work: &[u32],
-    regions: usize,
-    groups: usize,
-    count: usize,
-    index: usize,
-    marks: &mut [u32],
-    numbers: &mut [u32],
-) -> Plan
+// Marks and numbers the regions of the groups, and sums the bytes of the store.
+pub fn draft(axes: usize, work: &[u32], t: Finals, marks: &mut [u32], numbers: &mut [u32]) -> Plan
     requires { ⌜ axes ≤ mostAxes ⌝ }
-    requires { ⌜ regions ≤ maxRegions ⌝ }
-    requires { ⌜ count ≤ maxShapes ⌝ }
-    requires { ⌜ groups + 3 * count ≤ length (now work) ⌝ }
-    requires { ⌜ ((g : ℕ) → g < count → Handed regions index (now work) (groups + 3 * g)) ⌝ }
-    requires { ⌜ ((g : ℕ) → g < count → Small (now work) (groups + 3 * g)) ⌝ }
-    requires { ⌜ regions ≤ length (now marks) ⌝ }
-    requires { ⌜ regions ≤ length (now numbers) ⌝ }
-    ensures { λ r. ⌜ Drafted axes (now (work .entry)) regions groups count (now (marks .exit)) (now (numbers .exit)) (r .bytes) (r .runs) (r .kept) ⌝ }
+    requires { ⌜ t .regions ≤ maxRegions ⌝ }
+    requires { ⌜ t .count ≤ maxShapes ⌝ }
+    requires { ⌜ t .groups + 3 * t .count ≤ length (now work) ⌝ }
+    requires { ⌜ ((g : ℕ) → g < t .count → Handed (t .regions) (t .index) (now work) (t .groups + 3 * g)) ⌝ }
+    requires { ⌜ ((g : ℕ) → g < t .count → Small (now work) (t .groups + 3 * g)) ⌝ }
+    requires { ⌜ t .regions ≤ length (now marks) ⌝ }
+    requires { ⌜ t .regions ≤ length (now numbers) ⌝ }
+    ensures { λ r. ⌜ Drafted axes (now (work .entry)) (t .regions) (t .groups) (t .count) (now (marks .exit)) (now (numbers .exit)) (r .bytes) (r .runs) (r .kept) ⌝ }
 {
     clear_places(marks);
-    mark_groups(work, regions, groups, count, index, marks);
-    let kept = number(marks, regions, numbers);
-    let sum = size_groups(work, regions, groups, count, index);
+    mark_groups(work, t, marks);
+    let kept = number(marks, t.regions, numbers);
+    let sum = size_groups(work, t);
     let runs = sum.runs;
     Plan {
         bytes: 8 + 4 * runs + (4 + 6 * axes * kept) + sum.bytes,

@@ -1,4 +1,5 @@
 // Which regions a store keeps: those that some subtable names, renumbered in order.
+use store::Finals;
 use store::mark_shape;
 ghost use mathlib.Core.Path.{_≡_};
 ghost use Prim.Native.Nat.{ℕ, _+_, _*_, _≤_, _<_};
@@ -6,24 +7,18 @@ ghost use lib.ListN.{length};
 ghost use Rattle.store.specs.Lent.{Handed, Marks, Numbered, finalsAt};
 
 // Marks each region that some group names; nothing is marked before.
-pub fn mark_groups(
-    work: &[u32],
-    regions: usize,
-    groups: usize,
-    count: usize,
-    index: usize,
-    marks: &mut [u32],
-)
-    requires { ⌜ groups + 3 * count ≤ length (now work) ⌝ }
-    requires { ⌜ ((g : ℕ) → g < count → Handed regions index (now work) (groups + 3 * g)) ⌝ }
-    requires { ⌜ regions ≤ length (now marks) ⌝ }
-    requires { ⌜ Marks (finalsAt regions groups 0 (now work)) (now marks) ⌝ }
-    ensures { λ _. ⌜ Marks (finalsAt regions groups count (now (work .entry))) (now (marks .exit)) ⌝ }
+pub fn mark_groups(work: &[u32], t: Finals, marks: &mut [u32])
+    requires { ⌜ t .groups + 3 * t .count ≤ length (now work) ⌝ }
+    requires { ⌜ ((g : ℕ) → g < t .count → Handed (t .regions) (t .index) (now work) (t .groups + 3 * g)) ⌝ }
+    requires { ⌜ t .regions ≤ length (now marks) ⌝ }
+    requires { ⌜ Marks (finalsAt (t .regions) (t .groups) 0 (now work)) (now marks) ⌝ }
+    ensures { λ _. ⌜ Marks (finalsAt (t .regions) (t .groups) (t .count) (now (work .entry))) (now (marks .exit)) ⌝ }
 {
     let mut g: usize = 0;
-    while g < count {
+    while g < t.count {
+        let groups = t.groups;
         let shape = work[groups + 3 * g] as usize;
-        mark_shape(&work[shape..shape + regions], marks);
+        mark_shape(&work[shape..shape + t.regions], marks);
         g += 1;
     }
 }

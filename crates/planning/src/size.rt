@@ -4,6 +4,7 @@ use rows::Form;
 use rows::form_alone;
 use rows::run_count;
 use rows::run_items;
+use store::Finals;
 use store::table_size;
 ghost use mathlib.Core.Path.{_≡_};
 ghost use Prim.Native.Nat.{ℕ, _+_, _*_, _≤_, _<_};
@@ -36,45 +37,45 @@ fn size_runs(n: usize, row: usize, count: usize) -> Sum
 }
 
 // The form of a group's rows.
-pub fn form_of(work: &[u32], regions: usize, group: usize, index: usize) -> Form
-    requires { ⌜ regions ≤ maxRegions ⌝ }
-    requires { ⌜ Handed regions index (now work) group ⌝ }
-    ensures { λ r. ⌜ FormOf (finalAt regions (now (work .entry)) group) (r .word) (r .count) ⌝ }
+pub fn form_of(work: &[u32], t: Finals, group: usize) -> Form
+    requires { ⌜ t .regions ≤ maxRegions ⌝ }
+    requires { ⌜ Handed (t .regions) (t .index) (now work) group ⌝ }
+    ensures { λ r. ⌜ FormOf (finalAt (t .regions) (now (work .entry)) group) (r .word) (r .count) ⌝ }
 {
     let shape = work[group] as usize;
-    form_alone(&work[shape..shape + regions])
+    form_alone(&work[shape..shape + t.regions])
 }
 
 // Of one group.
-fn size_group(work: &[u32], regions: usize, group: usize, index: usize) -> Sum
-    requires { ⌜ regions ≤ maxRegions ⌝ }
-    requires { ⌜ Handed regions index (now work) group ⌝ }
+fn size_group(work: &[u32], t: Finals, group: usize) -> Sum
+    requires { ⌜ t .regions ≤ maxRegions ⌝ }
+    requires { ⌜ Handed (t .regions) (t .index) (now work) group ⌝ }
     requires { ⌜ Small (now work) group ⌝ }
-    ensures { λ r. ⌜ Summed (groupSizes (finalAt regions (now (work .entry)) group)) (r .bytes) (r .runs) ⌝ }
+    ensures { λ r. ⌜ Summed (groupSizes (finalAt (t .regions) (now (work .entry)) group)) (r .bytes) (r .runs) ⌝ }
     ensures { λ r. ⌜ (r .bytes ≤ 584115552256) × (r .runs ≤ 17) ⌝ }
 {
-    let form = form_of(work, regions, group, index);
+    let form = form_of(work, t, group);
     let n = form.count;
     let row = column_at(form.word, n);
     let count = work[group + 2] as usize;
     size_runs(n, row, count)
 }
 
-// Of count groups.
-pub fn size_groups(work: &[u32], regions: usize, groups: usize, count: usize, index: usize) -> Sum
-    requires { ⌜ regions ≤ maxRegions ⌝ }
-    requires { ⌜ count ≤ maxShapes ⌝ }
-    requires { ⌜ groups + 3 * count ≤ length (now work) ⌝ }
-    requires { ⌜ ((g : ℕ) → g < count → Handed regions index (now work) (groups + 3 * g)) ⌝ }
-    requires { ⌜ ((g : ℕ) → g < count → Small (now work) (groups + 3 * g)) ⌝ }
-    ensures { λ r. ⌜ Summed (sizesAt regions groups count (now (work .entry))) (r .bytes) (r .runs) ⌝ }
+// Of all groups.
+pub fn size_groups(work: &[u32], t: Finals) -> Sum
+    requires { ⌜ t .regions ≤ maxRegions ⌝ }
+    requires { ⌜ t .count ≤ maxShapes ⌝ }
+    requires { ⌜ t .groups + 3 * t .count ≤ length (now work) ⌝ }
+    requires { ⌜ ((g : ℕ) → g < t .count → Handed (t .regions) (t .index) (now work) (t .groups + 3 * g)) ⌝ }
+    requires { ⌜ ((g : ℕ) → g < t .count → Small (now work) (t .groups + 3 * g)) ⌝ }
+    ensures { λ r. ⌜ Summed (sizesAt (t .regions) (t .groups) (t .count) (now (work .entry))) (r .bytes) (r .runs) ⌝ }
     ensures { λ r. ⌜ (r .bytes ≤ 598134325510144) × (r .runs ≤ 17408) ⌝ }
 {
     let mut bytes: usize = 0;
     let mut runs: usize = 0;
     let mut g: usize = 0;
-    while g < count {
-        let s = size_group(work, regions, groups + 3 * g, index);
+    while g < t.count {
+        let s = size_group(work, t, t.groups + 3 * g);
         bytes = bytes + s.bytes;
         runs = runs + s.runs;
         g += 1;

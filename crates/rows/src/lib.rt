@@ -11,6 +11,7 @@ pub use column::clear_places;
 pub use column::columns;
 pub use column::form_alone;
 pub use column::place;
+pub use subtable::SetList;
 pub use subtable::run_count;
 pub use subtable::run_items;
 pub use subtable::write_runs;

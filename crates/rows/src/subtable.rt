@@ -67,7 +67,15 @@ fn write_set(
     write_row(row, word, cols, places, work, start, entries);
 }
 
-// One row for each of the count ids from ids on, each written into its own part of the output.
+// Sets that are to be rows: `count` of them, whose numbers stand from `ids` on; set x is found by two words of the index, which starts
+// at `index`.
+pub struct SetList {
+    pub index: usize,
+    pub ids: usize,
+    pub count: usize,
+}
+
+// One row for each of the sets, each written into its own part of the output.
 fn write_rows(
     out: &mut [u8],
     at: usize,
@@ -75,31 +83,29 @@ fn write_rows(
     cols: &[u32],
     places: &[u32],
     work: &[u32],
-    index: usize,
-    ids: usize,
-    count: usize,
+    sets: SetList,
 ) -> usize
     requires { ⌜ word < 65536 ⌝ }
     requires { ⌜ length (now cols) < 65536 ⌝ }
     requires { ⌜ Placed (now cols) (now places) ⌝ }
-    requires { ⌜ ids + count ≤ length (now work) ⌝ }
-    requires { ⌜ All (Stored index (now work)) (seg ids count (now work)) ⌝ }
-    requires { ⌜ at + count * columnAt word (length (now cols)) ≤ length (now out) ⌝ }
-    ensures { λ r. ⌜ Put at (rowsBytes word (now (cols .entry)) (setAt index (now (work .entry))) (seg ids count (now (work .entry)))) (now (out .entry)) (now (out .exit)) r ⌝ }
+    requires { ⌜ sets .ids + sets .count ≤ length (now work) ⌝ }
+    requires { ⌜ All (Stored (sets .index) (now work)) (seg (sets .ids) (sets .count) (now work)) ⌝ }
+    requires { ⌜ at + sets .count * columnAt word (length (now cols)) ≤ length (now out) ⌝ }
+    ensures { λ r. ⌜ Put at (rowsBytes word (now (cols .entry)) (setAt (sets .index) (now (work .entry))) (seg (sets .ids) (sets .count) (now (work .entry)))) (now (out .entry)) (now (out .exit)) r ⌝ }
 {
     let n = column_at(word, cols.len());
     let mut a = at;
     let mut i: usize = 0;
-    while i < count {
-        let x = work[ids + i] as usize;
-        write_set(&mut out[a..], word, cols, places, work, index, x);
+    while i < sets.count {
+        let x = work[sets.ids + i] as usize;
+        write_set(&mut out[a..], word, cols, places, work, sets.index, x);
         a += n;
         i += 1;
     }
     a
 }
 
-// One subtable of count rows. One of no rows is null, and has no bytes.
+// One subtable of the sets' rows. One of no rows is null, and has no bytes.
 fn write_table(
     out: &mut [u8],
     at: usize,
@@ -108,26 +114,24 @@ fn write_table(
     places: &[u32],
     numbers: &[u32],
     work: &[u32],
-    index: usize,
-    ids: usize,
-    count: usize,
+    sets: SetList,
 ) -> usize
     requires { ⌜ word < 65536 ⌝ }
     requires { ⌜ length (now cols) < 65536 ⌝ }
     requires { ⌜ Placed (now cols) (now places) ⌝ }
     requires { ⌜ columnsOk (length (now numbers)) (now cols) ≡ true ⌝ }
-    requires { ⌜ count < 65536 ⌝ }
-    requires { ⌜ ids + count ≤ length (now work) ⌝ }
-    requires { ⌜ All (Stored index (now work)) (seg ids count (now work)) ⌝ }
-    requires { ⌜ at + length (tableBytes (numberIn (now numbers)) word (now cols) (setAt index (now work)) (seg ids count (now work))) ≤ length (now out) ⌝ }
-    ensures { λ r. ⌜ Put at (tableBytes (numberIn (now (numbers .entry))) word (now (cols .entry)) (setAt index (now (work .entry))) (seg ids count (now (work .entry)))) (now (out .entry)) (now (out .exit)) r ⌝ }
+    requires { ⌜ sets .count < 65536 ⌝ }
+    requires { ⌜ sets .ids + sets .count ≤ length (now work) ⌝ }
+    requires { ⌜ All (Stored (sets .index) (now work)) (seg (sets .ids) (sets .count) (now work)) ⌝ }
+    requires { ⌜ at + length (tableBytes (numberIn (now numbers)) word (now cols) (setAt (sets .index) (now work)) (seg (sets .ids) (sets .count) (now work))) ≤ length (now out) ⌝ }
+    ensures { λ r. ⌜ Put at (tableBytes (numberIn (now (numbers .entry))) word (now (cols .entry)) (setAt (sets .index) (now (work .entry))) (seg (sets .ids) (sets .count) (now (work .entry)))) (now (out .entry)) (now (out .exit)) r ⌝ }
 {
-    if count == 0 {
+    if sets.count == 0 {
         return at;
     }
-    let a = write_head(out, at, count, word, cols.len());
+    let a = write_head(out, at, sets.count, word, cols.len());
     let b = write_indexes(out, a, cols, numbers);
-    write_rows(out, b, word, cols, places, work, index, ids, count)
+    write_rows(out, b, word, cols, places, work, sets)
 }
 
 // How many runs a group of count sets is cut into; one of none is one null subtable.
@@ -154,7 +158,7 @@ pub fn run_items(count: usize, k: usize) -> usize
     left
 }
 
-// The subtables of a group of count sets, cut into runs.
+// The subtables of a group, whose sets are cut into runs.
 pub fn write_runs(
     out: &mut [u8],
     at: usize,
@@ -163,38 +167,28 @@ pub fn write_runs(
     places: &[u32],
     numbers: &[u32],
     work: &[u32],
-    index: usize,
-    ids: usize,
-    count: usize,
+    sets: SetList,
 ) -> usize
     requires { ⌜ word < 65536 ⌝ }
     requires { ⌜ length (now cols) < 65536 ⌝ }
     requires { ⌜ Placed (now cols) (now places) ⌝ }
     requires { ⌜ columnsOk (length (now numbers)) (now cols) ≡ true ⌝ }
-    requires { ⌜ count < 4294967296 ⌝ }
-    requires { ⌜ ids + count ≤ length (now work) ⌝ }
-    requires { ⌜ All (Stored index (now work)) (seg ids count (now work)) ⌝ }
-    requires { ⌜ at + length (runsBytes (tableBytes (numberIn (now numbers)) word (now cols) (setAt index (now work))) (seg ids count (now work))) ≤ length (now out) ⌝ }
-    ensures { λ r. ⌜ Put at (runsBytes (tableBytes (numberIn (now (numbers .entry))) word (now (cols .entry)) (setAt index (now (work .entry)))) (seg ids count (now (work .entry)))) (now (out .entry)) (now (out .exit)) r ⌝ }
+    requires { ⌜ sets .count < 4294967296 ⌝ }
+    requires { ⌜ sets .ids + sets .count ≤ length (now work) ⌝ }
+    requires { ⌜ All (Stored (sets .index) (now work)) (seg (sets .ids) (sets .count) (now work)) ⌝ }
+    requires { ⌜ at + length (runsBytes (tableBytes (numberIn (now numbers)) word (now cols) (setAt (sets .index) (now work))) (seg (sets .ids) (sets .count) (now work))) ≤ length (now out) ⌝ }
+    ensures { λ r. ⌜ Put at (runsBytes (tableBytes (numberIn (now (numbers .entry))) word (now (cols .entry)) (setAt (sets .index) (now (work .entry)))) (seg (sets .ids) (sets .count) (now (work .entry)))) (now (out .entry)) (now (out .exit)) r ⌝ }
 {
-    let runs = run_count(count);
+    let runs = run_count(sets.count);
     let mut a = at;
     let mut k: usize = 0;
     while k < runs {
-        let from = ids + Encoding::MAX_ITEMS * k;
-        let items = run_items(count, k);
-        a = write_table(
-            out,
-            a,
-            word,
-            cols,
-            places,
-            numbers,
-            work,
-            index,
-            from,
-            items,
-        );
+        let run = SetList {
+            index: sets.index,
+            ids: sets.ids + Encoding::MAX_ITEMS * k,
+            count: run_items(sets.count, k),
+        };
+        a = write_table(out, a, word, cols, places, numbers, work, run);
         k += 1;
     }
     a

@@ -9,6 +9,21 @@ ghost use Rattle.limits.specs.Limits.{maxItems};
 ghost use Rattle.store.specs.Placing.{inRun, stored};
 ghost use Rattle.store.specs.Lent.{Named, spotOf, tableSize};
 
+// Where the final groups stand in work: `count` of them, three words each from `groups` on (where the shape is, where the numbers of
+// the sets are, how many there are). A shape has a word for each of so many `regions`; the index of the sets starts at `index`.
+pub struct Finals {
+    pub regions: usize,
+    pub groups: usize,
+    pub count: usize,
+    pub index: usize,
+}
+
+// Where the coordinates of regions stand in a job: those of region r, on so many `axes`, start where word r from `starts` on says.
+pub struct Coords {
+    pub axes: usize,
+    pub starts: usize,
+}
+
 // Marks each region that has a width in the shape.
 pub fn mark_shape(shape: &[u32], marks: &mut [u32])
     requires { ⌜ length (now shape) ≤ length (now marks) ⌝ }

@@ -1,9 +1,11 @@
 // Writes the subtables of the final groups. A group stands in work as three words: where its shape is, where the ids of its sets are,
 // and how many there are.
 use limits::Limits;
+use rows::SetList;
 use rows::columns;
 use rows::place;
 use rows::write_runs;
+use store::Finals;
 ghost use mathlib.Core.Path.{_≡_};
 ghost use Prim.Native.Nat.{ℕ, _+_, _*_, _≤_, _<_};
 ghost use lib.ListN.{length};
@@ -20,35 +22,22 @@ fn write_group(
     shape: &[u32],
     numbers: &[u32],
     work: &[u32],
-    index: usize,
-    ids: usize,
-    count: usize,
+    sets: SetList,
 ) -> usize
     requires { ⌜ length (now shape) ≤ maxRegions ⌝ }
     requires { ⌜ length (now shape) ≤ length (now numbers) ⌝ }
-    requires { ⌜ count < 4294967296 ⌝ }
-    requires { ⌜ ids + count ≤ length (now work) ⌝ }
-    requires { ⌜ All (Stored index (now work)) (seg ids count (now work)) ⌝ }
-    requires { ⌜ at + length (runsBytes (subtableOf (numberIn (now numbers)) (setAt index (now work)) (now shape)) (seg ids count (now work))) ≤ length (now out) ⌝ }
-    ensures { λ r. ⌜ Put at (runsBytes (subtableOf (numberIn (now (numbers .entry))) (setAt index (now (work .entry))) (now (shape .entry))) (seg ids count (now (work .entry)))) (now (out .entry)) (now (out .exit)) r ⌝ }
+    requires { ⌜ sets .count < 4294967296 ⌝ }
+    requires { ⌜ sets .ids + sets .count ≤ length (now work) ⌝ }
+    requires { ⌜ All (Stored (sets .index) (now work)) (seg (sets .ids) (sets .count) (now work)) ⌝ }
+    requires { ⌜ at + length (runsBytes (subtableOf (numberIn (now numbers)) (setAt (sets .index) (now work)) (now shape)) (seg (sets .ids) (sets .count) (now work))) ≤ length (now out) ⌝ }
+    ensures { λ r. ⌜ Put at (runsBytes (subtableOf (numberIn (now (numbers .entry))) (setAt (sets .index) (now (work .entry))) (now (shape .entry))) (seg (sets .ids) (sets .count) (now (work .entry)))) (now (out .entry)) (now (out .exit)) r ⌝ }
 {
     let mut cols = [0u32; Limits::REGIONS];
     let form = columns(shape, &mut cols);
     let n = form.count;
     let mut places = [0u32; Limits::REGIONS];
     place(&cols[..n], &mut places);
-    write_runs(
-        out,
-        at,
-        form.word,
-        &cols[..n],
-        &places,
-        numbers,
-        work,
-        index,
-        ids,
-        count,
-    )
+    write_runs(out, at, form.word, &cols[..n], &places, numbers, work, sets)
 }
 
 // The subtables of the group whose three words stand at group.
@@ -57,53 +46,44 @@ fn write_one(
     at: usize,
     numbers: &[u32],
     work: &[u32],
-    regions: usize,
+    t: Finals,
     group: usize,
-    index: usize,
 ) -> usize
-    requires { ⌜ regions ≤ maxRegions ⌝ }
-    requires { ⌜ regions ≤ length (now numbers) ⌝ }
-    requires { ⌜ Handed regions index (now work) group ⌝ }
-    requires { ⌜ at + length (groupBytes (numberIn (now numbers)) (setAt index (now work)) (finalAt regions (now work) group)) ≤ length (now out) ⌝ }
-    ensures { λ r. ⌜ Put at (groupBytes (numberIn (now (numbers .entry))) (setAt index (now (work .entry))) (finalAt regions (now (work .entry)) group)) (now (out .entry)) (now (out .exit)) r ⌝ }
+    requires { ⌜ t .regions ≤ maxRegions ⌝ }
+    requires { ⌜ t .regions ≤ length (now numbers) ⌝ }
+    requires { ⌜ Handed (t .regions) (t .index) (now work) group ⌝ }
+    requires { ⌜ at + length (groupBytes (numberIn (now numbers)) (setAt (t .index) (now work)) (finalAt (t .regions) (now work) group)) ≤ length (now out) ⌝ }
+    ensures { λ r. ⌜ Put at (groupBytes (numberIn (now (numbers .entry))) (setAt (t .index) (now (work .entry))) (finalAt (t .regions) (now (work .entry)) group)) (now (out .entry)) (now (out .exit)) r ⌝ }
 {
     let shape = work[group] as usize;
-    let ids = work[group + 1] as usize;
-    let count = work[group + 2] as usize;
+    let sets = SetList {
+        index: t.index,
+        ids: work[group + 1] as usize,
+        count: work[group + 2] as usize,
+    };
     write_group(
         out,
         at,
-        &work[shape..shape + regions],
+        &work[shape..shape + t.regions],
         numbers,
         work,
-        index,
-        ids,
-        count,
+        sets,
     )
 }
 
-// The subtables of count groups, whose words stand from groups on.
-pub fn write_groups(
-    out: &mut [u8],
-    at: usize,
-    numbers: &[u32],
-    work: &[u32],
-    regions: usize,
-    groups: usize,
-    count: usize,
-    index: usize,
-) -> usize
-    requires { ⌜ regions ≤ maxRegions ⌝ }
-    requires { ⌜ regions ≤ length (now numbers) ⌝ }
-    requires { ⌜ groups + 3 * count ≤ length (now work) ⌝ }
-    requires { ⌜ ((g : ℕ) → g < count → Handed regions index (now work) (groups + 3 * g)) ⌝ }
-    requires { ⌜ at + length (chain (λ g. groupBytes (numberIn (now numbers)) (setAt index (now work)) (finalAt regions (now work) (groups + 3 * g))) count) ≤ length (now out) ⌝ }
-    ensures { λ r. ⌜ Put at (chain (λ g. groupBytes (numberIn (now (numbers .entry))) (setAt index (now (work .entry))) (finalAt regions (now (work .entry)) (groups + 3 * g))) count) (now (out .entry)) (now (out .exit)) r ⌝ }
+// The subtables of all groups.
+pub fn write_groups(out: &mut [u8], at: usize, numbers: &[u32], work: &[u32], t: Finals) -> usize
+    requires { ⌜ t .regions ≤ maxRegions ⌝ }
+    requires { ⌜ t .regions ≤ length (now numbers) ⌝ }
+    requires { ⌜ t .groups + 3 * t .count ≤ length (now work) ⌝ }
+    requires { ⌜ ((g : ℕ) → g < t .count → Handed (t .regions) (t .index) (now work) (t .groups + 3 * g)) ⌝ }
+    requires { ⌜ at + length (chain (λ g. groupBytes (numberIn (now numbers)) (setAt (t .index) (now work)) (finalAt (t .regions) (now work) (t .groups + 3 * g))) (t .count)) ≤ length (now out) ⌝ }
+    ensures { λ r. ⌜ Put at (chain (λ g. groupBytes (numberIn (now (numbers .entry))) (setAt (t .index) (now (work .entry))) (finalAt (t .regions) (now (work .entry)) (t .groups + 3 * g))) (t .count)) (now (out .entry)) (now (out .exit)) r ⌝ }
 {
     let mut a = at;
     let mut g: usize = 0;
-    while g < count {
-        a = write_one(out, a, numbers, work, regions, groups + 3 * g, index);
+    while g < t.count {
+        a = write_one(out, a, numbers, work, t, t.groups + 3 * g);
         g += 1;
     }
     a

@@ -2,6 +2,7 @@
 use rows::run_count;
 use rows::run_items;
 use shapes::Encoding;
+use store::Finals;
 use store::map_run;
 ghost use mathlib.Core.Path.{_≡_};
 ghost use Prim.Native.Nat.{ℕ, _+_, _*_, _≤_, _<_};
@@ -33,19 +34,12 @@ fn map_runs(work: &[u32], ids: usize, count: usize, first: usize, map: &mut [u32
 }
 
 // The runs of one group, the first of them at position first; answers the position of the next group's first.
-fn map_group(
-    work: &[u32],
-    regions: usize,
-    group: usize,
-    index: usize,
-    first: usize,
-    map: &mut [u32],
-) -> usize
-    requires { ⌜ Handed regions index (now work) group ⌝ }
+fn map_group(work: &[u32], t: Finals, group: usize, first: usize, map: &mut [u32]) -> usize
+    requires { ⌜ Handed (t .regions) (t .index) (now work) group ⌝ }
     requires { ⌜ Small (now work) group ⌝ }
     requires { ⌜ IdsBelow (length (now map)) (now work) group ⌝ }
     requires { ⌜ first + 17 ≤ 65536 ⌝ }
-    ensures { λ r. ⌜ Mapped first (runsOf (finalAt regions (now (work .entry)) group)) (now (map .entry)) (now (map .exit)) r ⌝ }
+    ensures { λ r. ⌜ Mapped first (runsOf (finalAt (t .regions) (now (work .entry)) group)) (now (map .entry)) (now (map .exit)) r ⌝ }
     ensures { λ r. ⌜ r ≤ first + 17 ⌝ }
 {
     let ids = work[group + 1] as usize;
@@ -53,26 +47,19 @@ fn map_group(
     map_runs(work, ids, count, first, map)
 }
 
-// All ids of count groups.
-pub fn write_map(
-    work: &[u32],
-    regions: usize,
-    groups: usize,
-    count: usize,
-    index: usize,
-    map: &mut [u32],
-)
-    requires { ⌜ count ≤ maxShapes ⌝ }
-    requires { ⌜ groups + 3 * count ≤ length (now work) ⌝ }
-    requires { ⌜ ((g : ℕ) → g < count → Handed regions index (now work) (groups + 3 * g)) ⌝ }
-    requires { ⌜ ((g : ℕ) → g < count → Small (now work) (groups + 3 * g)) ⌝ }
-    requires { ⌜ ((g : ℕ) → g < count → IdsBelow (length (now map)) (now work) (groups + 3 * g)) ⌝ }
-    ensures { λ _. ⌜ now (map .exit) ≡ stored (idWords 0 (allRuns (finalsAt regions groups count (now (work .entry))))) (now (map .entry)) ⌝ }
+// All ids of the groups.
+pub fn write_map(work: &[u32], t: Finals, map: &mut [u32])
+    requires { ⌜ t .count ≤ maxShapes ⌝ }
+    requires { ⌜ t .groups + 3 * t .count ≤ length (now work) ⌝ }
+    requires { ⌜ ((g : ℕ) → g < t .count → Handed (t .regions) (t .index) (now work) (t .groups + 3 * g)) ⌝ }
+    requires { ⌜ ((g : ℕ) → g < t .count → Small (now work) (t .groups + 3 * g)) ⌝ }
+    requires { ⌜ ((g : ℕ) → g < t .count → IdsBelow (length (now map)) (now work) (t .groups + 3 * g)) ⌝ }
+    ensures { λ _. ⌜ now (map .exit) ≡ stored (idWords 0 (allRuns (finalsAt (t .regions) (t .groups) (t .count) (now (work .entry))))) (now (map .entry)) ⌝ }
 {
     let mut first: usize = 0;
     let mut g: usize = 0;
-    while g < count {
-        first = map_group(work, regions, groups + 3 * g, index, first, map);
+    while g < t.count {
+        first = map_group(work, t, t.groups + 3 * g, first, map);
         g += 1;
     }
 }

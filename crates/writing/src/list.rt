@@ -2,6 +2,7 @@
 use records::COORDS_LONG;
 use records::axis_coords;
 use rows::put;
+use store::Coords;
 ghost use mathlib.Core.Path.{_≡_};
 ghost use mathlib.Core.List.{map};
 ghost use Prim.Native.Nat.{ℕ, _+_, _*_, _≤_, _<_};
@@ -42,30 +43,30 @@ fn write_region(out: &mut [u8], at: usize, src: &[u8], from: usize, axes: usize)
     p
 }
 
-// The coordinates of each marked region, which start in the source where the words from starts on say.
+// The coordinates of each marked region.
 fn write_kept(
     out: &mut [u8],
     at: usize,
     src: &[u8],
     work: &[u32],
-    starts: usize,
-    axes: usize,
+    c: Coords,
     marks: &[u32],
     regions: usize,
 ) -> usize
-    requires { ⌜ axes < 65536 ⌝ }
+    requires { ⌜ c .axes < 65536 ⌝ }
     requires { ⌜ regions ≤ length (now marks) ⌝ }
-    requires { ⌜ starts + regions ≤ length (now work) ⌝ }
-    requires { ⌜ ((r : ℕ) → r < regions → Sourced axes (now src) (getD (now work) (starts + r) 0)) ⌝ }
-    requires { ⌜ at + length (keptBytes (now src) axes (now work) starts (keep (markedIn (now marks)) (upTo regions))) ≤ length (now out) ⌝ }
-    ensures { λ r. ⌜ Put at (keptBytes (now (src .entry)) axes (now (work .entry)) starts (keep (markedIn (now (marks .entry))) (upTo regions))) (now (out .entry)) (now (out .exit)) r ⌝ }
+    requires { ⌜ c .starts + regions ≤ length (now work) ⌝ }
+    requires { ⌜ ((r : ℕ) → r < regions → Sourced (c .axes) (now src) (getD (now work) (c .starts + r) 0)) ⌝ }
+    requires { ⌜ at + length (keptBytes (now src) (c .axes) (now work) (c .starts) (keep (markedIn (now marks)) (upTo regions))) ≤ length (now out) ⌝ }
+    ensures { λ r. ⌜ Put at (keptBytes (now (src .entry)) (c .axes) (now (work .entry)) (c .starts) (keep (markedIn (now (marks .entry))) (upTo regions))) (now (out .entry)) (now (out .exit)) r ⌝ }
 {
     let mut p = at;
     let mut r: usize = 0;
     while r < regions {
         if marks[r] != 0 {
+            let starts = c.starts;
             let from = work[starts + r] as usize;
-            p = write_region(out, p, src, from, axes);
+            p = write_region(out, p, src, from, c.axes);
             r += 1;
         } else {
             r += 1;
@@ -79,21 +80,20 @@ pub fn write_list(
     at: usize,
     src: &[u8],
     work: &[u32],
-    starts: usize,
-    axes: usize,
+    c: Coords,
     marks: &[u32],
     regions: usize,
     kept: usize,
 ) -> usize
-    requires { ⌜ axes < 65536 ⌝ }
+    requires { ⌜ c .axes < 65536 ⌝ }
     requires { ⌜ kept < 65536 ⌝ }
     requires { ⌜ regions ≤ length (now marks) ⌝ }
-    requires { ⌜ starts + regions ≤ length (now work) ⌝ }
-    requires { ⌜ ((r : ℕ) → r < regions → Sourced axes (now src) (getD (now work) (starts + r) 0)) ⌝ }
-    requires { ⌜ at + length (listBytes axes kept (keptBytes (now src) axes (now work) starts (keep (markedIn (now marks)) (upTo regions)))) ≤ length (now out) ⌝ }
-    ensures { λ r. ⌜ Put at (listBytes axes kept (keptBytes (now (src .entry)) axes (now (work .entry)) starts (keep (markedIn (now (marks .entry))) (upTo regions)))) (now (out .entry)) (now (out .exit)) r ⌝ }
+    requires { ⌜ c .starts + regions ≤ length (now work) ⌝ }
+    requires { ⌜ ((r : ℕ) → r < regions → Sourced (c .axes) (now src) (getD (now work) (c .starts + r) 0)) ⌝ }
+    requires { ⌜ at + length (listBytes (c .axes) kept (keptBytes (now src) (c .axes) (now work) (c .starts) (keep (markedIn (now marks)) (upTo regions)))) ≤ length (now out) ⌝ }
+    ensures { λ r. ⌜ Put at (listBytes (c .axes) kept (keptBytes (now (src .entry)) (c .axes) (now (work .entry)) (c .starts) (keep (markedIn (now (marks .entry))) (upTo regions)))) (now (out .entry)) (now (out .exit)) r ⌝ }
 {
-    put(out, at, 2, axes as u32);
+    put(out, at, 2, c.axes as u32);
     put(out, at + 2, 2, kept as u32);
-    write_kept(out, at + 4, src, work, starts, axes, marks, regions)
+    write_kept(out, at + 4, src, work, c, marks, regions)
 }

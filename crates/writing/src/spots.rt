@@ -4,6 +4,7 @@ use reader::column_at;
 use rows::put;
 use rows::run_count;
 use rows::run_items;
+use store::Finals;
 use store::offset;
 use store::table_size;
 ghost use Prim.Native.Nat.{ℕ, _+_, _*_, _≤_, _<_};
@@ -53,48 +54,38 @@ fn write_group_spots(
     at: usize,
     first: usize,
     work: &[u32],
-    regions: usize,
+    t: Finals,
     group: usize,
-    index: usize,
 ) -> Spot
-    requires { ⌜ regions ≤ maxRegions ⌝ }
-    requires { ⌜ Handed regions index (now work) group ⌝ }
+    requires { ⌜ t .regions ≤ maxRegions ⌝ }
+    requires { ⌜ Handed (t .regions) (t .index) (now work) group ⌝ }
     requires { ⌜ Small (now work) group ⌝ }
-    requires { ⌜ at + length (spotsOf first (groupSizes (finalAt regions (now work) group))) ≤ length (now out) ⌝ }
-    requires { ⌜ first + sumOf (groupSizes (finalAt regions (now work) group)) < 4294967296 ⌝ }
-    ensures { λ r. ⌜ Spotted at first (groupSizes (finalAt regions (now (work .entry)) group)) (now (out .entry)) (now (out .exit)) (r .at) (r .next) ⌝ }
+    requires { ⌜ at + length (spotsOf first (groupSizes (finalAt (t .regions) (now work) group))) ≤ length (now out) ⌝ }
+    requires { ⌜ first + sumOf (groupSizes (finalAt (t .regions) (now work) group)) < 4294967296 ⌝ }
+    ensures { λ r. ⌜ Spotted at first (groupSizes (finalAt (t .regions) (now (work .entry)) group)) (now (out .entry)) (now (out .exit)) (r .at) (r .next) ⌝ }
 {
-    let form = form_of(work, regions, group, index);
+    let form = form_of(work, t, group);
     let n = form.count;
     let row = column_at(form.word, n);
     let count = work[group + 2] as usize;
     write_run_spots(out, at, first, n, row, count)
 }
 
-// Of count groups.
-pub fn write_spots(
-    out: &mut [u8],
-    at: usize,
-    first: usize,
-    work: &[u32],
-    regions: usize,
-    groups: usize,
-    count: usize,
-    index: usize,
-) -> Spot
-    requires { ⌜ regions ≤ maxRegions ⌝ }
-    requires { ⌜ groups + 3 * count ≤ length (now work) ⌝ }
-    requires { ⌜ ((g : ℕ) → g < count → Handed regions index (now work) (groups + 3 * g)) ⌝ }
-    requires { ⌜ ((g : ℕ) → g < count → Small (now work) (groups + 3 * g)) ⌝ }
-    requires { ⌜ at + length (spotsOf first (sizesAt regions groups count (now work))) ≤ length (now out) ⌝ }
-    requires { ⌜ first + sumOf (sizesAt regions groups count (now work)) < 4294967296 ⌝ }
-    ensures { λ r. ⌜ Spotted at first (sizesAt regions groups count (now (work .entry))) (now (out .entry)) (now (out .exit)) (r .at) (r .next) ⌝ }
+// Of all groups.
+pub fn write_spots(out: &mut [u8], at: usize, first: usize, work: &[u32], t: Finals) -> Spot
+    requires { ⌜ t .regions ≤ maxRegions ⌝ }
+    requires { ⌜ t .groups + 3 * t .count ≤ length (now work) ⌝ }
+    requires { ⌜ ((g : ℕ) → g < t .count → Handed (t .regions) (t .index) (now work) (t .groups + 3 * g)) ⌝ }
+    requires { ⌜ ((g : ℕ) → g < t .count → Small (now work) (t .groups + 3 * g)) ⌝ }
+    requires { ⌜ at + length (spotsOf first (sizesAt (t .regions) (t .groups) (t .count) (now work))) ≤ length (now out) ⌝ }
+    requires { ⌜ first + sumOf (sizesAt (t .regions) (t .groups) (t .count) (now work)) < 4294967296 ⌝ }
+    ensures { λ r. ⌜ Spotted at first (sizesAt (t .regions) (t .groups) (t .count) (now (work .entry))) (now (out .entry)) (now (out .exit)) (r .at) (r .next) ⌝ }
 {
     let mut p = at;
     let mut next = first;
     let mut g: usize = 0;
-    while g < count {
-        let s = write_group_spots(out, p, next, work, regions, groups + 3 * g, index);
+    while g < t.count {
+        let s = write_group_spots(out, p, next, work, t, t.groups + 3 * g);
         p = s.at;
         next = s.next;
         g += 1;

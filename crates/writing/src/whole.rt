@@ -2,7 +2,10 @@
 use crate::groups::write_groups;
 use crate::list::write_list;
 use crate::spots::write_spots;
+use planning::Plan;
 use rows::put;
+use store::Coords;
+use store::Finals;
 ghost use mathlib.Core.Path.{_≡_};
 ghost use Prim.Native.Nat.{_+_, _*_, _≤_, _<_};
 ghost use lib.ListN.{length};
@@ -21,30 +24,25 @@ fn write_header(out: &mut [u8], runs: usize) -> usize
     8
 }
 
-// The store of count groups over the regions whose coordinates stand in src; marks, numbers, runs and kept are as they were planned.
+// The store of the groups over the regions whose coordinates stand in src; marks and numbers are as they were planned.
 pub fn write_store(
     out: &mut [u8],
     src: &[u8],
-    axes: usize,
-    starts: usize,
+    c: Coords,
     work: &[u32],
-    regions: usize,
-    groups: usize,
-    count: usize,
-    index: usize,
+    t: Finals,
     marks: &[u32],
     numbers: &[u32],
-    runs: usize,
-    kept: usize,
+    plan: Plan,
 ) -> usize
-    requires { ⌜ Ready (now src) axes starts (now work) regions groups count index ⌝ }
-    requires { ⌜ Planned axes (now work) regions groups count (now marks) (now numbers) runs kept ⌝ }
-    requires { ⌜ length (storeOf axes (coordsIn (now src) axes (now work) starts regions) (setAt index (now work)) (finalsAt regions groups count (now work))) ≤ length (now out) ⌝ }
-    ensures { λ r. ⌜ Put 0 (storeOf axes (coordsIn (now (src .entry)) axes (now (work .entry)) starts regions) (setAt index (now (work .entry))) (finalsAt regions groups count (now (work .entry)))) (now (out .entry)) (now (out .exit)) r ⌝ }
+    requires { ⌜ Ready (now src) (c .axes) (c .starts) (now work) (t .regions) (t .groups) (t .count) (t .index) ⌝ }
+    requires { ⌜ Planned (c .axes) (now work) (t .regions) (t .groups) (t .count) (now marks) (now numbers) (plan .runs) (plan .kept) ⌝ }
+    requires { ⌜ length (storeOf (c .axes) (coordsIn (now src) (c .axes) (now work) (c .starts) (t .regions)) (setAt (t .index) (now work)) (finalsAt (t .regions) (t .groups) (t .count) (now work))) ≤ length (now out) ⌝ }
+    ensures { λ r. ⌜ Put 0 (storeOf (c .axes) (coordsIn (now (src .entry)) (c .axes) (now (work .entry)) (c .starts) (t .regions)) (setAt (t .index) (now (work .entry))) (finalsAt (t .regions) (t .groups) (t .count) (now (work .entry)))) (now (out .entry)) (now (out .exit)) r ⌝ }
 {
-    let at = write_header(out, runs);
-    let first = 8 + 4 * runs + (4 + 6 * axes * kept);
-    let spots = write_spots(out, at, first, work, regions, groups, count, index);
-    let list = write_list(out, spots.at, src, work, starts, axes, marks, regions, kept);
-    write_groups(out, list, numbers, work, regions, groups, count, index)
+    let at = write_header(out, plan.runs);
+    let first = 8 + 4 * plan.runs + (4 + 6 * c.axes * plan.kept);
+    let spots = write_spots(out, at, first, work, t);
+    let list = write_list(out, spots.at, src, work, c, marks, t.regions, plan.kept);
+    write_groups(out, list, numbers, work, t)
 }

@@ -21,7 +21,7 @@ use Rattle.planning.proofs.size.size_groups.Reads as size-groups-reads
 
 -- the regions kept, and the bytes of their coordinates
 few : (c : tie.After-size-groups) → c .before .before .before .number .result ≤ maxRegions
-few c = omega (arith, c .before .before .before .number .ensures .all, kept-most (markedIn (c .before .before .before .before .before .before .before .before .mark-groups .last .1 .1 .1 .1 .1 .0)) (c .before .before .before .before .before .before .before .before .before .before .before .before .before .before .before .before .before .args .regions), c .before .before .before .before .before .before .before .before .before .before .before .before .before .before .before .before .before .pre .1 .0)
+few c = omega (arith, c .before .before .before .number .ensures .all, kept-most (markedIn (c .before .before .before .before .before .before .before .before .mark-groups .last .1 .1 .0)) (c .before .before .before .before .before .before .before .before .before .before .before .before .before .before .before .before .before .args .t .regions), c .before .before .before .before .before .before .before .before .before .before .before .before .before .before .before .before .before .pre .1 .0)
 
 bytes : (c : tie.After-size-groups) → 6 * c .before .before .before .before .before .before .before .before .before .before .before .before .before .before .before .before .before .args .axes * c .before .before .before .number .result ≤ 98304
 bytes c = product (6 * mostAxes) maxRegions {a = 6 * c .before .before .before .before .before .before .before .before .before .before .before .before .before .before .before .before .before .args .axes} {b = c .before .before .before .number .result} (omega (arith, c .before .before .before .before .before .before .before .before .before .before .before .before .before .before .before .before .before .pre .0)) (few c)
@@ -33,7 +33,7 @@ mark-groups-requires : tie.Need-mark-groups-requires
 mark-groups-requires c κs =
     let a = c .before .before .before .before .before .before .before .before .args in
     let e = c .before .before .before .clear-places .ensures in
-    (c .before .before .before .before .before .before .before .before .pre .1 .1 .1 .0, (c .before .before .before .before .before .before .before .before .pre .1 .1 .1 .1 .0, (omega (arith, c .before .before .before .clear-places .kept .0, c .before .before .before .before .before .before .before .before .pre .1 .1 .1 .1 .1 .1 .0), marks-none (a .regions) (a .groups) (now (a .work)) _ (λ r. ap (λ (l : List ℕ). getD l r 0) e ∙ zeros-at (length (now (a .marks))) r))))
+    (c .before .before .before .before .before .before .before .before .pre .1 .1 .1 .0, (c .before .before .before .before .before .before .before .before .pre .1 .1 .1 .1 .0, (omega (arith, c .before .before .before .clear-places .kept .0, c .before .before .before .before .before .before .before .before .pre .1 .1 .1 .1 .1 .1 .0), marks-none (a .t .regions) (a .t .groups) (now (a .work)) _ (λ r. ap (λ (l : List ℕ). getD l r 0) e ∙ zeros-at (length (now (a .marks))) r))))
 
 number-requires : tie.Need-number-requires
 number-requires c κs = search needs
@@ -41,26 +41,26 @@ number-requires c κs = search needs
 size-groups-requires : tie.Need-size-groups-requires
 size-groups-requires c κs = (c .before .before .before .before .before .before .before .before .before .before .before .before .before .before .before .before .pre .1 .0, (c .before .before .before .before .before .before .before .before .before .before .before .before .before .before .before .before .pre .1 .1 .0, (c .before .before .before .before .before .before .before .before .before .before .before .before .before .before .before .before .pre .1 .1 .1 .0, (c .before .before .before .before .before .before .before .before .before .before .before .before .before .before .before .before .pre .1 .1 .1 .1 .0, c .before .before .before .before .before .before .before .before .before .before .before .before .before .before .before .before .pre .1 .1 .1 .1 .1 .0))))
 
+mul-t18 : tie.Need-mul-t18
+mul-t18 c = search needs
+
+add-t19 : tie.Need-add-t19
+add-t19 c = search needs
+
+mul-t20 : tie.Need-mul-t20
+mul-t20 c = search needs
+
 mul-t21 : tie.Need-mul-t21
-mul-t21 c = search needs
+mul-t21 c = omega (arith, bytes c)
 
 add-t22 : tie.Need-add-t22
-add-t22 c = search needs
+add-t22 c = omega (arith, bytes c)
 
-mul-t23 : tie.Need-mul-t23
-mul-t23 c = search needs
+add-t23 : tie.Need-add-t23
+add-t23 c = omega (arith, bytes c, c .size-groups .ensures .1)
 
-mul-t24 : tie.Need-mul-t24
-mul-t24 c = omega (arith, bytes c)
-
-add-t25 : tie.Need-add-t25
-add-t25 c = omega (arith, bytes c)
-
-add-t26 : tie.Need-add-t26
-add-t26 c = omega (arith, bytes c, c .size-groups .ensures .1)
-
-add-t27 : tie.Need-add-t27
-add-t27 c = omega (arith, bytes (c .before), c .before .size-groups .ensures .1)
+add-t24 : tie.Need-add-t24
+add-t24 c = omega (arith, bytes (c .before), c .before .size-groups .ensures .1)
 
 same-length : tie.Need-same-length
 same-length c = search needs
@@ -79,13 +79,13 @@ draft-spec =
     mark-groups-requires
     number-requires
     size-groups-requires
+    mul-t18
+    add-t19
+    mul-t20
     mul-t21
     add-t22
-    mul-t23
-    mul-t24
-    add-t25
-    add-t26
-    add-t27
+    add-t23
+    add-t24
     same-length
     same-length-2
     returns)

@@ -37,17 +37,17 @@ part-form-alone-end c = search needs
 
 form-alone-requires : tie.Need-form-alone-requires
 form-alone-requires c κs =
-    let a = c .before .before .before .args in
+    let a = c .before .before .before .before .args in
     let s = getD (now (a .work)) (a .group) 0 in
-    let l = length-seg s (a .regions) (now (a .work)) (c .before .before .before .pre .1 .shape) in
-    rw (part-seg s (a .regions) (now (a .work))) (omega (arith, c .before .before .before .pre .0))
+    let l = length-seg s (a .t .regions) (now (a .work)) (c .before .before .before .before .pre .1 .shape) in
+    rw (part-seg s (a .t .regions) (now (a .work))) (omega (arith, c .before .before .before .before .pre .0))
 
 returns : tie.Need-returns
 returns c =
-    let a = c .before .before .before .before .args in
+    let a = c .before .before .before .before .before .args in
     let s = getD (now (a .work)) (a .group) 0 in
-    let e = rw (part-seg s (a .regions) (now (a .work))) at (c .form-alone .ensures) in
-    form-by (a .regions) (now (a .work)) (a .group) _ _ (c .before .before .before .before .pre .0) (c .before .before .before .before .pre .1 .shape) (e .0) (e .1)
+    let e = rw (part-seg s (a .t .regions) (now (a .work))) at (c .form-alone .ensures) in
+    form-by (a .t .regions) (now (a .work)) (a .group) _ _ (c .before .before .before .before .before .pre .0) (c .before .before .before .before .before .pre .1 .shape) (e .0) (e .1)
 
 pub form-of-spec : {M : Type 1} → statement M
 form-of-spec =

@@ -34,7 +34,7 @@ size-runs-requires c κs = search needs
 returns : tie.Need-returns
 returns c =
     let a = c .before .before .before .before .before .args in
-    (group-sized (a .regions) (now (a .work)) (a .group) _ _ _ _ _ (c .before .before .before .before .before .pre .1 .0 .ids) (c .before .before .before .form-of .ensures) (c .before .before .column-at .ensures .0) (c .size-runs .ensures .0), c .size-runs .ensures .1)
+    (group-sized (a .t .regions) (now (a .work)) (a .group) _ _ _ _ _ (c .before .before .before .before .before .pre .1 .0 .ids) (c .before .before .before .form-of .ensures) (c .before .before .column-at .ensures .0) (c .size-runs .ensures .0), c .size-runs .ensures .1)
 
 pub size-group-spec : {M : Type 1} → statement M
 size-group-spec =

@@ -22,23 +22,23 @@ use Rattle.rows.proofs.subtable.run_items.Reads as run-items-reads
 use Rattle.rows.proofs.subtable.write_table.Reads as write-table-reads
 
 abbrev Inv-loop : tie.InvT-loop
-Inv-loop out₀ at word cols places numbers work index ids count runs a₀ k₀ out a k =
-    (runs ≡ runCount (length (seg ids count work)))
-    × Putting at (runsBytes (tableBytes (numberIn numbers) word cols (setAt index work)) (seg ids count work)) out₀ out a
-    (joinAll (tabulate k (runCount (length (seg ids count work)) - k) (λ i. tableBytes (numberIn numbers) word cols (setAt index work) (runAt (seg ids count work) i))))
+Inv-loop out₀ at word cols places numbers work sets runs a₀ k₀ out a k =
+    (runs ≡ runCount (length (seg (sets .ids) (sets .count) work)))
+    × Putting at (runsBytes (tableBytes (numberIn numbers) word cols (setAt (sets .index) work)) (seg (sets .ids) (sets .count) work)) out₀ out a
+    (joinAll (tabulate k (runCount (length (seg (sets .ids) (sets .count) work)) - k) (λ i. tableBytes (numberIn numbers) word cols (setAt (sets .index) work) (runAt (seg (sets .ids) (sets .count) work) i))))
 
 abbrev μ-loop : tie.MeasureT-loop
-μ-loop out₀ at word cols places numbers work index ids count runs a₀ k₀ out a k = runs - k
+μ-loop out₀ at word cols places numbers work sets runs a₀ k₀ out a k = runs - k
 
 -- this turn's run: where it starts, and its ids
-starts : (c : tie.In-loop Inv-loop μ-loop) → 65535 * c .before .loop .k ≤ c .before .before .before .before .before .before .before .before .args .count
-starts c = run-starts (c .before .before .before .before .before .before .before .before .args .count) (c .before .loop .k) (omega (arith, c .before .before .run-count .ensures))
+starts : (c : tie.In-loop Inv-loop μ-loop) → 65535 * c .before .loop .k ≤ c .before .before .before .before .before .before .before .before .args .sets .count
+starts c = run-starts (c .before .before .before .before .before .before .before .before .args .sets .count) (c .before .loop .k) (omega (arith, c .before .before .run-count .ensures))
 
-part : (c : tie.After-run-items Inv-loop μ-loop) → runAt (seg (c .before .before .before .before .before .before .before .before .before .args .ids) (c .before .before .before .before .before .before .before .before .before .args .count) (now (c .before .before .before .before .before .before .before .before .before .args .work))) (c .before .before .loop .k) ≡ seg (c .before .before .before .before .before .before .before .before .before .args .ids + 65535 * c .before .before .loop .k) (c .run-items .result) (now (c .before .before .before .before .before .before .before .before .before .args .work))
+part : (c : tie.After-run-items Inv-loop μ-loop) → runAt (seg (c .before .before .before .before .before .before .before .before .before .before .args .sets .ids) (c .before .before .before .before .before .before .before .before .before .before .args .sets .count) (now (c .before .before .before .before .before .before .before .before .before .before .args .work))) (c .before .before .before .loop .k) ≡ seg (c .before .before .before .before .before .before .before .before .before .before .args .sets .ids + 65535 * c .before .before .before .loop .k) (c .run-items .result) (now (c .before .before .before .before .before .before .before .before .before .before .args .work))
 part c =
-    let a = c .before .before .before .before .before .before .before .before .before .args in
-    run-seg (a .ids) (a .count) (now (a .work)) (c .before .before .loop .k) (c .before .before .before .before .before .before .before .before .before .pre .1 .1 .1 .1 .1 .0) (starts (c .before))
-    ∙ ap (λ (m : ℕ). seg (a .ids + 65535 * c .before .before .loop .k) m (now (a .work))) (sym (c .run-items .ensures))
+    let a = c .before .before .before .before .before .before .before .before .before .before .args in
+    run-seg (a .sets .ids) (a .sets .count) (now (a .work)) (c .before .before .before .loop .k) (c .before .before .before .before .before .before .before .before .before .before .pre .1 .1 .1 .1 .1 .0) (starts (c .before .before))
+    ∙ ap (λ (m : ℕ). seg (a .sets .ids + 65535 * c .before .before .before .loop .k) m (now (a .work))) (sym (c .run-items .ensures))
 
 run-count-requires : tie.Need-run-count-requires Inv-loop μ-loop
 run-count-requires c κs = search needs
@@ -46,24 +46,24 @@ run-count-requires c κs = search needs
 loop-holds : tie.Need-loop-holds Inv-loop μ-loop
 loop-holds c =
     let a = c .before .before .before .before .before .before .args in
-    (c .run-count .ensures ∙ ap runCount (sym (length-seg (a .ids) (a .count) (now (a .work)) (c .before .before .before .before .before .before .pre .1 .1 .1 .1 .1 .0))), runs-start _ _ _ _ (c .before .before .before .before .before .before .pre .1 .1 .1 .1 .1 .1 .1))
+    (c .run-count .ensures ∙ ap runCount (sym (length-seg (a .sets .ids) (a .sets .count) (now (a .work)) (c .before .before .before .before .before .before .pre .1 .1 .1 .1 .1 .0))), runs-start _ _ _ _ (c .before .before .before .before .before .before .pre .1 .1 .1 .1 .1 .1 .1))
 
-mul-from : tie.Need-mul-from Inv-loop μ-loop
-mul-from c = omega (arith, starts c)
+mul-t14 : tie.Need-mul-t14 Inv-loop μ-loop
+mul-t14 c = omega (arith, starts c)
 
-add-from : tie.Need-add-from Inv-loop μ-loop
-add-from c = omega (arith, starts c, c .before .before .before .before .before .before .before .before .pre .1 .1 .1 .1 .1 .0)
+add-t15 : tie.Need-add-t15 Inv-loop μ-loop
+add-t15 c = omega (arith, starts (c .before), c .before .before .before .before .before .before .before .before .before .pre .1 .1 .1 .1 .1 .0)
 
 run-items-requires : tie.Need-run-items-requires Inv-loop μ-loop
-run-items-requires c κs = (omega (arith, c .before .before .run-count .ensures), c .before .before .before .before .before .before .before .before .pre .1 .1 .1 .1 .0)
+run-items-requires c κs = (omega (arith, c .before .before .before .run-count .ensures), c .before .before .before .before .before .before .before .before .before .pre .1 .1 .1 .1 .0)
 
 write-table-requires : tie.Need-write-table-requires Inv-loop μ-loop
 write-table-requires c κs =
-    let a = c .before .before .before .before .before .before .before .before .before .before .args in
-    let l = c .before .before .before .loop in
-    let h = starts (c .before .before) in
+    let a = c .before .before .before .before .before .before .before .before .before .before .before .args in
+    let l = c .before .before .before .before .loop in
+    let h = starts (c .before .before .before) in
     let e = c .before .run-items .ensures in
-    (c .before .before .before .before .before .before .before .before .before .before .pre .0, (c .before .before .before .before .before .before .before .before .before .before .pre .1 .0, (c .before .before .before .before .before .before .before .before .before .before .pre .1 .1 .0, (c .before .before .before .before .before .before .before .before .before .before .pre .1 .1 .1 .0, (omega arith, (omega (arith, c .before .before .before .before .before .before .before .before .before .before .pre .1 .1 .1 .1 .1 .0), (all-part (Stored (a .index) (now (a .work))) (a .ids) (a .count) _ _ (now (a .work)) (c .before .before .before .before .before .before .before .before .before .before .pre .1 .1 .1 .1 .1 .0) (omega arith) (omega arith) (c .before .before .before .before .before .before .before .before .before .before .pre .1 .1 .1 .1 .1 .1 .0), rw (← part (c .before)) (runs-room _ _ _ _ (c .before .before .before .before .before .before .before .before .before .before .pre .1 .1 .1 .1 .1 .1 .1) _ _ _ (l .inv .1) (omega (arith, l .inv .0, c .before .before .loop-test .taken))))))))))
+    (c .before .before .before .before .before .before .before .before .before .before .before .pre .0, (c .before .before .before .before .before .before .before .before .before .before .before .pre .1 .0, (c .before .before .before .before .before .before .before .before .before .before .before .pre .1 .1 .0, (c .before .before .before .before .before .before .before .before .before .before .before .pre .1 .1 .1 .0, (omega arith, (omega (arith, c .before .before .before .before .before .before .before .before .before .before .before .pre .1 .1 .1 .1 .1 .0), (all-part (Stored (a .sets .index) (now (a .work))) (a .sets .ids) (a .sets .count) _ _ (now (a .work)) (c .before .before .before .before .before .before .before .before .before .before .before .pre .1 .1 .1 .1 .1 .0) (omega arith) (omega arith) (c .before .before .before .before .before .before .before .before .before .before .before .pre .1 .1 .1 .1 .1 .1 .0), rw (← part (c .before)) (runs-room _ _ _ _ (c .before .before .before .before .before .before .before .before .before .before .before .pre .1 .1 .1 .1 .1 .1 .1) _ _ _ (l .inv .1) (omega (arith, l .inv .0, c .before .before .before .loop-test .taken))))))))))
 
 add-k : tie.Need-add-k Inv-loop μ-loop
 add-k c = omega arith
@@ -73,8 +73,8 @@ loop-less c = omega arith
 
 loop-again : tie.Need-loop-again Inv-loop μ-loop
 loop-again c =
-    let l = c .before .before .before .before .before .before .loop in
-    (l .inv .0, runs-more _ _ _ _ (c .before .before .before .before .before .before .before .before .before .before .before .before .before .pre .1 .1 .1 .1 .1 .1 .1) _ _ _ (l .inv .1) (omega (arith, l .inv .0, c .before .before .before .before .before .loop-test .taken)) _ _ (rw (part (c .before .before .before .before)) (c .before .before .write-table .ensures)))
+    let l = c .before .before .before .before .before .before .before .loop in
+    (l .inv .0, runs-more _ _ _ _ (c .before .before .before .before .before .before .before .before .before .before .before .before .before .before .pre .1 .1 .1 .1 .1 .1 .1) _ _ _ (l .inv .1) (omega (arith, l .inv .0, c .before .before .before .before .before .before .loop-test .taken)) _ _ (rw (part (c .before .before .before .before)) (c .before .before .write-table .ensures)))
 
 same-length : tie.Need-same-length Inv-loop μ-loop
 same-length c = c .before .loop .inv .1 .long
@@ -90,8 +90,8 @@ write-runs-spec =
     μ-loop
     run-count-requires
     loop-holds
-    mul-from
-    add-from
+    mul-t14
+    add-t15
     run-items-requires
     write-table-requires
     add-k

@@ -18,36 +18,36 @@ use Rattle.rows.proofs.subtable.write_head.Reads as write-head-reads
 use Rattle.rows.proofs.subtable.write_indexes.Reads as write-indexes-reads
 use Rattle.rows.proofs.subtable.write_rows.Reads as write-rows-reads
 
-room : (c : tie.Else1) → c .before .before .before .before .before .before .args .at + 6 + 2 * length (now (c .before .before .before .before .before .before .args .cols)) + c .before .before .before .before .before .before .args .count * columnAt (c .before .before .before .before .before .before .args .word) (length (now (c .before .before .before .before .before .before .args .cols))) ≤ length (now (c .before .before .before .before .before .before .args .out))
+room : (c : tie.Else1) → c .before .before .before .before .before .before .before .args .at + 6 + 2 * length (now (c .before .before .before .before .before .before .before .args .cols)) + c .before .before .before .before .before .before .before .args .sets .count * columnAt (c .before .before .before .before .before .before .before .args .word) (length (now (c .before .before .before .before .before .before .before .args .cols))) ≤ length (now (c .before .before .before .before .before .before .before .args .out))
 room c =
-    let a = c .before .before .before .before .before .before .args in
-    table-room (numberIn (now (a .numbers))) (a .word) (now (a .cols)) (setAt (a .index) (now (a .work))) (seg (a .ids) (a .count) (now (a .work))) (a .count) (a .at) (now (a .out)) (length-seg (a .ids) (a .count) (now (a .work)) (c .before .before .before .before .before .before .pre .1 .1 .1 .1 .1 .0)) (c .before .before .before .before .before .before .pre .1 .1 .1 .1 .1 .1 .1) (c .if1 .left)
+    let a = c .before .before .before .before .before .before .before .args in
+    table-room (numberIn (now (a .numbers))) (a .word) (now (a .cols)) (setAt (a .sets .index) (now (a .work))) (seg (a .sets .ids) (a .sets .count) (now (a .work))) (a .sets .count) (a .at) (now (a .out)) (length-seg (a .sets .ids) (a .sets .count) (now (a .work)) (c .before .before .before .before .before .before .before .pre .1 .1 .1 .1 .1 .0)) (c .before .before .before .before .before .before .before .pre .1 .1 .1 .1 .1 .1 .1) (c .if1 .left)
 
 returns : tie.Need-returns
 returns c =
-    let a = c .before .before .before .before .before .before .args in
-    empty-put _ _ _ _ _ _ _ _ (length-seg (a .ids) (a .count) (now (a .work)) (c .before .before .before .before .before .before .pre .1 .1 .1 .1 .1 .0)) (c .before .before .before .before .before .before .pre .1 .1 .1 .1 .1 .1 .1) (c .if1 .taken)
+    let a = c .before .before .before .before .before .before .before .args in
+    empty-put _ _ _ _ _ _ _ _ (length-seg (a .sets .ids) (a .sets .count) (now (a .work)) (c .before .before .before .before .before .before .before .pre .1 .1 .1 .1 .1 .0)) (c .before .before .before .before .before .before .before .pre .1 .1 .1 .1 .1 .1 .1) (c .if1 .taken)
 
 write-head-requires : tie.Need-write-head-requires
-write-head-requires c κs = (omega (arith, room (c .before)), (c .before .before .before .before .before .before .before .pre .1 .1 .1 .1 .0, (c .before .before .before .before .before .before .before .pre .0, c .before .before .before .before .before .before .before .pre .1 .0)))
+write-head-requires c κs = (omega (arith, room (c .before)), (c .before .before .before .before .before .before .before .before .pre .1 .1 .1 .1 .0, (c .before .before .before .before .before .before .before .before .pre .0, c .before .before .before .before .before .before .before .before .pre .1 .0)))
 
 write-indexes-requires : tie.Need-write-indexes-requires
 write-indexes-requires c κs =
-    let a = c .before .before .before .before .before .before .before .before .before .before .before .args in
-    (c .before .before .before .before .before .before .before .before .before .before .before .pre .1 .0, (c .before .before .before .before .before .before .before .before .before .before .before .pre .1 .1 .1 .0, omega (arith, room (c .before .before .before .before .before), c .before .before .before .write-head .ensures .end, c .before .before .before .write-head .kept .0, head-length (a .count) (a .word) (length (now (a .cols))))))
+    let a = c .before .before .before .before .before .before .before .before .before .before .before .before .args in
+    (c .before .before .before .before .before .before .before .before .before .before .before .before .pre .1 .0, (c .before .before .before .before .before .before .before .before .before .before .before .before .pre .1 .1 .1 .0, omega (arith, room (c .before .before .before .before .before), c .before .before .before .write-head .ensures .end, c .before .before .before .write-head .kept .0, head-length (a .sets .count) (a .word) (length (now (a .cols))))))
 
 write-rows-requires : tie.Need-write-rows-requires
 write-rows-requires c κs =
-    let a = c .before .before .before .before .before .before .before .before .before .before .before .before .before .before .before .args in
-    (c .before .before .before .before .before .before .before .before .before .before .before .before .before .before .before .pre .0, (c .before .before .before .before .before .before .before .before .before .before .before .before .before .before .before .pre .1 .0, (c .before .before .before .before .before .before .before .before .before .before .before .before .before .before .before .pre .1 .1 .0, (c .before .before .before .before .before .before .before .before .before .before .before .before .before .before .before .pre .1 .1 .1 .1 .1 .0, (c .before .before .before .before .before .before .before .before .before .before .before .before .before .before .before .pre .1 .1 .1 .1 .1 .1 .0, omega (arith, room (c .before .before .before .before .before .before .before .before .before), c .before .before .before .before .before .before .before .write-head .ensures .end, c .before .before .before .before .before .before .before .write-head .kept .0, head-length (a .count) (a .word) (length (now (a .cols))), c .before .before .before .write-indexes .ensures .end, c .before .before .before .write-indexes .kept .0, index-length (numberIn (now (a .numbers))) (now (a .cols))))))))
+    let a = c .before .before .before .before .before .before .before .before .before .before .before .before .before .before .before .before .args in
+    (c .before .before .before .before .before .before .before .before .before .before .before .before .before .before .before .before .pre .0, (c .before .before .before .before .before .before .before .before .before .before .before .before .before .before .before .before .pre .1 .0, (c .before .before .before .before .before .before .before .before .before .before .before .before .before .before .before .before .pre .1 .1 .0, (c .before .before .before .before .before .before .before .before .before .before .before .before .before .before .before .before .pre .1 .1 .1 .1 .1 .0, (c .before .before .before .before .before .before .before .before .before .before .before .before .before .before .before .before .pre .1 .1 .1 .1 .1 .1 .0, omega (arith, room (c .before .before .before .before .before .before .before .before .before), c .before .before .before .before .before .before .before .write-head .ensures .end, c .before .before .before .before .before .before .before .write-head .kept .0, head-length (a .sets .count) (a .word) (length (now (a .cols))), c .before .before .before .write-indexes .ensures .end, c .before .before .before .write-indexes .kept .0, index-length (numberIn (now (a .numbers))) (now (a .cols))))))))
 
 same-length : tie.Need-same-length
 same-length c = search needs
 
 returns-2 : tie.Need-returns-2
 returns-2 c =
-    let a = c .before .before .before .before .before .before .before .before .before .before .before .before .before .before .before .before .before .before .args in
-    table-put _ _ _ _ _ _ _ _ (length-seg (a .ids) (a .count) (now (a .work)) (c .before .before .before .before .before .before .before .before .before .before .before .before .before .before .before .before .before .before .pre .1 .1 .1 .1 .1 .0)) (c .before .before .before .before .before .before .before .before .before .before .before .before .before .before .before .before .before .before .pre .1 .1 .1 .1 .1 .1 .1) (c .before .before .before .before .before .before .before .before .before .before .before .before .if1 .left) _ _ _ _ _ _ (c .before .before .before .before .before .before .before .before .before .before .write-head .ensures) (c .before .before .before .before .before .before .write-indexes .ensures) (c .before .before .write-rows .ensures)
+    let a = c .before .before .before .before .before .before .before .before .before .before .before .before .before .before .before .before .before .before .before .args in
+    table-put _ _ _ _ _ _ _ _ (length-seg (a .sets .ids) (a .sets .count) (now (a .work)) (c .before .before .before .before .before .before .before .before .before .before .before .before .before .before .before .before .before .before .before .pre .1 .1 .1 .1 .1 .0)) (c .before .before .before .before .before .before .before .before .before .before .before .before .before .before .before .before .before .before .before .pre .1 .1 .1 .1 .1 .1 .1) (c .before .before .before .before .before .before .before .before .before .before .before .before .if1 .left) _ _ _ _ _ _ (c .before .before .before .before .before .before .before .before .before .before .write-head .ensures) (c .before .before .before .before .before .before .write-indexes .ensures) (c .before .before .write-rows .ensures)
 
 pub write-table-spec : {M : Type 1} → statement M
 write-table-spec =

@@ -46,7 +46,7 @@ write-runs-requires : tie.Need-write-runs-requires
 write-runs-requires c κs =
     let a = c .before .before .before .before .before .before .before .before .before .before .before .before .before .before .args in
     let f = c .before .before .before .before .before .before .before .before .columns .ensures in
-    (formed-word _ _ _ _ _ f (omega (arith, c .before .before .before .before .before .before .before .before .before .before .before .before .before .before .pre .0)), (omega (arith, formed-long _ _ _ _ _ f, formed-few _ _ _ _ _ f, c .before .before .before .before .before .before .before .before .before .before .before .before .before .before .pre .0), (c .before .before .before .before .place .ensures, (formed-ok _ _ _ _ _ f (length (now (a .numbers))) (c .before .before .before .before .before .before .before .before .before .before .before .before .before .before .pre .1 .0), (c .before .before .before .before .before .before .before .before .before .before .before .before .before .before .pre .1 .1 .0, (c .before .before .before .before .before .before .before .before .before .before .before .before .before .before .pre .1 .1 .1 .0, (c .before .before .before .before .before .before .before .before .before .before .before .before .before .before .pre .1 .1 .1 .1 .0, rw (← group-is _ _ _ _ _ f (numberIn (now (a .numbers))) (setAt (a .index) (now (a .work))) (seg (a .ids) (a .count) (now (a .work))) (omega (arith, c .before .before .before .before .before .before .before .before .before .before .before .before .before .before .pre .0))) (c .before .before .before .before .before .before .before .before .before .before .before .before .before .before .pre .1 .1 .1 .1 .1))))))))
+    (formed-word _ _ _ _ _ f (omega (arith, c .before .before .before .before .before .before .before .before .before .before .before .before .before .before .pre .0)), (omega (arith, formed-long _ _ _ _ _ f, formed-few _ _ _ _ _ f, c .before .before .before .before .before .before .before .before .before .before .before .before .before .before .pre .0), (c .before .before .before .before .place .ensures, (formed-ok _ _ _ _ _ f (length (now (a .numbers))) (c .before .before .before .before .before .before .before .before .before .before .before .before .before .before .pre .1 .0), (c .before .before .before .before .before .before .before .before .before .before .before .before .before .before .pre .1 .1 .0, (c .before .before .before .before .before .before .before .before .before .before .before .before .before .before .pre .1 .1 .1 .0, (c .before .before .before .before .before .before .before .before .before .before .before .before .before .before .pre .1 .1 .1 .1 .0, rw (← group-is _ _ _ _ _ f (numberIn (now (a .numbers))) (setAt (a .sets .index) (now (a .work))) (seg (a .sets .ids) (a .sets .count) (now (a .work))) (omega (arith, c .before .before .before .before .before .before .before .before .before .before .before .before .before .before .pre .0))) (c .before .before .before .before .before .before .before .before .before .before .before .before .before .before .pre .1 .1 .1 .1 .1))))))))
 
 same-length : tie.Need-same-length
 same-length c = search needs
@@ -55,7 +55,7 @@ returns : tie.Need-returns
 returns c =
     let a = c .before .before .before .before .before .before .before .before .before .before .before .before .before .before .before .before .before .args in
     let f = c .before .before .before .before .before .before .before .before .before .before .before .columns .ensures in
-    rw (group-is _ _ _ _ _ f (numberIn (now (a .numbers))) (setAt (a .index) (now (a .work))) (seg (a .ids) (a .count) (now (a .work))) (omega (arith, c .before .before .before .before .before .before .before .before .before .before .before .before .before .before .before .before .before .pre .0))) (c .before .before .write-runs .ensures)
+    rw (group-is _ _ _ _ _ f (numberIn (now (a .numbers))) (setAt (a .sets .index) (now (a .work))) (seg (a .sets .ids) (a .sets .count) (now (a .work))) (omega (arith, c .before .before .before .before .before .before .before .before .before .before .before .before .before .before .before .before .before .pre .0))) (c .before .before .write-runs .ensures)
 
 pub write-group-spec : {M : Type 1} → statement M
 write-group-spec =

@@ -17,12 +17,12 @@ use Rattle.writing.proofs.groups.write_groups.Lts as lts
 use Rattle.writing.proofs.groups.write_one.Reads as write-one-reads
 
 abbrev Inv-loop : tie.InvT-loop
-Inv-loop out₀ at numbers work regions groups count index a₀ g₀ out a g =
-    Putting at (chain (λ g. groupBytes (numberIn numbers) (setAt index work) (finalAt regions work (groups + 3 * g))) count) out₀ out a
-    (joinAll (tabulate g (count - g) (λ g. groupBytes (numberIn numbers) (setAt index work) (finalAt regions work (groups + 3 * g)))))
+Inv-loop out₀ at numbers work t a₀ g₀ out a g =
+    Putting at (chain (λ g. groupBytes (numberIn numbers) (setAt (t .index) work) (finalAt (t .regions) work (t .groups + 3 * g))) (t .count)) out₀ out a
+    (joinAll (tabulate g (t .count - g) (λ g. groupBytes (numberIn numbers) (setAt (t .index) work) (finalAt (t .regions) work (t .groups + 3 * g)))))
 
 abbrev μ-loop : tie.MeasureT-loop
-μ-loop out₀ at numbers work regions groups count index a₀ g₀ out a g = count - g
+μ-loop out₀ at numbers work t a₀ g₀ out a g = t .count - g
 
 -- group g's subtables
 abbrev piece : List ℕ → List ℕ → ℕ → ℕ → ℕ → ℕ → List ℕ
@@ -39,8 +39,8 @@ add-write-one c = omega arith
 
 write-one-requires : tie.Need-write-one-requires Inv-loop μ-loop
 write-one-requires c κs =
-    let a = c .before .before .before .before .before .before .args in
-    (c .before .before .before .before .before .before .pre .0, (c .before .before .before .before .before .before .pre .1 .0, (c .before .before .before .before .before .before .pre .1 .1 .1 .0 (c .before .before .loop .g) (c .before .loop-test .taken), chain-room (piece (now (a .numbers)) (now (a .work)) (a .regions) (a .groups) (a .index)) (a .count) (a .at) (now (a .out)) (c .before .before .before .before .before .before .pre .1 .1 .1 .1) _ _ _ (c .before .before .loop .inv) (c .before .loop-test .taken))))
+    let a = c .before .before .before .before .before .before .before .before .args in
+    (c .before .before .before .before .before .before .before .before .pre .0, (c .before .before .before .before .before .before .before .before .pre .1 .0, (c .before .before .before .before .before .before .before .before .pre .1 .1 .1 .0 (c .before .before .before .before .loop .g) (c .before .before .if1 .taken), chain-room (piece (now (a .numbers)) (now (a .work)) (a .t .regions) (a .t .groups) (a .t .index)) (a .t .count) (a .at) (now (a .out)) (c .before .before .before .before .before .before .before .before .pre .1 .1 .1 .1) _ _ _ (c .before .before .before .before .loop .inv) (c .before .before .if1 .taken))))
 
 add-g : tie.Need-add-g Inv-loop μ-loop
 add-g c = omega arith
@@ -50,16 +50,16 @@ loop-less c = omega arith
 
 loop-again : tie.Need-loop-again Inv-loop μ-loop
 loop-again c =
-    let a = c .before .before .before .before .before .before .before .before .before .args in
-    chain-more (piece (now (a .numbers)) (now (a .work)) (a .regions) (a .groups) (a .index)) (a .count) (a .at) (now (a .out)) (c .before .before .before .before .before .before .before .before .before .pre .1 .1 .1 .1) _ _ _ (c .before .before .before .before .before .loop .inv) (c .before .before .before .before .loop-test .taken) _ _ (c .before .before .write-one .ensures)
+    let a = c .before .before .before .before .before .before .before .before .before .before .before .args in
+    chain-more (piece (now (a .numbers)) (now (a .work)) (a .t .regions) (a .t .groups) (a .t .index)) (a .t .count) (a .at) (now (a .out)) (c .before .before .before .before .before .before .before .before .before .before .before .pre .1 .1 .1 .1) _ _ _ (c .before .before .before .before .before .before .before .loop .inv) (c .before .before .before .before .before .if1 .taken) _ _ (c .before .before .write-one .ensures)
 
 same-length : tie.Need-same-length Inv-loop μ-loop
-same-length c = c .before .loop .inv .long
+same-length c = c .before .before .loop .inv .long
 
 returns : tie.Need-returns Inv-loop μ-loop
 returns c =
-    let a = c .before .before .before .before .before .args in
-    chain-done (piece (now (a .numbers)) (now (a .work)) (a .regions) (a .groups) (a .index)) (a .count) (a .at) (now (a .out)) (c .before .before .before .before .before .pre .1 .1 .1 .1) _ _ _ (c .before .loop .inv) (omega arith)
+    let a = c .before .before .before .before .before .before .args in
+    chain-done (piece (now (a .numbers)) (now (a .work)) (a .t .regions) (a .t .groups) (a .t .index)) (a .t .count) (a .at) (now (a .out)) (c .before .before .before .before .before .before .pre .1 .1 .1 .1) _ _ _ (c .before .before .loop .inv) (omega arith)
 
 pub write-groups-spec : {M : Type 1} → statement M
 write-groups-spec =

@@ -21,35 +21,35 @@ shared-slice-read-shape c = search needs
 cast-shape : tie.Need-cast-shape
 cast-shape c = search needs
 
-add-ids : tie.Need-add-ids
-add-ids c = search needs
+add-t9 : tie.Need-add-t9
+add-t9 c = search needs
 
-mul-ids : tie.Need-mul-ids
-mul-ids c = search needs
+mul-t12 : tie.Need-mul-t12
+mul-t12 c = search needs
 
-shared-slice-read-ids : tie.Need-shared-slice-read-ids
-shared-slice-read-ids c = search needs
+shared-slice-read-t11 : tie.Need-shared-slice-read-t11
+shared-slice-read-t11 c = search needs
 
-cast-ids : tie.Need-cast-ids
-cast-ids c = search needs
-
-add-count : tie.Need-add-count
-add-count c = search needs
-
-mul-count : tie.Need-mul-count
-mul-count c = search needs
-
-shared-slice-read-count : tie.Need-shared-slice-read-count
-shared-slice-read-count c = search needs
-
-cast-count : tie.Need-cast-count
-cast-count c = search needs
+cast-t14 : tie.Need-cast-t14
+cast-t14 c = search needs
 
 add-write-group : tie.Need-add-write-group
 add-write-group c = search needs
 
 mul-write-group : tie.Need-mul-write-group
 mul-write-group c = search needs
+
+shared-slice-read-write-group : tie.Need-shared-slice-read-write-group
+shared-slice-read-write-group c = search needs
+
+cast-write-group : tie.Need-cast-write-group
+cast-write-group c = search needs
+
+add-write-group-2 : tie.Need-add-write-group-2
+add-write-group-2 c = search needs
+
+mul-write-group-2 : tie.Need-mul-write-group-2
+mul-write-group-2 c = search needs
 
 sub-write-group : tie.Need-sub-write-group
 sub-write-group c = search needs
@@ -63,11 +63,11 @@ part-write-group-end c = search needs
 write-group-requires : tie.Need-write-group-requires
 unfolding groupBytes finalAt
 write-group-requires c κs =
-    let a = c .before .before .before .before .before .before .before .before .args in
-    let h = c .before .before .before .before .before .before .before .before .pre .1 .1 .0 in
+    let a = c .before .before .before .before .before .before .before .before .before .args in
+    let h = c .before .before .before .before .before .before .before .before .before .pre .1 .1 .0 in
     let s = getD (now (a .work)) (a .group) 0 in
-    let l = length-seg s (a .regions) (now (a .work)) (h .shape) in
-    (rw (part-seg s (a .regions) (now (a .work))) (omega (arith, c .before .before .before .before .before .before .before .before .pre .0)), (rw (part-seg s (a .regions) (now (a .work))) (omega (arith, c .before .before .before .before .before .before .before .before .pre .1 .0)), (omega (arith, c .before .before .shared-slice-known5 .given (a .group + 2)), (h .ids, (h .sets, rw (part-seg s (a .regions) (now (a .work))) (c .before .before .before .before .before .before .before .before .pre .1 .1 .1))))))
+    let l = length-seg s (a .t .regions) (now (a .work)) (h .shape) in
+    (rw (part-seg s (a .t .regions) (now (a .work))) (omega (arith, c .before .before .before .before .before .before .before .before .before .pre .0)), (rw (part-seg s (a .t .regions) (now (a .work))) (omega (arith, c .before .before .before .before .before .before .before .before .before .pre .1 .0)), (omega (arith, c .before .before .before .shared-slice-known5 .given (a .group + 2)), (h .ids, (h .sets, rw (part-seg s (a .t .regions) (now (a .work))) (c .before .before .before .before .before .before .before .before .before .pre .1 .1 .1))))))
 
 same-length : tie.Need-same-length
 same-length c = search needs
@@ -75,9 +75,9 @@ same-length c = search needs
 returns : tie.Need-returns
 unfolding groupBytes finalAt
 returns c =
-    let a = c .before .before .before .before .before .before .before .before .before .before .before .args in
+    let a = c .before .before .before .before .before .before .before .before .before .before .before .before .args in
     let s = getD (now (a .work)) (a .group) 0 in
-    rw (part-seg s (a .regions) (now (a .work))) at (c .before .before .write-group .ensures)
+    rw (part-seg s (a .t .regions) (now (a .work))) at (c .before .before .write-group .ensures)
 
 pub write-one-spec : {M : Type 1} → statement M
 write-one-spec =
@@ -86,16 +86,16 @@ write-one-spec =
     mul-shape
     shared-slice-read-shape
     cast-shape
-    add-ids
-    mul-ids
-    shared-slice-read-ids
-    cast-ids
-    add-count
-    mul-count
-    shared-slice-read-count
-    cast-count
+    add-t9
+    mul-t12
+    shared-slice-read-t11
+    cast-t14
     add-write-group
     mul-write-group
+    shared-slice-read-write-group
+    cast-write-group
+    add-write-group-2
+    mul-write-group-2
     sub-write-group
     part-write-group-start
     part-write-group-end

@@ -44,7 +44,7 @@ returns : tie.Need-returns
 unfolding finalAt
 returns c =
     let a = c .before .before .before .before .before .before .before .before .args in
-    (c .before .before .map-runs .ensures .0 (seg (getD (now (a .work)) (a .group) 0) (a .regions) (now (a .work))), c .before .before .map-runs .ensures .1)
+    (c .before .before .map-runs .ensures .0 (seg (getD (now (a .work)) (a .group) 0) (a .t .regions) (now (a .work))), c .before .before .map-runs .ensures .1)
 
 pub map-group-spec : {M : Type 1} → statement M
 map-group-spec =

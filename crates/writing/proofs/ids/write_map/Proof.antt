@@ -17,14 +17,14 @@ use Rattle.writing.proofs.ids.write_map.Lts as lts
 use Rattle.writing.proofs.ids.map_group.Reads as map-group-reads
 
 abbrev Inv-loop : tie.InvT-loop
-Inv-loop work regions groups count index map₀ first₀ g₀ map first g =
-    (g ≤ count)
+Inv-loop work t map₀ first₀ g₀ map first g =
+    (g ≤ t .count)
     × (first ≤ 17 * g)
     × (length map ≡ length map₀)
-    × (stored (idWords first (joinAll (tabulate g (count - g) (λ i. runsOf (finalAt regions work (groups + 3 * i)))))) map ≡ stored (idWords 0 (allRuns (finalsAt regions groups count work))) map₀)
+    × (stored (idWords first (joinAll (tabulate g (t .count - g) (λ i. runsOf (finalAt (t .regions) work (t .groups + 3 * i)))))) map ≡ stored (idWords 0 (allRuns (finalsAt (t .regions) (t .groups) (t .count) work))) map₀)
 
 abbrev μ-loop : tie.MeasureT-loop
-μ-loop work regions groups count index map₀ first₀ g₀ map first g = count - g
+μ-loop work t map₀ first₀ g₀ map first g = t .count - g
 
 abbrev finals : List ℕ → ℕ → ℕ → ℕ → Final
 finals work regions groups g = finalAt regions work (groups + 3 * g)
@@ -33,7 +33,7 @@ loop-holds : tie.Need-loop-holds Inv-loop μ-loop
 unfolding finalsAt
 loop-holds c =
     let a = c .before .before .args in
-    (omega arith, omega arith, refl, ap (λ (l : List (ℕ × ℕ)). stored l (now (a .map))) (groups-all (finals (now (a .work)) (a .regions) (a .groups)) (a .count)))
+    (omega arith, omega arith, refl, ap (λ (l : List (ℕ × ℕ)). stored l (now (a .map))) (groups-all (finals (now (a .work)) (a .t .regions) (a .t .groups)) (a .t .count)))
 
 mul-map-group : tie.Need-mul-map-group Inv-loop μ-loop
 mul-map-group c = omega arith
@@ -43,8 +43,8 @@ add-map-group c = omega arith
 
 map-group-requires : tie.Need-map-group-requires Inv-loop μ-loop
 map-group-requires c κs =
-    let l = c .before .before .loop in
-    (c .before .before .before .before .before .pre .1 .1 .0 (l .g) (c .before .loop-test .taken), (c .before .before .before .before .before .pre .1 .1 .1 .0 (l .g) (c .before .loop-test .taken), (rw (l .inv .2) (c .before .before .before .before .before .pre .1 .1 .1 .1 (l .g) (c .before .loop-test .taken)), omega (arith, l .inv .0, l .inv .1, c .before .before .before .before .before .pre .0, c .before .loop-test))))
+    let l = c .before .before .before .before .loop in
+    (c .before .before .before .before .before .before .before .pre .1 .1 .0 (l .g) (c .before .before .if1 .taken), (c .before .before .before .before .before .before .before .pre .1 .1 .1 .0 (l .g) (c .before .before .if1 .taken), (rw (l .inv .2) (c .before .before .before .before .before .before .before .pre .1 .1 .1 .1 (l .g) (c .before .before .if1 .taken)), omega (arith, l .inv .0, l .inv .1, c .before .before .before .before .before .before .before .pre .0, c .before .before .if1))))
 
 add-g : tie.Need-add-g Inv-loop μ-loop
 add-g c = omega arith
@@ -54,22 +54,22 @@ loop-less c = omega arith
 
 loop-again : tie.Need-loop-again Inv-loop μ-loop
 loop-again c =
-    let a = c .before .before .before .before .before .before .before .before .args in
-    let l = c .before .before .before .before .before .loop in (
-      omega (arith, c .before .before .before .before .loop-test),
+    let a = c .before .before .before .before .before .before .before .before .before .before .args in
+    let l = c .before .before .before .before .before .before .before .loop in (
+      omega (arith, c .before .before .before .before .before .if1),
       omega (arith, l .inv .1, c .before .before .map-group .ensures .1),
-      c .before .before .map-group .kept .1 .1 .1 .1 .1 .0 ∙ l .inv .2,
-      groups-more (finals (now (a .work)) (a .regions) (a .groups)) (a .count) _ (l .map) _ (l .first) (l .g) _ (l .inv .3) (c .before .before .before .before .loop-test .taken) (c .before .before .map-group .ensures .0),
+      c .before .before .map-group .kept .1 .1 .1 .1 .0 ∙ l .inv .2,
+      groups-more (finals (now (a .work)) (a .t .regions) (a .t .groups)) (a .t .count) _ (l .map) _ (l .first) (l .g) _ (l .inv .3) (c .before .before .before .before .before .if1 .taken) (c .before .before .map-group .ensures .0),
     )
 
 same-length : tie.Need-same-length Inv-loop μ-loop
-same-length c = c .before .loop .inv .2
+same-length c = c .before .before .loop .inv .2
 
 returns : tie.Need-returns Inv-loop μ-loop
 returns c =
-    let a = c .before .before .before .before .args in
-    let l = c .before .loop in
-    groups-done (finals (now (a .work)) (a .regions) (a .groups)) (a .count) _ (l .map) (l .first) (l .g) (l .inv .3) (omega arith)
+    let a = c .before .before .before .before .before .args in
+    let l = c .before .before .loop in
+    groups-done (finals (now (a .work)) (a .t .regions) (a .t .groups)) (a .t .count) _ (l .map) (l .first) (l .g) (l .inv .3) (omega arith)
 
 pub write-map-spec : {M : Type 1} → statement M
 write-map-spec =

@@ -15,8 +15,8 @@ use Rattle.planning.proofs.form_of.Reads as form-of-reads
 use Rattle.writing.proofs.spots.write_run_spots.Reads as write-run-spots-reads
 
 -- the group's sizes, by the numbers of its rows
-sizes : (c : tie.After-column-at) → groupSizes (finalAt (c .before .before .before .before .args .regions) (now (c .before .before .before .before .args .work)) (c .before .before .before .before .args .group)) ≡ runSizes (c .before .form-of .result .count) (c .column-at .result) (getD (now (c .before .before .before .before .args .work)) (c .before .before .before .before .args .group + 2) 0)
-sizes c = group-sizes-are (c .before .before .before .before .args .regions) (now (c .before .before .before .before .args .work)) (c .before .before .before .before .args .group) _ _ _ (c .before .before .before .before .pre .1 .0 .ids) (c .before .form-of .ensures) (c .column-at .ensures .0)
+sizes : (c : tie.After-column-at) → groupSizes (finalAt (c .before .before .before .before .args .t .regions) (now (c .before .before .before .before .args .work)) (c .before .before .before .before .args .group)) ≡ runSizes (c .before .form-of .result .count) (c .column-at .result) (getD (now (c .before .before .before .before .args .work)) (c .before .before .before .before .args .group + 2) 0)
+sizes c = group-sizes-are (c .before .before .before .before .args .t .regions) (now (c .before .before .before .before .args .work)) (c .before .before .before .before .args .group) _ _ _ (c .before .before .before .before .pre .1 .0 .ids) (c .before .form-of .ensures) (c .column-at .ensures .0)
 
 form-of-requires : tie.Need-form-of-requires
 form-of-requires c κs = search needs

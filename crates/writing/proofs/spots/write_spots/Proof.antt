@@ -17,25 +17,25 @@ use Rattle.writing.proofs.spots.write_spots.Lts as lts
 use Rattle.writing.proofs.spots.write_group_spots.Reads as write-group-spots-reads
 
 abbrev Inv-loop : tie.InvT-loop
-Inv-loop out₀ at first work regions groups count index p₀ next₀ g₀ out p next g = Spotting at first (chain (λ g. groupSizes (finalAt regions work (groups + 3 * g))) count) out₀ out p next (joinAll (tabulate g (count - g) (λ g. groupSizes (finalAt regions work (groups + 3 * g)))))
+Inv-loop out₀ at first work t p₀ next₀ g₀ out p next g = Spotting at first (chain (λ g. groupSizes (finalAt (t .regions) work (t .groups + 3 * g))) (t .count)) out₀ out p next (joinAll (tabulate g (t .count - g) (λ g. groupSizes (finalAt (t .regions) work (t .groups + 3 * g)))))
 
 abbrev μ-loop : tie.MeasureT-loop
-μ-loop out₀ at first work regions groups count index p₀ next₀ g₀ out p next g = count - g
+μ-loop out₀ at first work t p₀ next₀ g₀ out p next g = t .count - g
 
 abbrev piece : List ℕ → ℕ → ℕ → ℕ → List ℕ
 piece work regions groups g = groupSizes (finalAt regions work (groups + 3 * g))
 
-here : (c : tie.In-loop Inv-loop μ-loop) → Spotting (c .before .before .before .before .args .at) (c .before .before .before .before .args .first) (chain (piece (now (c .before .before .before .before .args .work)) (c .before .before .before .before .args .regions) (c .before .before .before .before .args .groups)) (c .before .before .before .before .args .count)) (now (c .before .before .before .before .args .out)) (c .before .loop .out) (c .before .loop .p) (c .before .loop .next) (piece (now (c .before .before .before .before .args .work)) (c .before .before .before .before .args .regions) (c .before .before .before .before .args .groups) (c .before .loop .g) ++ left (piece (now (c .before .before .before .before .args .work)) (c .before .before .before .before .args .regions) (c .before .before .before .before .args .groups)) (c .before .before .before .before .args .count) (c .before .loop .g + 1))
-here c = rw (left-step (piece (now (c .before .before .before .before .args .work)) (c .before .before .before .before .args .regions) (c .before .before .before .before .args .groups)) (c .before .before .before .before .args .count) (c .before .loop .g) (c .loop-test .taken)) at (c .before .loop .inv)
+here : (c : tie.Then1 Inv-loop μ-loop) → Spotting (c .before .before .before .before .before .args .at) (c .before .before .before .before .before .args .first) (chain (piece (now (c .before .before .before .before .before .args .work)) (c .before .before .before .before .before .args .t .regions) (c .before .before .before .before .before .args .t .groups)) (c .before .before .before .before .before .args .t .count)) (now (c .before .before .before .before .before .args .out)) (c .before .before .loop .out) (c .before .before .loop .p) (c .before .before .loop .next) (piece (now (c .before .before .before .before .before .args .work)) (c .before .before .before .before .before .args .t .regions) (c .before .before .before .before .before .args .t .groups) (c .before .before .loop .g) ++ left (piece (now (c .before .before .before .before .before .args .work)) (c .before .before .before .before .before .args .t .regions) (c .before .before .before .before .before .args .t .groups)) (c .before .before .before .before .before .args .t .count) (c .before .before .loop .g + 1))
+here c = rw (left-step (piece (now (c .before .before .before .before .before .args .work)) (c .before .before .before .before .before .args .t .regions) (c .before .before .before .before .before .args .t .groups)) (c .before .before .before .before .before .args .t .count) (c .before .before .loop .g) (c .if1 .taken)) at (c .before .before .loop .inv)
 
-bounds : (c : tie.In-loop Inv-loop μ-loop) → (c .before .loop .p + length (spotsOf (c .before .loop .next) (piece (now (c .before .before .before .before .args .work)) (c .before .before .before .before .args .regions) (c .before .before .before .before .args .groups) (c .before .loop .g))) ≤ length (c .before .loop .out)) × (c .before .loop .next + sumOf (piece (now (c .before .before .before .before .args .work)) (c .before .before .before .before .args .regions) (c .before .before .before .before .args .groups) (c .before .loop .g)) < 4294967296)
+bounds : (c : tie.Then1 Inv-loop μ-loop) → (c .before .before .loop .p + length (spotsOf (c .before .before .loop .next) (piece (now (c .before .before .before .before .before .args .work)) (c .before .before .before .before .before .args .t .regions) (c .before .before .before .before .before .args .t .groups) (c .before .before .loop .g))) ≤ length (c .before .before .loop .out)) × (c .before .before .loop .next + sumOf (piece (now (c .before .before .before .before .before .args .work)) (c .before .before .before .before .before .args .t .regions) (c .before .before .before .before .before .args .t .groups) (c .before .before .loop .g)) < 4294967296)
 unfolding sizesAt
-bounds c = group-spots _ _ _ _ (c .before .before .before .before .pre .1 .1 .1 .1 .0) _ _ _ _ _ (here c) (c .before .before .before .before .pre .1 .1 .1 .1 .1)
+bounds c = group-spots _ _ _ _ (c .before .before .before .before .before .pre .1 .1 .1 .1 .0) _ _ _ _ _ (here c) (c .before .before .before .before .before .pre .1 .1 .1 .1 .1)
 
 loop-holds : tie.Need-loop-holds Inv-loop μ-loop
 loop-holds c =
     let a = c .before .before .args in
-    rw (left-all (piece (now (a .work)) (a .regions) (a .groups)) (a .count)) (spot-start _ _ _ _)
+    rw (left-all (piece (now (a .work)) (a .t .regions) (a .t .groups)) (a .t .count)) (spot-start _ _ _ _)
 
 mul-write-group-spots : tie.Need-mul-write-group-spots Inv-loop μ-loop
 mul-write-group-spots c = omega arith
@@ -44,7 +44,7 @@ add-write-group-spots : tie.Need-add-write-group-spots Inv-loop μ-loop
 add-write-group-spots c = omega arith
 
 write-group-spots-requires : tie.Need-write-group-spots-requires Inv-loop μ-loop
-write-group-spots-requires c κs = (c .before .before .before .before .before .pre .0, (c .before .before .before .before .before .pre .1 .1 .0 (c .before .before .loop .g) (c .before .loop-test .taken), (c .before .before .before .before .before .pre .1 .1 .1 .0 (c .before .before .loop .g) (c .before .loop-test .taken), (bounds (c .before) .0, bounds (c .before) .1))))
+write-group-spots-requires c κs = (c .before .before .before .before .before .before .before .pre .0, (c .before .before .before .before .before .before .before .pre .1 .1 .0 (c .before .before .before .before .loop .g) (c .before .before .if1 .taken), (c .before .before .before .before .before .before .before .pre .1 .1 .1 .0 (c .before .before .before .before .loop .g) (c .before .before .if1 .taken), (bounds (c .before .before) .0, bounds (c .before .before) .1))))
 
 add-g : tie.Need-add-g Inv-loop μ-loop
 add-g c = omega arith
@@ -54,16 +54,16 @@ loop-less c = omega arith
 
 loop-again : tie.Need-loop-again Inv-loop μ-loop
 unfolding sizesAt
-loop-again c = spot-group _ _ _ _ (c .before .before .before .before .before .before .before .before .pre .1 .1 .1 .1 .0) _ _ _ _ _ (here (c .before .before .before .before)) _ _ _ (c .before .before .write-group-spots .ensures)
+loop-again c = spot-group _ _ _ _ (c .before .before .before .before .before .before .before .before .before .before .pre .1 .1 .1 .1 .0) _ _ _ _ _ (here (c .before .before .before .before .before)) _ _ _ (c .before .before .write-group-spots .ensures)
 
 same-length : tie.Need-same-length Inv-loop μ-loop
-same-length c = c .before .loop .inv .put .long
+same-length c = c .before .before .loop .inv .put .long
 
 returns : tie.Need-returns Inv-loop μ-loop
 unfolding sizesAt
 returns c =
-    let a = c .before .before .before .before .args in
-    spot-done _ _ _ _ _ _ _ _ (c .before .loop .inv) (left-none (piece (now (a .work)) (a .regions) (a .groups)) (a .count) _ (omega arith))
+    let a = c .before .before .before .before .before .args in
+    spot-done _ _ _ _ _ _ _ _ (c .before .before .loop .inv) (left-none (piece (now (a .work)) (a .t .regions) (a .t .groups)) (a .t .count) _ (omega arith))
 
 pub write-spots-spec : {M : Type 1} → statement M
 write-spots-spec =

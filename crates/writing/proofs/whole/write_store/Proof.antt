@@ -23,37 +23,37 @@ mul-first-2 : tie.Need-mul-first-2
 mul-first-2 c = search needs
 
 mul-first-3 : tie.Need-mul-first-3
-mul-first-3 c = omega (arith, c .before .before .before .before .before .before .before .before .before .pre .1 .0 .short)
+mul-first-3 c = omega (arith, c .before .before .before .before .before .before .before .before .before .before .before .before .pre .1 .0 .short)
 
 add-first-2 : tie.Need-add-first-2
-add-first-2 c = omega (arith, c .before .before .before .before .before .before .before .before .before .pre .1 .0 .short)
+add-first-2 c = omega (arith, c .before .before .before .before .before .before .before .before .before .before .before .before .pre .1 .0 .short)
 
 add-first-3 : tie.Need-add-first-3
-add-first-3 c = omega (arith, c .before .before .before .before .before .before .before .before .before .pre .1 .0 .short)
+add-first-3 c = omega (arith, c .before .before .before .before .before .before .before .before .before .before .before .before .pre .1 .0 .short)
 
 write-spots-requires : tie.Need-write-spots-requires
 write-spots-requires c κs =
-    let r = c .before .before .before .before .before .before .before .before .before .before .pre .0 in
-    let p = c .before .before .before .before .before .before .before .before .before .before .pre .1 .0 in
-    (r .regions-most, (r .rows, (r .handed, (r .small, (spots-room _ _ _ _ _ _ _ _ _ _ _ _ r p _ (c .before .before .before .before .before .before .before .before .before .before .pre .1 .1) _ _ (c .before .before .before .write-header .ensures) .0, p .short)))))
+    let r = c .before .before .before .before .before .before .before .before .before .before .before .before .before .pre .0 in
+    let p = c .before .before .before .before .before .before .before .before .before .before .before .before .before .pre .1 .0 in
+    (r .regions-most, (r .rows, (r .handed, (r .small, (spots-room _ _ _ _ _ _ _ _ _ _ _ _ r p _ (c .before .before .before .before .before .before .before .before .before .before .before .before .before .pre .1 .1) _ _ (c .before .before .before .before .before .before .write-header .ensures) .0, p .short)))))
 
 write-list-requires : tie.Need-write-list-requires
 write-list-requires c κs =
-    let r = c .before .before .before .before .before .before .before .before .before .before .before .before .before .before .pre .0 in
-    let p = c .before .before .before .before .before .before .before .before .before .before .before .before .before .before .pre .1 .0 in
-    (omega (arith, r .axes-most), (omega (arith, kept-few _ _ _ _ _ _ _ _ _ _ _ _ r p), (p .marks-room, (r .starting, (r .sourced, list-room _ _ _ _ _ _ _ _ _ _ _ _ r p _ (c .before .before .before .before .before .before .before .before .before .before .before .before .before .before .pre .1 .1) _ _ _ _ _ (c .before .before .before .before .before .before .before .write-header .ensures) (c .before .before .before .write-spots .ensures) .0)))))
+    let r = c .before .before .before .before .before .before .before .before .before .before .before .before .before .before .before .before .before .pre .0 in
+    let p = c .before .before .before .before .before .before .before .before .before .before .before .before .before .before .before .before .before .pre .1 .0 in
+    (omega (arith, r .axes-most), (omega (arith, kept-few _ _ _ _ _ _ _ _ _ _ _ _ r p), (p .marks-room, (r .starting, (r .sourced, list-room _ _ _ _ _ _ _ _ _ _ _ _ r p _ (c .before .before .before .before .before .before .before .before .before .before .before .before .before .before .before .before .before .pre .1 .1) _ _ _ _ _ (c .before .before .before .before .before .before .before .before .before .before .write-header .ensures) (c .before .before .before .write-spots .ensures) .0)))))
 
 write-groups-requires : tie.Need-write-groups-requires
 write-groups-requires c κs =
-    let r = c .before .before .before .before .before .before .before .before .before .before .before .before .before .before .before .before .before .before .pre .0 in
-    let p = c .before .before .before .before .before .before .before .before .before .before .before .before .before .before .before .before .before .before .pre .1 .0 in
-    (r .regions-most, (p .numbers-room, (r .rows, (r .handed, body-room _ _ _ _ _ _ _ _ _ _ _ _ r p _ (c .before .before .before .before .before .before .before .before .before .before .before .before .before .before .before .before .before .before .pre .1 .1) _ _ _ _ _ _ _ (c .before .before .before .before .before .before .before .before .before .before .before .write-header .ensures) (c .before .before .before .before .before .before .before .write-spots .ensures) (c .before .before .before .write-list .ensures) .0))))
+    let r = c .before .before .before .before .before .before .before .before .before .before .before .before .before .before .before .before .before .before .before .before .before .pre .0 in
+    let p = c .before .before .before .before .before .before .before .before .before .before .before .before .before .before .before .before .before .before .before .before .before .pre .1 .0 in
+    (r .regions-most, (p .numbers-room, (r .rows, (r .handed, body-room _ _ _ _ _ _ _ _ _ _ _ _ r p _ (c .before .before .before .before .before .before .before .before .before .before .before .before .before .before .before .before .before .before .before .before .before .pre .1 .1) _ _ _ _ _ _ _ (c .before .before .before .before .before .before .before .before .before .before .before .before .before .before .write-header .ensures) (c .before .before .before .before .before .before .before .write-spots .ensures) (c .before .before .before .write-list .ensures) .0))))
 
 same-length : tie.Need-same-length
 same-length c = search needs
 
 returns : tie.Need-returns
-returns c = store-put _ _ _ _ _ _ _ _ _ _ _ _ (c .before .before .before .before .before .before .before .before .before .before .before .before .before .before .before .before .before .before .before .before .before .pre .0) (c .before .before .before .before .before .before .before .before .before .before .before .before .before .before .before .before .before .before .before .before .before .pre .1 .0) _ (c .before .before .before .before .before .before .before .before .before .before .before .before .before .before .before .before .before .before .before .before .before .pre .1 .1) _ _ _ _ _ _ _ _ _ (c .before .before .before .before .before .before .before .before .before .before .before .before .before .before .write-header .ensures) (c .before .before .before .before .before .before .before .before .before .before .write-spots .ensures) (c .before .before .before .before .before .before .write-list .ensures) (c .before .before .write-groups .ensures)
+returns c = store-put _ _ _ _ _ _ _ _ _ _ _ _ (c .before .before .before .before .before .before .before .before .before .before .before .before .before .before .before .before .before .before .before .before .before .before .before .before .pre .0) (c .before .before .before .before .before .before .before .before .before .before .before .before .before .before .before .before .before .before .before .before .before .before .before .before .pre .1 .0) _ (c .before .before .before .before .before .before .before .before .before .before .before .before .before .before .before .before .before .before .before .before .before .before .before .before .pre .1 .1) _ _ _ _ _ _ _ _ _ (c .before .before .before .before .before .before .before .before .before .before .before .before .before .before .before .before .before .write-header .ensures) (c .before .before .before .before .before .before .before .before .before .before .write-spots .ensures) (c .before .before .before .before .before .before .write-list .ensures) (c .before .before .write-groups .ensures)
 
 pub write-store-spec : {M : Type 1} → statement M
 write-store-spec =
