@@ -54,6 +54,9 @@ logShort = 13
 abbrev pub outShort : ℕ
 outShort = 14
 
+abbrev pub noSet : ℕ
+noSet = 64
+
 -- ---- their tests
 
 -- Tests in their order, each with its number: the number of the first that fails, 0 where all hold.

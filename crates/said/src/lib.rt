@@ -34,4 +34,7 @@ impl Refusal {
     pub const LOG_SHORT: usize = 13;
 
     pub const OUT_SHORT: usize = 14;
+
+    // Of two sets of a job that are compared.
+    pub const NO_SET: usize = 64;
 }
