@@ -3,8 +3,8 @@ mod screening;
 
 use crate::screening::screen;
 use comparing::compare;
-use laws::Order;
 use laws::wide;
+use sets::Parting;
 use sorting::sort;
 ghost use mathlib.Core.Path.{_≡_};
 ghost use mathlib.Core.List.{List};
@@ -41,9 +41,9 @@ fn begins(work: &[u32], index: usize, at: usize, i: usize) -> bool
     let x = wide(work[at + (i - 1)]);
     let y = wide(work[at + i]);
     match compare(work, index, x, y) {
-        Order::Less => true,
-        Order::Equal => false,
-        Order::Greater => true,
+        Parting::Equal => false,
+        Parting::Smaller(_, _, _) => true,
+        Parting::Larger(_, _, _) => true,
     }
 }
 

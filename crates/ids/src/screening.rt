@@ -1,9 +1,9 @@
 // Before sorting: most sets that equal an earlier one are found at once, by a table of the set that was seen last at each hash. One that is missed
 // there is sorted like any other, so that nothing rests on the hash.
 use comparing::compare;
-use laws::Order;
 use laws::wide;
 use laws::zero_part;
+use sets::Parting;
 ghost use mathlib.Core.Path.{_≡_};
 ghost use mathlib.Core.Bool.{true};
 ghost use Prim.Native.Nat.{ℕ, _+_, _-_, _≤_, _<_};
@@ -40,9 +40,9 @@ fn known(work: &[u32], index: usize, x: usize, y: usize) -> bool
         return false;
     }
     match compare(work, index, y - 1, x) {
-        Order::Less => false,
-        Order::Equal => true,
-        Order::Greater => false,
+        Parting::Equal => true,
+        Parting::Smaller(_, _, _) => false,
+        Parting::Larger(_, _, _) => false,
     }
 }
 

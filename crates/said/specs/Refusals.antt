@@ -66,6 +66,9 @@ axisTooLate = 33
 abbrev pub regionUnfinished : ℕ
 regionUnfinished = 34
 
+abbrev pub noSet : ℕ
+noSet = 64
+
 -- ---- their tests
 
 -- Tests in their order, each with its number: the number of the first that fails, 0 where all hold.

@@ -43,4 +43,7 @@ impl Refusal {
     pub const AXIS_TOO_LATE: usize = 33;
 
     pub const REGION_UNFINISHED: usize = 34;
+
+    // Of two sets of a job that are compared.
+    pub const NO_SET: usize = 64;
 }

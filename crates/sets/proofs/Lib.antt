@@ -1,3 +1,4 @@
 pub mod SetLaws
+pub mod PartLaws
 pub mod IdLaws
 pub mod HeldLaws

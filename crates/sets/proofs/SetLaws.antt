@@ -1,4 +1,5 @@
--- The walk along two ascending sets compares them densely; and that order is total and transitive. Assumes nothing.
+-- The walk along two ascending sets finds the first region where they differ; and the order that this gives is total and
+-- transitive. Assumes nothing.
 use mathlib.Core.Path.{_≡_, refl, sym, ap, ap₂, _∙_}
 use mathlib.Core.Bool.{true, false}
 use mathlib.Core.List.{List, [], _∷_}
@@ -9,34 +10,36 @@ use lib.ListN.{getD}
 use borrow.Author.Tests.{lt-ltb, le-ltb, eq-eqb, ne-eqb}
 use Rattle.laws.specs.declared.Order.{Order}
 use Rattle.laws.specs.declared.Order.the-variants.{Less, Equal, Greater}
-use Rattle.laws.specs.Order.{thenBy, flipped, isMost}
-use Rattle.laws.proofs.OrderLaws.{compared-less, compared-more, compared-same}
+use Rattle.laws.specs.Order.{flipped, isMost}
 use Rattle.laws.proofs.Cases.{Tri, tri}
 use Rattle.laws.proofs.Cases.Tri.{below, same, above}
 use Rattle.laws.specs.Signed.{zeroWord}
 use Rattle.sets.specs.Set.{Set, wordOf, Ascending, Proper}
-use Rattle.sets.specs.Order.{Compared, byWords, orderNone, orderHead, order}
+use Rattle.sets.specs.declared.Parting.{Parting}
+use Rattle.sets.specs.declared.Parting.the-variants as parts
+use Rattle.sets.specs.Order.{Compared, DifferAt, PartsAt, byWords, partNone, partHead, parting, orderOf, order}
 use Rattle.sets.specs.Lent.{entries}
 use Rattle.sets.specs.Order.Compared.{less, equal, greater}
+use Rattle.sets.specs.Order.PartsAt.{alike, smaller, larger}
 
-pub by-less : (v w : ℕ) (o : Order) → v < w → byWords v w o ≡ Less
-unfolding byWords thenBy
-by-less v w o h = rw (compared-less v w h)
+pub by-less : (r v u : ℕ) (p : Parting) → v < u → byWords r v u p ≡ parts.Smaller r v u
+unfolding byWords
+by-less r v u p h = rw (lt-ltb v u h)
 
-pub by-more : (v w : ℕ) (o : Order) → w < v → byWords v w o ≡ Greater
-unfolding byWords thenBy
-by-more v w o h = rw (compared-more v w h)
+pub by-more : (r v u : ℕ) (p : Parting) → u < v → byWords r v u p ≡ parts.Larger r v u
+unfolding byWords
+by-more r v u p h = rw (le-ltb v u (omega arith), lt-ltb u v h)
 
-pub by-rest : (v w : ℕ) (o : Order) → v ≡ w → byWords v w o ≡ o
-unfolding byWords thenBy
-by-rest v w o h = rw (compared-same v w h)
+pub by-rest : (r v u : ℕ) (p : Parting) → v ≡ u → byWords r v u p ≡ p
+unfolding byWords
+by-rest r v u p h = rw (le-ltb v u (omega arith), le-ltb u v (omega arith))
 
--- Two functions that are `zeroWord` below q, have v and w at q, and from then on are f′ and g′.
-module _ {f g f′ g′ : ℕ → ℕ} {t v w : ℕ} (q : ℕ) (from : t ≤ q)
+-- Two functions that are `zeroWord` below q, have v and u at q, and from then on are f′ and g′.
+module _ {f g f′ g′ : ℕ → ℕ} {t v u : ℕ} (q : ℕ) (from : t ≤ q)
     (f-below : (k : ℕ) → k < q → f k ≡ zeroWord) (g-below : (k : ℕ) → k < q → g k ≡ zeroWord)
-    (f-at : f q ≡ v) (g-at : g q ≡ w)
+    (f-at : f q ≡ v) (g-at : g q ≡ u)
     (f-rest : (k : ℕ) → q < k → f k ≡ f′ k) (g-rest : (k : ℕ) → q < k → g k ≡ g′ k) where
-  agree : v ≡ w → (r : ℕ) → ((k : ℕ) → suc q ≤ k → k < r → f′ k ≡ g′ k) → (k : ℕ) → k < r → f k ≡ g k
+  agree : v ≡ u → (r : ℕ) → ((k : ℕ) → suc q ≤ k → k < r → f′ k ≡ g′ k) → (k : ℕ) → k < r → f k ≡ g k
   agree e r h k l = go (tri k q)
     where
       go : Tri k q → f k ≡ g k
@@ -44,18 +47,31 @@ module _ {f g f′ g′ : ℕ → ℕ} {t v w : ℕ} (q : ℕ) (from : t ≤ q)
       go (same p) = rw p (f-at ∙ e ∙ sym g-at)
       go (above p) = f-rest k p ∙ h k p l ∙ sym (g-rest k p)
 
-  join : {o : Order} → v ≡ w → Compared (suc q) f′ g′ o → Compared t f g o
-  join e (less r p h l) = less r (omega arith) (λ k _. agree e r h k) (rw (f-rest r p, g-rest r p) l)
-  join e (equal h) = equal (λ k _. agree e (suc k) (λ j a _. h j a) k (omega arith))
-  join e (greater r p h l) = greater r (omega arith) (λ k _. agree e r h k) (rw (f-rest r p, g-rest r p) l)
+  -- they differ at q
+  here : DifferAt t f g q v u
+  here = record { from = from; agree = λ k _ l. f-below k l ∙ sym (g-below k l); left = sym f-at; right = sym g-at }
 
-  step : (o : Order) → Compared (suc q) f′ g′ o → Compared t f g (byWords v w o)
-  step o c = go (tri v w)
+  -- they do not, and part later
+  later : {r x y : ℕ} → v ≡ u → DifferAt (suc q) f′ g′ r x y → DifferAt t f g r x y
+  later {r} {x} {y} e d = record {
+    from = omega (arith, d .from);
+    agree = λ k _. agree e r (d .agree) k;
+    left = d .left ∙ sym (f-rest r (d .from));
+    right = d .right ∙ sym (g-rest r (d .from));
+  }
+
+  join : {p : Parting} → v ≡ u → PartsAt (suc q) f′ g′ p → PartsAt t f g p
+  join e (alike h) = alike (λ k _. agree e (suc k) (λ j a _. h j a) k (omega arith))
+  join e (smaller r x y d l) = smaller r x y (later e d) l
+  join e (larger r x y d l) = larger r x y (later e d) l
+
+  step : (p : Parting) → PartsAt (suc q) f′ g′ p → PartsAt t f g (byWords q v u p)
+  step p c = go (tri v u)
     where
-      go : Tri v w → Compared t f g (byWords v w o)
-      go (below p) = rw (by-less v w o p) (less q from (λ k _ l. f-below k l ∙ sym (g-below k l)) (rw (f-at, g-at) p))
-      go (same p) = rw (by-rest v w o p) (join p c)
-      go (above p) = rw (by-more v w o p) (greater q from (λ k _ l. f-below k l ∙ sym (g-below k l)) (rw (f-at, g-at) p))
+      go : Tri v u → PartsAt t f g (byWords q v u p)
+      go (below l) = rw (by-less q v u p l) (smaller q v u here l)
+      go (same l) = rw (by-rest q v u p l) (join l c)
+      go (above l) = rw (by-more q v u p l) (larger q v u here l)
 
 pub word-head : (e : ℕ × ℕ) (l : Set) (k : ℕ) → e .0 ≡ k → wordOf (e ∷ l) k ≡ e .1
 unfolding wordOf
@@ -80,20 +96,20 @@ pub proper-more : (m n : ℕ) (l : Set) → m ≤ n → Proper m l → Proper n 
 proper-more m n [] h p = tt
 proper-more m n (e ∷ l) h p = ((p .0 .0, omega (arith, p .0 .1)), proper-more m n l h (p .1))
 
-none-right : (b : Set) (t : ℕ) → Ascending t b → Compared t (wordOf []) (wordOf b) (orderNone b)
-unfolding orderNone wordOf
-none-right [] t p = equal (λ k _. refl)
+none-right : (b : Set) (t : ℕ) → Ascending t b → PartsAt t (wordOf []) (wordOf b) (partNone b)
+unfolding partNone wordOf
+none-right [] t p = alike (λ k _. refl)
 none-right (d ∷ b) t p =
-    step {v = zeroWord} {w = d .1} (d .0) (p .0) (λ k h. refl) (λ k h. word-below (d ∷ b) (d .0) k (omega arith, p .1) h) refl (word-head d b (d .0) refl)
-    (λ k h. refl) (λ k h. word-tail d b k (omega arith)) (orderNone b) (none-right b (suc (d .0)) (p .1))
+    step {v = zeroWord} {u = d .1} (d .0) (p .0) (λ k h. refl) (λ k h. word-below (d ∷ b) (d .0) k (omega arith, p .1) h) refl (word-head d b (d .0) refl)
+    (λ k h. refl) (λ k h. word-tail d b k (omega arith)) (partNone b) (none-right b (suc (d .0)) (p .1))
 
 head-right : (e : ℕ × ℕ) (a : Set) → Ascending (suc (e .0)) a
-    → ((b : Set) (t : ℕ) → Ascending t a → Ascending t b → Compared t (wordOf a) (wordOf b) (order a b))
-    → (b : Set) (t : ℕ) → t ≤ e .0 → Ascending t b → Compared t (wordOf (e ∷ a)) (wordOf b) (orderHead e (order a) b)
-unfolding orderHead
+    → ((b : Set) (t : ℕ) → Ascending t a → Ascending t b → PartsAt t (wordOf a) (wordOf b) (parting a b))
+    → (b : Set) (t : ℕ) → t ≤ e .0 → Ascending t b → PartsAt t (wordOf (e ∷ a)) (wordOf b) (partHead e (parting a) b)
+unfolding partHead
 head-right e a asc ih [] t p _ =
-    step {v = e .1} {w = zeroWord} (e .0) p (λ k h. word-below (e ∷ a) (e .0) k (omega arith, asc) h) (λ k h. word-below [] (e .0) k tt h) (word-head e a (e .0) refl) (word-below [] (suc (e .0)) (e .0) tt (omega arith))
-    (λ k h. word-tail e a k (omega arith)) (λ k h. refl) (order a []) (ih [] (suc (e .0)) asc tt)
+    step {v = e .1} {u = zeroWord} (e .0) p (λ k h. word-below (e ∷ a) (e .0) k (omega arith, asc) h) (λ k h. word-below [] (e .0) k tt h) (word-head e a (e .0) refl) (word-below [] (suc (e .0)) (e .0) tt (omega arith))
+    (λ k h. word-tail e a k (omega arith)) (λ k h. refl) (parting a []) (ih [] (suc (e .0)) asc tt)
 head-right e a asc ih (d ∷ b) t p q = go (λ s l r. head-right e a asc ih b s l r) (tri (e .0) (d .0))
   where
     f-below : (k : ℕ) → k < e .0 → wordOf (e ∷ a) k ≡ zeroWord
@@ -102,43 +118,54 @@ head-right e a asc ih (d ∷ b) t p q = go (λ s l r. head-right e a asc ih b s 
     g-below : (k : ℕ) → k < d .0 → wordOf (d ∷ b) k ≡ zeroWord
     g-below k h = word-below (d ∷ b) (d .0) k (omega arith, q .1) h
 
-    go : ((s : ℕ) → s ≤ e .0 → Ascending s b → Compared s (wordOf (e ∷ a)) (wordOf b) (orderHead e (order a) b)) → Tri (e .0) (d .0) → Compared t (wordOf (e ∷ a)) (wordOf (d ∷ b)) (orderHead e (order a) (d ∷ b))
+    go : ((s : ℕ) → s ≤ e .0 → Ascending s b → PartsAt s (wordOf (e ∷ a)) (wordOf b) (partHead e (parting a) b)) → Tri (e .0) (d .0) → PartsAt t (wordOf (e ∷ a)) (wordOf (d ∷ b)) (partHead e (parting a) (d ∷ b))
     go more (below h) = rw (lt-ltb (e .0) (d .0) h)
-        (step {v = e .1} {w = zeroWord} (e .0) p f-below (λ k l. g-below k (omega arith)) (word-head e a (e .0) refl) (g-below (e .0) h)
-        (λ k l. word-tail e a k (omega arith)) (λ k l. refl) (order a (d ∷ b)) (ih (d ∷ b) (suc (e .0)) asc (h, q .1)))
+        (step {v = e .1} {u = zeroWord} (e .0) p f-below (λ k l. g-below k (omega arith)) (word-head e a (e .0) refl) (g-below (e .0) h)
+        (λ k l. word-tail e a k (omega arith)) (λ k l. refl) (parting a (d ∷ b)) (ih (d ∷ b) (suc (e .0)) asc (h, q .1)))
     go more (same h) = rw (le-ltb (e .0) (d .0) (omega arith), le-ltb (d .0) (e .0) (omega arith))
-        (step {v = e .1} {w = d .1} (e .0) p f-below (λ k l. g-below k (omega arith)) (word-head e a (e .0) refl) (word-head d b (e .0) (sym h))
-        (λ k l. word-tail e a k (omega arith)) (λ k l. word-tail d b k (omega arith)) (order a b) (ih b (suc (e .0)) asc (rw h (q .1))))
+        (step {v = e .1} {u = d .1} (e .0) p f-below (λ k l. g-below k (omega arith)) (word-head e a (e .0) refl) (word-head d b (e .0) (sym h))
+        (λ k l. word-tail e a k (omega arith)) (λ k l. word-tail d b k (omega arith)) (parting a b) (ih b (suc (e .0)) asc (rw h (q .1))))
     go more (above h) = rw (le-ltb (e .0) (d .0) (omega arith), lt-ltb (d .0) (e .0) h)
-        (step {v = zeroWord} {w = d .1} (d .0) (q .0) (λ k l. f-below k (omega arith)) g-below (f-below (d .0) h) (word-head d b (d .0) refl)
-        (λ k l. refl) (λ k l. word-tail d b k (omega arith)) (orderHead e (order a) b) (more (suc (d .0)) h (q .1)))
+        (step {v = zeroWord} {u = d .1} (d .0) (q .0) (λ k l. f-below k (omega arith)) g-below (f-below (d .0) h) (word-head d b (d .0) refl)
+        (λ k l. refl) (λ k l. word-tail d b k (omega arith)) (partHead e (parting a) b) (more (suc (d .0)) h (q .1)))
 
--- THE LAW: along two ascending sets the walk finds the first region where they differ, if there is one
+-- THE LAW: along two ascending sets the walk finds the first region where they differ, if there is one, and the words of both there
+pub parting-right : (a b : Set) (t : ℕ) → Ascending t a → Ascending t b → PartsAt t (wordOf a) (wordOf b) (parting a b)
+unfolding parting
+parting-right [] b t p q = none-right b t q
+parting-right (e ∷ a) b t p q = head-right e a (p .1) (λ c s. parting-right a c s) b t (p .0) q
+
+-- and so the order is right
+parts-compared : {t : ℕ} {f g : ℕ → ℕ} {p : Parting} → PartsAt t f g p → Compared t f g (orderOf p)
+unfolding orderOf
+parts-compared (alike h) = equal h
+parts-compared (smaller r v u d l) = less r (d .from) (d .agree) (rw (← d .left, ← d .right) l)
+parts-compared (larger r v u d l) = greater r (d .from) (d .agree) (rw (← d .left, ← d .right) l)
+
 pub order-right : (a b : Set) (t : ℕ) → Ascending t a → Ascending t b → Compared t (wordOf a) (wordOf b) (order a b)
 unfolding order
-order-right [] b t p q = none-right b t q
-order-right (e ∷ a) b t p q = head-right e a (p .1) (λ c s. order-right a c s) b t (p .0) q
+order-right a b t p q = parts-compared (parting-right a b t p q)
 
 -- Of three functions: if the first is at most the second, and that at most the third, then the first is at most the third.
 -- `Above` is the one answer that rules that out.
 pub data AtMost (f g : ℕ → ℕ) : Type 0 where
-  smaller : (r : ℕ) → ((k : ℕ) → k < r → f k ≡ g k) → f r < g r → AtMost f g
-  alike : ((k : ℕ) → f k ≡ g k) → AtMost f g
+  lower : (r : ℕ) → ((k : ℕ) → k < r → f k ≡ g k) → f r < g r → AtMost f g
+  level : ((k : ℕ) → f k ≡ g k) → AtMost f g
 
 at-most-trans : {f g h : ℕ → ℕ} → AtMost f g → AtMost g h → AtMost f h
-at-most-trans (alike p) (alike q) = alike (λ k. p k ∙ q k)
-at-most-trans (alike p) (smaller r q l) = smaller r (λ k i. p k ∙ q k i) (rw (p r) l)
-at-most-trans (smaller r p l) (alike q) = smaller r (λ k i. p k i ∙ q k) (rw (sym (q r)) l)
-at-most-trans {f} {g} {h} (smaller r p l) (smaller s q m) = go (tri r s)
+at-most-trans (level p) (level q) = level (λ k. p k ∙ q k)
+at-most-trans (level p) (lower r q l) = lower r (λ k i. p k ∙ q k i) (rw (p r) l)
+at-most-trans (lower r p l) (level q) = lower r (λ k i. p k i ∙ q k) (rw (sym (q r)) l)
+at-most-trans {f} {g} {h} (lower r p l) (lower s q m) = go (tri r s)
   where
     go : Tri r s → AtMost f h
-    go (below i) = smaller r (λ k j. p k j ∙ q k (omega arith)) (omega (arith, q r i))
-    go (same i) = smaller r (λ k j. p k j ∙ q k (omega arith)) (let m′ : g r < h r = rw i m in omega arith)
-    go (above i) = smaller s (λ k j. p k (omega arith) ∙ q k j) (omega (arith, p s i))
+    go (below i) = lower r (λ k j. p k j ∙ q k (omega arith)) (omega (arith, q r i))
+    go (same i) = lower r (λ k j. p k j ∙ q k (omega arith)) (let m′ : g r < h r = rw i m in omega arith)
+    go (above i) = lower s (λ k j. p k (omega arith) ∙ q k j) (omega (arith, p s i))
 
 at-most-not : {f g : ℕ → ℕ} → AtMost f g → Compared 0 f g Greater → ⊥
-at-most-not (alike p) (greater r _ q l) = omega (arith, p r)
-at-most-not {f} {g} (smaller s p m) (greater r _ q l) = go (tri s r)
+at-most-not (level p) (greater r _ q l) = omega (arith, p r)
+at-most-not {f} {g} (lower s p m) (greater r _ q l) = go (tri s r)
   where
     go : Tri s r → ⊥
     go (below i) = omega (arith, q s (omega arith) i)
@@ -147,8 +174,8 @@ at-most-not {f} {g} (smaller s p m) (greater r _ q l) = go (tri s r)
 
 at-most-of : {f g : ℕ → ℕ} (o : Order) → Compared 0 f g o → isMost o ≡ true → AtMost f g
 unfolding isMost
-at-most-of Less (less r _ p l) e = smaller r (λ k. p k (omega arith)) l
-at-most-of Equal (equal p) e = alike (λ k. p k (omega arith))
+at-most-of Less (less r _ p l) e = lower r (λ k. p k (omega arith)) l
+at-most-of Equal (equal p) e = level (λ k. p k (omega arith))
 at-most-of Greater (greater r _ p l) e = let z : _≡_ {A = ℕ} 0 1 = cc in absurd (omega arith)
 
 is-most-of : {f g : ℕ → ℕ} (o : Order) → Compared 0 f g o → AtMost f g → isMost o ≡ true
@@ -161,7 +188,7 @@ at-most-back : {f g : ℕ → ℕ} (o : Order) → Compared 0 f g o → isMost o
 unfolding isMost
 at-most-back Less (less r _ p l) e = let z : _≡_ {A = ℕ} 0 1 = cc in absurd (omega arith)
 at-most-back Equal (equal p) e = let z : _≡_ {A = ℕ} 0 1 = cc in absurd (omega arith)
-at-most-back Greater (greater r _ p l) e = smaller r (λ k h. sym (p k (omega arith) h)) l
+at-most-back Greater (greater r _ p l) e = lower r (λ k h. sym (p k (omega arith) h)) l
 
 -- the order on ascending sets is transitive and total
 pub order-trans : (a b c : Set) → Ascending 0 a → Ascending 0 b → Ascending 0 c
@@ -188,11 +215,11 @@ entries-none a w = refl
 pub compared-unique : {f g : ℕ → ℕ} (o q : Order) → Compared 0 f g o → Compared 0 f g q → o ≡ q
 compared-unique Less Less c d = refl
 compared-unique Less Equal (less r _ _ l) (equal e) = absurd (omega (arith, e r (omega arith)))
-compared-unique Less Greater (less r t p l) d = absurd (at-most-not (smaller r (λ k. p k (omega arith)) l) d)
+compared-unique Less Greater (less r t p l) d = absurd (at-most-not (lower r (λ k. p k (omega arith)) l) d)
 compared-unique Equal Less (equal e) (less r _ _ l) = absurd (omega (arith, e r (omega arith)))
 compared-unique Equal Equal c d = refl
 compared-unique Equal Greater (equal e) (greater r _ _ l) = absurd (omega (arith, e r (omega arith)))
-compared-unique Greater Less c (less r t p l) = absurd (at-most-not (smaller r (λ k. p k (omega arith)) l) c)
+compared-unique Greater Less c (less r t p l) = absurd (at-most-not (lower r (λ k. p k (omega arith)) l) c)
 compared-unique Greater Equal (greater r _ _ l) (equal e) = absurd (omega (arith, e r (omega arith)))
 compared-unique Greater Greater c d = refl
 

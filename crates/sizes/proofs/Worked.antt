@@ -86,7 +86,7 @@ both : map worked (p8 ∷ p9 ∷ []) ≡
       forecast = 34;
     }
     ∷ []
-unfolding weigh tabulate compared thenBy isMost fits isZero signed twos value insert sorted keep width.widthOf width.costOf rowCost columns overhead join shapes.widthsOrder shapes.order groupCost joined gain wordOf sameSet sets.byWords sets.orderNone sets.orderHead sets.order place withSet distinctFrom shapeOf putShape withShape groupsFrom groupsOf rule.keepOut rule.outs rule.pairWith rule.keepPair rule.pairs rule.better rule.lead rule.best rule.worth rule.ifWorth rule.choice rule.entry rule.merge rule.follow rule.step rule.run rule.number rule.start rule.merged rule.total modelOf modelled noLater dense sameShape numberOf isAmong belongs finalOf isAhead finalsOf shared
+unfolding weigh tabulate compared thenBy isMost fits isZero signed twos value insert sorted keep width.widthOf width.costOf rowCost columns overhead join shapes.widthsOrder shapes.order groupCost joined gain wordOf sameSet sets.byWords sets.partNone sets.partHead sets.parting sets.orderOf sets.order place withSet distinctFrom shapeOf putShape withShape groupsFrom groupsOf rule.keepOut rule.outs rule.pairWith rule.keepPair rule.pairs rule.better rule.lead rule.best rule.worth rule.ifWorth rule.choice rule.entry rule.merge rule.follow rule.step rule.run rule.number rule.start rule.merged rule.total modelOf modelled noLater dense sameShape numberOf isAmong belongs finalOf isAhead finalsOf shared
 both = refl
 
 pub p8-sizes : Sizes 2 p8

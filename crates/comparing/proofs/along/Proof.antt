@@ -4,7 +4,7 @@ use mathlib.Core.List.{List}
 use Prim.Native.Nat.{ℕ, _+_, _*_, _≤_}
 use native.Mathlib.Omega.{arith}
 use lib.ListN.{length}
-use Rattle.sets.specs.Order.{order}
+use Rattle.sets.specs.Order.{parting}
 use Rattle.sets.specs.Lent.{entries}
 use Rattle.comparing.proofs.WalkLaws.{walk-done, next-less, next-more, next-same}
 use Rattle.comparing.proofs.along.Statement.{statement}
@@ -17,7 +17,7 @@ use Rattle.comparing.proofs.next.Reads as next-reads
 record Walk (w : List ℕ) (a0 m0 b0 n0 a m b n : ℕ) : Type 0 where
   left : a + 2 * m ≤ length w
   right : b + 2 * n ≤ length w
-  same : order (entries a0 m0 w) (entries b0 n0 w) ≡ order (entries a m w) (entries b n w)
+  same : parting (entries a0 m0 w) (entries b0 n0 w) ≡ parting (entries a m w) (entries b n w)
 
 abbrev Inv-loop : tie.InvT-loop
 Inv-loop work a0 m0 b0 n0 a₀ m₀ b₀ n₀ a m b n = Walk work a0 m0 b0 n0 a m b n

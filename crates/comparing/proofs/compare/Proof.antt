@@ -1,9 +1,9 @@
 use native.Mathlib.Omega.{arith}
 use denote.Ref.{now}
 use mathlib.Core.Path.{_≡_}
-use Rattle.sets.specs.Order.{order}
+use Rattle.sets.specs.Order.{parting}
 use Rattle.sets.specs.Lent.{setOf}
-use Rattle.sets.proofs.SetLaws.{order-right}
+use Rattle.sets.proofs.SetLaws.{parting-right}
 use borrow.Author.Needs.{needs}
 use Rattle.comparing.proofs.compare.Statement.{statement}
 use Rattle.comparing.proofs.compare.Tie as tie
@@ -86,8 +86,8 @@ unfolding setOf
 returns c =
     let s = c .before .before .before .before .before .before .before .before .before .before in
     let a = s .args in
-    let e : c .along .result ≡ order (setOf (a .index) (a .x) (now (a .work))) (setOf (a .index) (a .y) (now (a .work))) = cc in
-    (e, rw e (order-right _ _ 0 (s .pre .0 .ascending) (s .pre .1 .ascending)))
+    let e : c .along .result ≡ parting (setOf (a .index) (a .x) (now (a .work))) (setOf (a .index) (a .y) (now (a .work))) = cc in
+    (e, rw e (parting-right _ _ 0 (s .pre .0 .ascending) (s .pre .1 .ascending)))
 
 pub compare-spec : {M : Type 1} → statement M
 compare-spec =

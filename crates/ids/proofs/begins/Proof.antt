@@ -1,4 +1,5 @@
-use mathlib.Core.Path.{_≡_, sym, _∙_}
+use mathlib.Core.Path.{_≡_, sym, ap, _∙_}
+use Rattle.sets.specs.Order.{orderOf, order}
 use Rattle.ids.specs.LentFirsts.{isSame}
 use Rattle.ids.proofs.FirstSteps.{begins-none, begins-some}
 use native.Mathlib.Omega.{arith}
@@ -53,16 +54,16 @@ enum-told-3 : tie.Need-enum-told-3
 enum-told-3 c = search needs
 
 returns-2 : tie.Need-returns-2
-unfolding isSame
-returns-2 c = begins-some _ _ _ _ _ _ _ (c .before .before .before .before .before .before .before .if1 .left) (c .before .before .before .before .before .wide .ensures) (c .before .before .before .wide2 .ensures) (sym (c .before .before .compare .ensures .0) ∙ c .enum-told .given .1)
+unfolding isSame order orderOf
+returns-2 c = begins-some _ _ _ _ _ _ _ (c .before .before .before .before .before .before .before .if1 .left) (c .before .before .before .before .before .wide .ensures) (c .before .before .before .wide2 .ensures) (ap orderOf (sym (c .before .before .compare .ensures .0) ∙ c .enum-told .given .1))
 
 returns-3 : tie.Need-returns-3
-unfolding isSame
-returns-3 c = begins-some _ _ _ _ _ _ _ (c .before .before .before .before .before .before .before .if1 .left) (c .before .before .before .before .before .wide .ensures) (c .before .before .before .wide2 .ensures) (sym (c .before .before .compare .ensures .0) ∙ c .enum-told2 .given .1)
+unfolding isSame order orderOf
+returns-3 c = begins-some _ _ _ _ _ _ _ (c .before .before .before .before .before .before .before .if1 .left) (c .before .before .before .before .before .wide .ensures) (c .before .before .before .wide2 .ensures) (ap orderOf (sym (c .before .before .compare .ensures .0) ∙ c .enum-told2 .given .1))
 
 returns-4 : tie.Need-returns-4
-unfolding isSame
-returns-4 c = begins-some _ _ _ _ _ _ _ (c .before .before .before .before .before .before .before .if1 .left) (c .before .before .before .before .before .wide .ensures) (c .before .before .before .wide2 .ensures) (sym (c .before .before .compare .ensures .0) ∙ c .enum-told3 .given .1)
+unfolding isSame order orderOf
+returns-4 c = begins-some _ _ _ _ _ _ _ (c .before .before .before .before .before .before .before .if1 .left) (c .before .before .before .before .before .wide .ensures) (c .before .before .before .wide2 .ensures) (ap orderOf (sym (c .before .before .compare .ensures .0) ∙ c .enum-told3 .given .1))
 
 pub begins-spec : {M : Type 1} → statement M
 begins-spec =

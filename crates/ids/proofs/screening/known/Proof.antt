@@ -1,5 +1,6 @@
 use native.Mathlib.Omega.{arith}
-use mathlib.Core.Path.{_≡_, sym, _∙_}
+use mathlib.Core.Path.{_≡_, sym, ap, _∙_}
+use Rattle.sets.specs.Order.{orderOf, order}
 use Prim.Native.Nat.{ℕ}
 use borrow.Author.Needs.{needs}
 use Rattle.ids.proofs.screening.known.Statement.{statement}
@@ -27,10 +28,11 @@ enum-told-3 : tie.Need-enum-told-3
 enum-told-3 c = search needs
 
 returns-2 : tie.Need-returns-2
-returns-2 c = λ e. let z : _≡_ {A = ℕ} 0 1 = cc in absurd (omega arith)
+unfolding order orderOf
+returns-2 c = λ e. (omega arith, ap orderOf (sym (c .before .before .compare .ensures .0) ∙ c .enum-told .given .1))
 
 returns-3 : tie.Need-returns-3
-returns-3 c = λ e. (omega arith, sym (c .before .before .compare .ensures .0) ∙ c .enum-told2 .given .1)
+returns-3 c = λ e. let z : _≡_ {A = ℕ} 0 1 = cc in absurd (omega arith)
 
 returns-4 : tie.Need-returns-4
 returns-4 c = λ e. let z : _≡_ {A = ℕ} 0 1 = cc in absurd (omega arith)

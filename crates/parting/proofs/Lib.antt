@@ -1,0 +1,5 @@
+pub mod NamedLaws
+pub mod UserLaws
+pub mod AnswerLaws
+pub mod Bytes
+pub mod Worked
