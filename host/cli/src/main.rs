@@ -6,14 +6,19 @@ mod build;
 mod f2dot14;
 mod failure;
 mod files;
+mod font;
+mod font_store;
+mod font_table;
 mod job;
 mod pack;
 mod read;
+mod sfnt;
 mod show;
 mod show_job;
 mod show_store;
 mod store;
 mod text;
+mod widths;
 
 use arguments::{Arguments, Command};
 use clap::Parser;
@@ -45,5 +50,7 @@ fn run(command: &Command) -> Result<(), Failure> {
         Command::Read(arguments) => read::run(arguments),
         Command::Show(arguments) => show::run(arguments),
         Command::Pack(arguments) => pack::run(arguments),
+        Command::Widths(arguments) => widths::run(arguments),
+        Command::Font(arguments) => font::run(arguments),
     }
 }

@@ -6,6 +6,7 @@
 //!   [`build_report`] with the bare report.
 //! * [`read`]: one value of a store, whatever its bytes are.
 //! * [`write_glyphs`], [`read_glyph`]: the map of glyphs to rows of a store.
+//! * [`write_widths`], [`read_width`]: the width table of a store and such a map.
 //!
 //! No input makes a call go wrong: it is done exactly, or refused by number and place
 //! with nothing written. What was lent may hold anything before.
@@ -24,10 +25,12 @@ mod glyphs;
 #[cfg_attr(not(target_arch = "x86_64"), path = "emulated.rs")]
 mod raw;
 mod refusals;
+mod widths;
 mod writer;
 
 pub use glyphs::{read_glyph, write_glyphs, write_glyphs_into, GLYPHS};
 pub use refusals::{Refused, Short};
+pub use widths::{read_width, words, write_widths, write_widths_into};
 pub use writer::{JobError, JobWriter, Tent};
 
 use refusals::{OUT_SHORT, RECORD, WORK_SHORT};
@@ -288,7 +291,11 @@ pub fn pack(axes: u32, mode: u32, job: &[u8]) -> Result<Packed, Refused> {
 /// # Ok::<(), Box<dyn std::error::Error>>(())
 /// ```
 pub fn read(store: &[u8], outer: u32, inner: u32, region: u32) -> Result<Reading, Refused> {
-    let word = raw::read(store, outer, inner, region);
+    reading(raw::read(store, outer, inner, region))
+}
+
+/// The reading that a word stands for, or the refusal in its high half.
+fn reading(word: u64) -> Result<Reading, Refused> {
     match (word >> 32) as u32 {
         0 => Ok(Reading::Written(word as u32 as i32)),
         1 => Ok(Reading::NoColumn),

@@ -21,7 +21,7 @@ pub(crate) const RECORD: usize = 12;
 #[derive(Clone, Copy, Debug, PartialEq, Eq)]
 pub struct Refused {
     /// The refusal number: 1 to 14 of a build, 20 to 22 of a reading, 40 to 42 of a
-    /// glyph map.
+    /// glyph map, 43 of a width table.
     pub number: u32,
     /// The record's index from 0 for 5, 6, 7 and 9; the record count for 8; else 0.
     pub place: u64,
@@ -160,13 +160,18 @@ impl Refused {
             ),
             41 => (
                 "GLYPH_MAP_SHORT",
-                "the output lent is too small for the glyph map",
-                "lend more bytes (6 and 4 for each glyph always do)",
+                "the output lent is too small for the glyph map or the width table",
+                "lend more bytes (6 and 4 for each glyph always do; 20 and the store more)",
             ),
             42 => (
                 "BAD_GLYPH_MAP",
                 "the bytes are no glyph map, or an empty one, or end too early",
                 "look whether the map was cut off or damaged",
+            ),
+            43 => (
+                "BAD_WIDTHS",
+                "the bytes are no width table, or its store or its map stands outside them",
+                "look whether the table was cut off or damaged",
             ),
             _ => ("UNKNOWN", "the refusal is not known", "report it"),
         }

@@ -7,7 +7,7 @@
  * lent, the report of 16 words last. The answer is a word, then of a build everything lent
  * but the job, with a word before the pairs that says whether they hold anything. Pairs
  * that hold nothing are zeros, and are not sent. Of a glyph map written the output follows
- * the word; its words were lent as work. */
+ * the word; its words were lent as work. So of a width table, whose store is the job. */
 typedef unsigned char u8;
 typedef unsigned int u32;
 typedef unsigned long u64;
@@ -21,6 +21,8 @@ u32 ivs_build(u32 axes, u32 mode, const u8 *job, u64 job_len, u32 *work, u64 wor
 u64 ivs_read(const u8 *store, u64 store_len, u32 outer, u32 inner, u32 region);
 u64 ivs_write_glyphs(const u32 *words, u64 words_len, u8 *out, u64 out_len);
 u64 ivs_read_glyph(const u8 *map, u64 map_len, u32 glyph);
+u64 ivs_write_widths(const u8 *store, u64 store_len, const u32 *words, u64 words_len, u8 *out, u64 out_len);
+u64 ivs_read_width(const u8 *table, u64 table_len, u32 glyph, u32 region);
 
 static long system_call(long number, long a, long b, long c, long d, long e, long f) {
     register long r10 __asm__("r10") = d;
@@ -146,11 +148,16 @@ __attribute__((force_align_arg_pointer)) void _start(void) {
             answer = ivs_write_glyphs((u32 *)at[WORK], count[WORK], at[OUT], count[OUT]);
         } else if (asked[0] == 4) {
             answer = ivs_read_glyph(at[JOB], count[JOB], (u32)asked[1]);
+        } else if (asked[0] == 20) {
+            answer = ivs_write_widths(at[JOB], count[JOB], (u32 *)at[WORK], count[WORK], at[OUT], count[OUT]);
+        } else if (asked[0] == 21) {
+            answer = ivs_read_width(at[JOB], count[JOB], (u32)asked[1], (u32)asked[2]);
         } else {
             answer = ivs_read(at[JOB], count[JOB], (u32)asked[1], (u32)asked[2], (u32)asked[3]);
         }
         give((u8 *)&answer, sizeof answer);
         if (asked[0] == 3) give(at[OUT], bytes[OUT]);
+        if (asked[0] == 20) give(at[OUT], bytes[OUT]);
         if (asked[0] != 1) continue;
         for (int i = WORK; i < PARTS; i++) {
             if (i == PAIRS) {

@@ -64,7 +64,7 @@ fn lent() {
 #[test]
 fn refusals() {
     let (readme, header) = (file("README.md"), file("include/ivs.h"));
-    for number in (1..=14).chain(20..=22).chain(40..=42) {
+    for number in (1..=14).chain(20..=22).chain(40..=43) {
         let name = ivs::Refused::bare(number).name();
         assert!(
             readme.contains(&format!("\n| {number} | {name} | ")),

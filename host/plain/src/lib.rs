@@ -16,6 +16,7 @@ mod records;
 mod refusals;
 mod sets;
 mod store;
+pub mod table;
 mod widths;
 
 pub use reading::{read, Reading};
