@@ -19,7 +19,8 @@ use Rattle.finishing.specs.Buffers.{Lengths, lengths}
 use Rattle.finishing.specs.Late.{lateNo, buffersLeft}
 use Rattle.packer.specs.Lending.{Lending, noPair}
 use Rattle.packer.specs.Build.{coordsInUse, packedOf, leftFrom, pairsLeft, outcomeOf, answerOf, after}
-use Rattle.ivs.proofs.OutcomeRows.{early, outcome-by, outcome-walked, walk-no, early-few, walked-only, job-only, late-many, late, Answers, answers}
+use Rattle.refusing.proofs.WalkEnds.{walk-no}
+use Rattle.ivs.proofs.OutcomeRows.{early, outcome-by, outcome-walked, early-few, walked-only, job-only, late-many, late, Answers, answers}
 use Rattle.ivs.proofs.OutcomeRows.Answers.{by-job, by-late, done}
 
 -- ---- output, ids, map and log

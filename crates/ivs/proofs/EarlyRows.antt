@@ -15,9 +15,9 @@ use Rattle.finishing.specs.declared.answers.Built.{Built}
 use Rattle.finishing.specs.declared.answers.Built.the-variants.{Refused}
 use Rattle.packer.specs.Lending.{Lending}
 use Rattle.packer.specs.Build.{answerOf}
-use Rattle.ivs.specs.Exactly.{Exactly}
+use Rattle.refusing.specs.Exactly.{Exactly}
 use Rattle.ivs.specs.Fits.{AxesFit, ModeFit, LengthFit, WorkFit}
-use Rattle.ivs.proofs.FailedLaws.{Tests, this, failed, other, later, passed, one-of-two, second-failed, none-failed, and-false, and-both, and-first, and-second}
+use Rattle.refusing.proofs.FailedLaws.{Tests, this, failed, other, later, passed, one-of-two, second-failed, none-failed, and-false, and-both, and-first, and-second}
 use Rattle.ivs.proofs.OutcomeRows.{early-only, outcome-early, answer-refused, job-only}
 
 -- ---- the tests

@@ -21,10 +21,10 @@ use Rattle.finishing.specs.Late.{lateNo, storeFor, reportOf}
 use Rattle.packer.specs.Lending.{Lending}
 use Rattle.packer.specs.Build.{coordsInUse, packedOf, outcomeOf, answerOf}
 use Rattle.packer.proofs.PastLaws.{ids-long}
-use Rattle.ivs.specs.Exactly.{Exactly}
-use Rattle.ivs.specs.Counts.{endRecords}
+use Rattle.refusing.specs.Exactly.{Exactly}
+use Rattle.refusing.specs.Counts.{endRecords}
 use Rattle.ivs.specs.Rooms.{Taken, shapeCount, distinctIds, storeBytes, ShapesFit, IdsFit, MapFit, LogFit, OutFit}
-use Rattle.ivs.proofs.FailedLaws.{Tests, this, failed, other, later, passed, none-failed}
+use Rattle.refusing.proofs.FailedLaws.{Tests, this, failed, other, later, passed, none-failed}
 use Rattle.ivs.proofs.OutcomeRows.{late, answer-late, answer-done, late-only, Answers, answers}
 use Rattle.ivs.proofs.OutcomeRows.Answers.{by-job, by-late, done}
 

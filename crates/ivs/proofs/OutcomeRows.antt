@@ -2,25 +2,20 @@
 use mathlib.Core.Path.{_≡_, refl, sym, ap, _∙_}
 use mathlib.Core.List.{List, [], _∷_}
 use mathlib.Core.Logic.{_⊎_, inl, inr, ⊎-elim}
-use Prim.Native.Nat.{ℕ, zero, suc, _-_, _/_, _%_, _≤_, _<_}
+use Prim.Native.Nat.{ℕ, zero, suc, _/_, _≤_, _<_}
 use native.Mathlib.Omega.{arith}
 use lib.ListN.{length}
-use borrow.Author.Tests.{eq-eqb, ne-eqb}
+use borrow.Author.Tests.{ne-eqb}
 use Rattle.laws.proofs.Cases.{same-or-not}
-use Rattle.said.specs.Records.{recordAt}
 use Rattle.said.specs.Refusals.{earlyNo}
-use Rattle.said.specs.Job.{Said, State, inAxes, inSets, Outcome, refused, fine, ended, endedSets, recordsFrom, outcome, outcomeFrom}
+use Rattle.said.specs.Job.{Said, inAxes, Outcome, refused, fine, recordsFrom, outcome, outcomeFrom}
 use Rattle.finishing.specs.declared.answers.Built.the-variants.{Refused, Done}
 use Rattle.finishing.specs.Buffers.{Lengths, lengths}
 use Rattle.finishing.specs.Late.{lateNo, lateAnswer, reportOf}
 use Rattle.packer.specs.Lending.{Lending}
 use Rattle.packer.specs.Build.{coordsInUse, packedOf, answerFrom, outcomeOf, answerOf}
-use Rattle.ivs.specs.Exactly.{Exactly}
-use Rattle.ivs.proofs.Passing.{StopsAt, EndsAs}
-use Rattle.ivs.proofs.FailedLaws.{among}
-use Rattle.ivs.proofs.StepLaws.{stop-no}
-use Rattle.ivs.proofs.WalkRows.{Way, way, stops-given}
-use Rattle.ivs.proofs.WalkRows.Way.{stopped, came}
+use Rattle.refusing.proofs.FailedLaws.{among}
+use Rattle.refusing.proofs.WalkEnds.{walk-no}
 
 -- ---- the numbers of each part
 
@@ -40,58 +35,6 @@ pub late-many : (axes : ℕ) (s : Said) (mode : ℕ) (l : Lengths)
 unfolding lateNo
 late-many axes s mode l =
     among 10 14 _ ((omega arith, omega arith), ((omega arith, omega arith), ((omega arith, omega arith), ((omega arith, omega arith), ((omega arith, omega arith), tt)))))
-
-pub ended-no : (axes : ℕ) (job : List ℕ) (k : ℕ) (s : State) (n i : ℕ) → ended axes job k s ≡ refused n i → (n ≡ 8) × (i ≡ k)
-unfolding ended
-ended-no axes job k inAxes n i e = ⊎-elim whole part (same-or-not (k % axes) 0)
-  where
-    whole : k % axes ≡ 0 → (n ≡ 8) × (i ≡ k)
-    whole h = let f = rw (eq-eqb (k % axes) 0 h) at e in let z : _≡_ {A = ℕ} 0 1 = cc in absurd (omega arith)
-
-    part : (k % axes ≡ 0 → ⊥) → (n ≡ 8) × (i ≡ k)
-    part h = let f = rw (ne-eqb (k % axes) 0 h) at e in let a : n ≡ 8 = cc in let b : i ≡ k = cc in (a, b)
-ended-no axes job k (inSets s) n i e = go (s .named) e
-  where
-    go : (l : List ℕ) → endedSets k s l ≡ refused n i → (n ≡ 8) × (i ≡ k)
-    go [] f = unfold endedSets in (let z : _≡_ {A = ℕ} 0 1 = cc in absurd (omega arith))
-    go (q ∷ l) f = unfold endedSets in (let a : n ≡ 8 = cc in let b : i ≡ k = cc in (a, b))
-
--- ---- the recordsFrom
-
-module _ (axes mode : ℕ) (job : List ℕ) (records : ℕ) where
-  pub stops-only : (n i : ℕ) → (n ≡ 8 → ⊥) → recordsFrom axes mode job job records 0 inAxes ≡ refused n i → StopsAt axes mode job records n i
-  stops-only n i d e = go (way axes mode job records)
-    where
-      go : Way axes mode job records (recordsFrom axes mode job job records 0 inAxes) → StopsAt axes mode job records n i
-      go (stopped m j f a) = let x : m ≡ n = cc in let y : j ≡ i = cc in rw (← x, ← y) a
-      go (came a) = absurd (d (ended-no axes job records (a .state) n i (a .ends ∙ e) .0))
-
-  -- T2: the first record that stops the recordsFrom decides
-  pub earliest : (n i : ℕ) → i < records → Exactly (recordsFrom axes mode job job records 0 inAxes ≡ refused n i) (StopsAt axes mode job records n i)
-  earliest n i h = record { given = λ a. stops-given axes mode job records n i a; only = λ e. go e (way axes mode job records) }
-    where
-      go : recordsFrom axes mode job job records 0 inAxes ≡ refused n i → Way axes mode job records (recordsFrom axes mode job job records 0 inAxes) → StopsAt axes mode job records n i
-      go e (stopped m j f a) = let x : m ≡ n = cc in let y : j ≡ i = cc in rw (← x, ← y) a
-      go e (came a) = let k = ended-no axes job records (a .state) n i (a .ends ∙ e) .1 in absurd (omega arith)
-
-  pub ends-only : (o : Outcome) → ((n i : ℕ) → o ≡ refused n i → n ≡ 8) → recordsFrom axes mode job job records 0 inAxes ≡ o → EndsAs axes mode job records o
-  ends-only o d e = go (way axes mode job records)
-    where
-      go : Way axes mode job records (recordsFrom axes mode job job records 0 inAxes) → EndsAs axes mode job records o
-      go (stopped m j f a) = absurd (stop-no axes mode job (recordAt job j) j (a .state) m (a .stops) .not-eight (d m j (sym e ∙ f)))
-      go (came a) = record { state = a .state; all-pass = a .all-pass; ends = a .ends ∙ e }
-
-  pub walk-no : (n i : ℕ) → recordsFrom axes mode job job records 0 inAxes ≡ refused n i → (5 ≤ n) × (n ≤ 9)
-  walk-no n i e = ⊎-elim eight record-no (same-or-not n 8)
-    where
-      eight : n ≡ 8 → (5 ≤ n) × (n ≤ 9)
-      eight h = (omega arith, omega arith)
-
-      record-no : (n ≡ 8 → ⊥) → (5 ≤ n) × (n ≤ 9)
-      record-no d =
-          let a = stops-only n i d e in
-          let b = stop-no axes mode job (recordAt job i) i (a .state) n (a .stops) in
-          (b .low, b .high)
 
 -- ---- the outcome
 

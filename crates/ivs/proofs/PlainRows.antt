@@ -19,12 +19,12 @@ use Rattle.packer.specs.Lending.{Lending}
 use Rattle.packer.specs.Build.{answerOf}
 use Rattle.packer.proofs.Accepted.{accepted}
 use Rattle.packer.proofs.PlainBack.{plain-count, plain-id, plain-map, plain-table}
-use Rattle.ivs.proofs.Passing.{Passed, saidAt}
+use Rattle.refusing.proofs.Passing.{Passed, saidAt}
 use Rattle.ivs.specs.Plain.{Plain}
-use Rattle.ivs.proofs.FailedLaws.{other, later}
-use Rattle.ivs.proofs.StepLaws.{Looks, looks}
-use Rattle.ivs.proofs.StepLaws.Looks.{axis, late, cut, value, set-end, unknown}
-use Rattle.ivs.proofs.StateLaws.{end-on, Means, means}
+use Rattle.refusing.proofs.FailedLaws.{other, later}
+use Rattle.refusing.proofs.StepLaws.{Looks, looks}
+use Rattle.refusing.proofs.StepLaws.Looks.{axis, late, cut, value, set-end, unknown}
+use Rattle.refusing.proofs.StateLaws.{end-on, Means, means}
 use Rattle.ivs.proofs.EndRow.{taken-passes}
 
 -- an end record that passes is not the 65,536th

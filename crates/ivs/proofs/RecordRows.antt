@@ -8,20 +8,20 @@ use Rattle.said.specs.Records.{recordAt, recordCount}
 use Rattle.finishing.specs.declared.answers.Built.the-variants.{Refused}
 use Rattle.packer.specs.Lending.{Lending}
 use Rattle.packer.specs.Build.{answerOf}
-use Rattle.ivs.specs.Exactly.{Exactly}
-use Rattle.ivs.specs.Counts.{axisRecords, knownRegions, InRegion, BadRecord, ValueHere, UnknownRegion, RegionTwice, SetsFull}
-use Rattle.ivs.specs.Counts.BadRecord.{unknown-kind, axis-zero, value-zero, end-zero, axis-order, axis-late, in-region}
+use Rattle.refusing.specs.Exactly.{Exactly}
+use Rattle.refusing.specs.Counts.{BadRecord, UnknownRegion, RegionTwice, SetsFull}
 use Rattle.ivs.specs.Fits.{Fits}
-use Rattle.ivs.specs.Fine.{Fine}
+use Rattle.refusing.specs.Fine.{Fine}
 use Rattle.ivs.specs.Rows.{EarliestBad}
-use Rattle.ivs.proofs.Passing.{Passed, StopsAt}
-use Rattle.ivs.proofs.StepLaws.{stop-no}
-use Rattle.ivs.proofs.WalkRows.{stops-given}
-use Rattle.ivs.proofs.OutcomeRows.{stops-only, outcome-walked, walked-only, answer-refused, job-only}
+use Rattle.refusing.proofs.Passing.{Passed, StopsAt}
+use Rattle.refusing.proofs.StepLaws.{stop-no}
+use Rattle.refusing.proofs.WalkRows.{stops-given}
+use Rattle.refusing.proofs.WalkEnds.{stops-only}
+use Rattle.ivs.proofs.OutcomeRows.{outcome-walked, walked-only, answer-refused, job-only}
 use Rattle.ivs.proofs.EarlyRows.{early-none}
-use Rattle.ivs.proofs.StateLaws.{means}
-use Rattle.ivs.proofs.RecordStops.{stops-five, stops-six, stops-seven, stops-nine}
-use Rattle.ivs.proofs.FineLaws.{on-fine, stop-not-fine, passed-fine, fine-passed}
+use Rattle.refusing.proofs.StateLaws.{means}
+use Rattle.refusing.proofs.RecordStops.{stops-five, stops-six, stops-seven, stops-nine}
+use Rattle.refusing.proofs.FineLaws.{on-fine, stop-not-fine, passed-fine, fine-passed}
 
 -- ---- the rows
 

@@ -15,10 +15,10 @@ use Rattle.finishing.specs.declared.answers.Built.the-variants.{Refused, Done}
 use Rattle.finishing.specs.Late.{reportOf}
 use Rattle.packer.specs.Lending.{Lending, Left, noPair}
 use Rattle.packer.specs.Build.{coordsInUse, packedOf, outcomeOf, answerOf, after, Obeys}
-use Rattle.ivs.specs.Exactly.{Exactly}
+use Rattle.refusing.specs.Exactly.{Exactly}
 use Rattle.ivs.specs.Fits.{AxesFit, ModeFit, LengthFit}
-use Rattle.ivs.specs.Counts.{endRecords, BadRecord, UnknownRegion, RegionTwice, SetsFull, Unfinished}
-use Rattle.ivs.specs.Fine.{Fine}
+use Rattle.refusing.specs.Counts.{endRecords, BadRecord, UnknownRegion, RegionTwice, SetsFull, Unfinished}
+use Rattle.refusing.specs.Fine.{Fine}
 use Rattle.ivs.specs.Rows.{EarliestBad, AllPass}
 use Rattle.ivs.specs.Rooms.{Taken, shapeCount, distinctIds, storeBytes, ShapesFit, IdsFit, MapFit, LogFit, OutFit}
 use Rattle.ivs.specs.Past.{PastKept}

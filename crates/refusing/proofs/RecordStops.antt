@@ -11,16 +11,16 @@ use Rattle.said.specs.Records.{kind, regionOf, valueZeros, recordAt}
 use Rattle.said.specs.Refusals.{axisNo}
 use Rattle.said.specs.Sets.{Region, firstLike}
 use Rattle.said.specs.Job.{Said, State, inAxes, stop, valueStep, endStep, step}
-use Rattle.ivs.specs.Exactly.{Exactly}
-use Rattle.ivs.proofs.Passing.{Passed, saidAt, RegionWhole}
-use Rattle.ivs.specs.Counts.{axisRecords, knownRegions, InRegion, BadRecord, ValueHere, UnknownRegion, RegionTwice, SetsFull}
-use Rattle.ivs.specs.Counts.BadRecord.{unknown-kind, axis-zero, value-zero, end-zero, axis-order, axis-late, in-region}
-use Rattle.ivs.proofs.StepLaws.{unless-no, unless-stops, Looks, looks, axis-no, valueTold, value-told, value-stops, endTold, end-told, end-stops}
-use Rattle.ivs.proofs.StepLaws.Looks.{axis, late, cut, value, set-end, unknown}
-use Rattle.ivs.proofs.StateLaws.{NamedAt, Means, whole-count, count-whole}
-use Rattle.ivs.proofs.KnownLaws.{named-before}
-use Rattle.ivs.proofs.ZeroLaws.{value-not, not-value, value-all, all-value, end-not, not-end, end-all, all-end}
-use Rattle.ivs.proofs.RecordTests.{axis-bad, bad-axis, axis-why, why-order, why-zero, q, value-five, value-six, value-seven, value-nine, end-five, end-nine, end-other}
+use Rattle.refusing.specs.Exactly.{Exactly}
+use Rattle.refusing.proofs.Passing.{Passed, saidAt, RegionWhole}
+use Rattle.refusing.specs.Counts.{axisRecords, knownRegions, InRegion, BadRecord, ValueHere, UnknownRegion, RegionTwice, SetsFull}
+use Rattle.refusing.specs.Counts.BadRecord.{unknown-kind, axis-zero, value-zero, end-zero, axis-order, axis-late, in-region}
+use Rattle.refusing.proofs.StepLaws.{unless-no, unless-stops, Looks, looks, axis-no, valueTold, value-told, value-stops, endTold, end-told, end-stops}
+use Rattle.refusing.proofs.StepLaws.Looks.{axis, late, cut, value, set-end, unknown}
+use Rattle.refusing.proofs.StateLaws.{NamedAt, Means, whole-count, count-whole}
+use Rattle.refusing.proofs.KnownLaws.{named-before}
+use Rattle.refusing.proofs.ZeroLaws.{value-not, not-value, value-all, all-value, end-not, not-end, end-all, all-end}
+use Rattle.refusing.proofs.RecordTests.{axis-bad, bad-axis, axis-why, why-order, why-zero, q, value-five, value-six, value-seven, value-nine, end-five, end-nine, end-other}
 
 -- ---- record i, in the state before it
 

@@ -13,8 +13,8 @@ use Rattle.said.specs.Records.{kind, regionOf}
 use Rattle.said.specs.Refusals.{firstFailed, axisNo, valueNo, endNo}
 use Rattle.said.specs.Sets.{firstLike, has}
 use Rattle.said.specs.Job.{Said, State, inAxes, inSets, Step, stop, on, unless, valueStep, endStep, setStep, step}
-use Rattle.ivs.proofs.Passing.{saidAt, RegionWhole}
-use Rattle.ivs.proofs.FailedLaws.{among, later, none-failed}
+use Rattle.refusing.proofs.Passing.{saidAt, RegionWhole}
+use Rattle.refusing.proofs.FailedLaws.{among, later, none-failed}
 
 pub unless-no : (k : ℕ) (s : State) (n : ℕ) → unless k s ≡ stop n → (k ≡ n) × (0 < n)
 unfolding unless

@@ -13,12 +13,12 @@ use Rattle.said.specs.Records.{kind, regionOf, axisOf, axisZeros, valueZeros, e
 use Rattle.said.specs.Refusals.{firstFailed, axisNo, valueNo, endNo}
 use Rattle.said.specs.Sets.{firstLike, has}
 use Rattle.said.specs.Job.{Said}
-use Rattle.ivs.specs.Exactly.{Exactly}
-use Rattle.ivs.specs.Counts.{NotZero, BadRecord}
-use Rattle.ivs.specs.Counts.BadRecord.{axis-zero, axis-order}
-use Rattle.ivs.proofs.FailedLaws.{Tests, this, failed, other, later, passed, none-failed, and-false, and-both, and-first, and-second}
-use Rattle.ivs.proofs.StepLaws.{valueTold, endTold}
-use Rattle.ivs.proofs.ZeroLaws.{axis-not, not-axis}
+use Rattle.refusing.specs.Exactly.{Exactly}
+use Rattle.refusing.specs.Counts.{NotZero, BadRecord}
+use Rattle.refusing.specs.Counts.BadRecord.{axis-zero, axis-order}
+use Rattle.refusing.proofs.FailedLaws.{Tests, this, failed, other, later, passed, none-failed, and-false, and-both, and-first, and-second}
+use Rattle.refusing.proofs.StepLaws.{valueTold, endTold}
+use Rattle.refusing.proofs.ZeroLaws.{axis-not, not-axis}
 
 -- ---- one axis record
 

@@ -13,12 +13,12 @@ use Rattle.said.proofs.MeaningLaws.{first-equal, equal-first}
 use Rattle.said.proofs.SaidLaws.{value-known}
 use Rattle.told.specs.Told.{countKind}
 use Rattle.told.proofs.WordLaws.{count-here, count-past, count-most}
-use Rattle.ivs.specs.Exactly.{Exactly}
-use Rattle.ivs.specs.Counts.{knownRegions, NamedBefore, axisRecords}
-use Rattle.ivs.proofs.Passing.{Passed, saidAt}
-use Rattle.ivs.proofs.StepLaws.{Looks, looks}
-use Rattle.ivs.proofs.StepLaws.Looks.{axis, late, cut, value, set-end, unknown}
-use Rattle.ivs.proofs.StateLaws.{value-on, NamedAt, Means, means}
+use Rattle.refusing.specs.Exactly.{Exactly}
+use Rattle.refusing.specs.Counts.{knownRegions, NamedBefore, axisRecords}
+use Rattle.refusing.proofs.Passing.{Passed, saidAt}
+use Rattle.refusing.proofs.StepLaws.{Looks, looks}
+use Rattle.refusing.proofs.StepLaws.Looks.{axis, late, cut, value, set-end, unknown}
+use Rattle.refusing.proofs.StateLaws.{value-on, NamedAt, Means, means}
 
 -- one record of another kind, and not all are axis records
 count-less : (job : List ℕ) (i p : ℕ) → p < i → (kind (recordAt job p) ≡ 1 → ⊥) → axisRecords job i < i

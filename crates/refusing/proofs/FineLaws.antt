@@ -7,12 +7,12 @@ use native.Mathlib.Omega.{arith}
 use Rattle.said.specs.Records.{recordAt}
 use Rattle.laws.proofs.Cases.{lt-or-ge, same-or-not}
 use Rattle.said.specs.Job.{State, inAxes, Step, stop, on, step}
-use Rattle.ivs.specs.Exactly.{Exactly}
-use Rattle.ivs.specs.Fine.{Fine, AllFine}
-use Rattle.ivs.proofs.Passing.{Passed}
-use Rattle.ivs.proofs.StepLaws.{stop-no}
-use Rattle.ivs.proofs.StateLaws.{Means, means}
-use Rattle.ivs.proofs.RecordStops.{stops-five, stops-six, stops-seven, stops-nine}
+use Rattle.refusing.specs.Exactly.{Exactly}
+use Rattle.refusing.specs.Fine.{Fine, AllFine}
+use Rattle.refusing.proofs.Passing.{Passed}
+use Rattle.refusing.proofs.StepLaws.{stop-no}
+use Rattle.refusing.proofs.StateLaws.{Means, means}
+use Rattle.refusing.proofs.RecordStops.{stops-five, stops-six, stops-seven, stops-nine}
 
 module _ (axes mode : ℕ) (job : List ℕ) where
   -- record i, after those before it passed

@@ -12,8 +12,8 @@ use Rattle.laws.specs.Bounded.{allBelow}
 use Rattle.laws.proofs.BoundedLaws.{all-at, all-intro, all-false}
 use Rattle.laws.proofs.Cases.{and-true}
 use Rattle.said.specs.Records.{zeros, axisZeros, valueZeros, endZeros}
-use Rattle.ivs.specs.Counts.{Zeros, NotZero}
-use Rattle.ivs.proofs.FailedLaws.{and-false, and-both, and-first, and-second}
+use Rattle.refusing.specs.Counts.{Zeros, NotZero}
+use Rattle.refusing.proofs.FailedLaws.{and-false, and-both, and-first, and-second}
 
 found : (n : ℕ) (f : ℕ → Bool) → allBelow n f ≡ false → (k : ℕ) × (k < n) × (f k ≡ false)
 unfolding allBelow

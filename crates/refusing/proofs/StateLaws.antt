@@ -16,11 +16,11 @@ use Rattle.said.specs.Job.{Said, State, inAxes, inSets, stop, on, unless, after
 use Rattle.said.proofs.SaidLaws.{value-known}
 use Rattle.told.proofs.WordLaws.{count-here, count-past, count-most}
 use Rattle.told.specs.Told.{countKind, endsBefore}
-use Rattle.ivs.specs.Exactly.{Exactly}
-use Rattle.ivs.proofs.Passing.{Passed, saidAt, RegionWhole}
-use Rattle.ivs.specs.Counts.{axisRecords, knownRegions}
-use Rattle.ivs.proofs.StepLaws.{Looks, looks, valueTold, endTold}
-use Rattle.ivs.proofs.StepLaws.Looks.{axis, late, cut, value, set-end, unknown}
+use Rattle.refusing.specs.Exactly.{Exactly}
+use Rattle.refusing.proofs.Passing.{Passed, saidAt, RegionWhole}
+use Rattle.refusing.specs.Counts.{axisRecords, knownRegions}
+use Rattle.refusing.proofs.StepLaws.{Looks, looks, valueTold, endTold}
+use Rattle.refusing.proofs.StepLaws.Looks.{axis, late, cut, value, set-end, unknown}
 
 -- ---- steps that go on
 

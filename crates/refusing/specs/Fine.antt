@@ -2,7 +2,7 @@
 use mathlib.Core.List.{List}
 use Prim.Native.Nat.{ℕ, _<_}
 use Rattle.said.specs.Records.{recordAt}
-use Rattle.ivs.specs.Counts.{BadRecord, UnknownRegion, RegionTwice, SetsFull}
+use Rattle.refusing.specs.Counts.{BadRecord, UnknownRegion, RegionTwice, SetsFull}
 
 pub record Fine (axes mode : ℕ) (job : List ℕ) (i : ℕ) : Type 0 where
   pub not-bad : BadRecord axes job i (recordAt job i) → ⊥

@@ -1,0 +1,11 @@
+pub mod FailedLaws
+pub mod Passing
+pub mod StepLaws
+pub mod WalkRows
+pub mod StateLaws
+pub mod ZeroLaws
+pub mod KnownLaws
+pub mod RecordTests
+pub mod RecordStops
+pub mod FineLaws
+pub mod WalkEnds
