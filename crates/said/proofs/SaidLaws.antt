@@ -16,12 +16,12 @@ use Rattle.laws.proofs.Cases.Which.{holds, fails}
 use Rattle.laws.proofs.EveryLaws.{all-append, two-end}
 use Rattle.laws.proofs.Products.{product, row-fits}
 use Rattle.laws.proofs.Pigeon.{few-below}
-use Rattle.said.specs.Records.{regionOf, valueZeros, valueWord, recordAt, recordBytes, afterRecord, kind, axisKind, valueKind, endKind}
-use Rattle.said.specs.Refusals.{axisNo, valueNo, badRecord, unfinished, endNo}
+use Rattle.said.specs.Records.{regionOf, valueWord, recordAt, recordBytes, afterRecord, kind, axisKind, valueKind, endKind}
+use Rattle.said.specs.Refusals.{formNo, valueNo}
 use Rattle.limits.specs.Limits.{maxRegions}
 use Rattle.said.specs.Sets.{regionList, firstLike, has, withUse}
 use Rattle.said.specs.Job.{Said, inAxes, afterValue, afterEnd, regionsOnly, fine, recordsFrom}
-use Rattle.said.proofs.RecordLaws.{axis-region, value-bad, value-unknown}
+use Rattle.said.proofs.RecordLaws.{Formed, form-passed, value-unknown}
 use Rattle.said.proofs.RegionLaws.{regions-length}
 use Rattle.said.proofs.IndexLaws.{with-known, with-new}
 use Rattle.said.proofs.RegionLaws.{like-below}
@@ -74,21 +74,11 @@ module _ (l : List ℕ) (q : ℕ) where
 
 -- ---- tests that are passed
 
-axis-is : (axes : ℕ) (r : List ℕ) (i : ℕ) → axisNo axes r i ≡ 0 → regionOf r ≡ i / axes
-axis-is axes r i z = ⊎-elim
-    (λ (e : regionOf r ≡ i / axes). e)
-    (λ (d : regionOf r ≢ i / axes). absurd (let b = axis-region axes r i d in omega arith))
-    (same-or-not (regionOf r) (i / axes))
-
 pub value-known : (r : List ℕ) (regions : ℕ) (named : Bool) → valueNo r regions named ≡ 0 → regionOf r < regions
-value-known r regions named z = go (which (valueZeros r))
-  where
-    go : Which (valueZeros r) → regionOf r < regions
-    go (fails e) = absurd (let b = value-bad r regions named e in omega arith)
-    go (holds e) = ⊎-elim
-        (λ (h : regionOf r < regions). h)
-        (λ (h : regions ≤ regionOf r). absurd (let b = value-unknown r regions named e h in omega arith))
-        (lt-or-ge (regionOf r) regions)
+value-known r regions named z = ⊎-elim
+    (λ (h : regionOf r < regions). h)
+    (λ (h : regions ≤ regionOf r). absurd (let b = value-unknown r regions named h in omega arith))
+    (lt-or-ge (regionOf r) regions)
 
 module _ (axes : ℕ) (some : 0 < axes) (job : List ℕ) where
   -- no set yet
@@ -145,9 +135,9 @@ module _ (axes : ℕ) (some : 0 < axes) (job : List ℕ) where
       quiet = λ e _. absurd (omega (arith, length-append (s .sets) (s .begun ∷ [])));
     }
 
-  axis-more : (r : List ℕ) (i : ℕ) → getD r 1 0 < 256 → axisNo axes r i ≡ 0 → suc i ≤ maxRegions * axes
-  axis-more r i b z =
-      let e = axis-is axes r i z in
+  axis-more : (r : List ℕ) (i : ℕ) → getD r 1 0 < 256 → kind r ≡ axisKind → formNo axes i false r ≡ 0 → suc i ≤ maxRegions * axes
+  axis-more r i b k z =
+      let e = form-passed axes i false r z .region-next (eq-eqb (kind r) axisKind k) in
       let l = lt-div-mul-add {a = i} {b = axes} some in
       let f = row-fits axes maxRegions (i / axes) (omega arith) in
       omega arith
@@ -157,7 +147,7 @@ ends : (axes mode : ℕ) (job : List ℕ) (records : ℕ) (s : Said) → 0 < axe
 unfolding firstLike
 ends axes mode job records s some bytes e =
     walk-keeps axes mode job (λ i. i ≤ maxRegions * axes) (Counts axes job)
-    (λ i _ z h. axis-more axes some job (recordAt job i) i (rw (getD-drop (12 * i) job 1 0) (bytes (12 * i + 1))) z)
+    (λ i k z h. axis-more axes some job (recordAt job i) i (rw (getD-drop (12 * i) job 1 0) (bytes (12 * i + 1))) k z)
     (λ i z h. begin axes some job i h z)
     (λ i s _ z c. value-more axes some job i s c (firstLike (s .regions) (regionOf (recordAt job i))) (valueWord (recordAt job i))
     (like-below (s .regions) (regionOf (recordAt job i)) (value-known (recordAt job i) (length (s .regions)) (has (firstLike (s .regions) (regionOf (recordAt job i))) (s .named)) z)))

@@ -18,13 +18,13 @@ use Rattle.laws.proofs.Cases.{Which, which, lt-or-ge, and-true}
 use Rattle.laws.proofs.Cases.Which.{holds, fails}
 use Rattle.laws.proofs.EveryLaws.{all-append, all-imp, all-and}
 use Rattle.sets.specs.Set.{Set}
-use Rattle.said.specs.Records.{recordBytes, mostRecords, mostAxes, regionOf, valueZeros, valueWord, recordAt, afterRecord, areRecords, recordsIn, recordCount, regionLong, afterRegion, kind, axisKind, valueKind, endKind}
-use Rattle.said.specs.Refusals.{firstFailed, publishedWork, pairRecords, earlyNo, valueNo, axisNo, endNo}
+use Rattle.said.specs.Records.{recordBytes, mostRecords, mostAxes, regionOf, valueWord, recordAt, afterRecord, areRecords, recordsIn, recordCount, regionLong, afterRegion, kind, axisKind, valueKind, endKind}
+use Rattle.said.specs.Refusals.{firstFailed, publishedWork, pairRecords, earlyNo, valueNo}
 use Rattle.said.specs.Sets.{Region, coordinates, regionList, firstLike, has, withUse, indexIn, withEntry, withValue}
 use Rattle.said.specs.Job.{Said, inAxes, afterValue, afterEnd, regionsOnly, Outcome, fine, recordsFrom, outcomeFrom, outcome}
 use Rattle.said.specs.LentGood.{SetsGood}
 use Rattle.said.specs.LentOpen.{Open}
-use Rattle.said.proofs.RecordLaws.{be-two, be-four, word-low, word-high, value-bad, value-twice}
+use Rattle.said.proofs.RecordLaws.{be-two, be-four, word-low, word-high, first-passed, value-twice}
 use Rattle.said.proofs.RegionLaws.{coords-length}
 use Rattle.said.proofs.GoodLaws.{placed-all, good-start, good-value, good-end}
 use Rattle.said.proofs.IndexLaws.{with-known, with-new}
@@ -92,12 +92,11 @@ unfolding regionsOnly
 well-start l = record { good = good-start l; low = tt; begun-low = tt }
 
 value-new : (r : List ℕ) (regions : ℕ) (named : Bool) → valueNo r regions named ≡ 0 → named ≡ false
-value-new r regions named z = go (which (valueZeros r)) (which named)
+value-new r regions named z = go (which named)
   where
-    go : Which (valueZeros r) → Which named → named ≡ false
-    go (fails e) n = absurd (let b = value-bad r regions named e in omega arith)
-    go (holds e) (fails n) = n
-    go (holds e) (holds n) = absurd (let b = value-twice r regions named e (value-known r regions named z) n in omega arith)
+    go : Which named → named ≡ false
+    go (fails n) = n
+    go (holds n) = absurd (let b = value-twice r regions named (value-known r regions named z) n in omega arith)
 
 well-value : (r : List ℕ) (s : Said) → Bytes r → valueNo r (length (s .regions)) (has (firstLike (s .regions) (regionOf r)) (s .named)) ≡ 0
     → Well s → Well (afterValue s (firstLike (s .regions) (regionOf r)) (valueWord r))
@@ -197,12 +196,6 @@ well-said axes mode job records s some b e =
     }
 
 -- ---- what refusals 1 to 4 leave
-
--- no test fails: the first holds, and no other fails
-pub first-passed : (b : Bool) (n : ℕ) (l : List (Bool × ℕ)) → firstFailed ((b, suc n) ∷ l) ≡ 0 → (b ≡ true) × (firstFailed l ≡ 0)
-unfolding firstFailed
-first-passed true n l z = (refl, z)
-first-passed false n l z = absurd (omega arith)
 
 pub open-if : (axes mode bytes work pairs : ℕ) → earlyNo axes mode bytes work pairs ≡ 0 → Open axes mode bytes work pairs
 unfolding earlyNo

@@ -1,6 +1,6 @@
 -- What each record of a job keeps true, the recordsFrom along all of them keeps true: one induction for all such facts. Assumes nothing.
 use mathlib.Core.Path.{_≡_, refl, sym, ap, subst, _∙_}
-use mathlib.Core.Bool.{Bool, true, false}
+use mathlib.Core.Bool.{Bool, true, false, _||_}
 use mathlib.Core.List.{List, [], _∷_}
 use Prim.Native.Nat.{ℕ, zero, suc, _+_, _*_, _/_, _%_}
 use native.Mathlib.Nat.{add-zero}
@@ -11,16 +11,23 @@ use lib.Seq.{drop-drop}
 use lib.Dec.{eqb}
 use borrow.Author.Tests.{eqb-true}
 use Rattle.laws.specs.Pick.{pick}
-use Rattle.laws.proofs.Cases.{Which, which}
+use Rattle.laws.proofs.Cases.{Which, which, true-false}
 use Rattle.laws.proofs.Cases.Which.{holds, fails}
-use Rattle.said.specs.Records.{recordAt, kind, axisKind, valueKind, endKind, regionOf, valueWord}
-use Rattle.said.specs.Refusals.{axisNo, valueNo, endNo}
+use Rattle.said.specs.Records.{recordAt, kind, axisKind, valueKind, endKind, isAxis, isValue, isEnd, regionOf, valueWord}
+use Rattle.said.specs.Refusals.{formNo, valueNo, endNo}
 use Rattle.said.specs.Sets.{regionList, firstLike, has}
-use Rattle.said.specs.Job.{Said, State, inAxes, inSets, Step, stop, on, unless, afterValue, afterEnd, valueStep, endStep, setStep, regionsOnly, step, Outcome, refused, fine, ended, endedSets, follow, recordsFrom}
+use Rattle.said.specs.Job.{Said, State, inAxes, inSets, Step, stop, on, unless, afterValue, afterEnd, valueStep, endStep, regionsOnly, saidAt, axesBefore, isLate, kindStep, step, Outcome, refused, fine, ended, endedSets, follow, recordsFrom}
+use Rattle.said.proofs.RecordLaws.{Formed, form-passed}
+
+-- the third of three, where it is none of the others
+third : (a b c : Bool) → (a || (b || c)) ≡ true → a ≡ false → b ≡ false → c ≡ true
+third true b c h p q = absurd (true-false refl p)
+third false true c h p q = absurd (true-false refl q)
+third false false c h p q = h
 
 -- Before record i: Q i while all records so far were axis records, P i s once s is said.
 module _ (axes mode : ℕ) (job : List ℕ) (Q : ℕ → Type 0) (P : ℕ → Said → Type 0)
-    (axis-more : (i : ℕ) → kind (recordAt job i) ≡ axisKind → axisNo axes (recordAt job i) i ≡ 0 → Q i → Q (suc i))
+    (axis-more : (i : ℕ) → kind (recordAt job i) ≡ axisKind → formNo axes i false (recordAt job i) ≡ 0 → Q i → Q (suc i))
     (begin : (i : ℕ) → i % axes ≡ 0 → Q i → P i (regionsOnly (regionList axes (i / axes) job)))
     (value-more : (i : ℕ) (s : Said) → kind (recordAt job i) ≡ valueKind
     → valueNo (recordAt job i) (length (s .regions)) (has (firstLike (s .regions) (regionOf (recordAt job i))) (s .named)) ≡ 0
@@ -40,38 +47,50 @@ module _ (axes mode : ℕ) (job : List ℕ) (Q : ℕ → Type 0) (P : ℕ → Sa
 
   -- ---- one step
 
-  unless-after : (i n : ℕ) (s : State) → (n ≡ 0 → Kept i s) → After i (unless n s)
+  unless-after : (i n : ℕ) (x : Step) → (n ≡ 0 → After i x) → After i (unless n x)
   unfolding unless
-  unless-after i zero s h = h refl
-  unless-after i (suc n) s h = tt
+  unless-after i zero x h = h refl
+  unless-after i (suc n) x h = tt
 
   pick-after : (i : ℕ) (b : Bool) (x y : Step) → (b ≡ true → After i x) → (b ≡ false → After i y) → After i (pick b x y)
   pick-after i true x y h k = h refl
   pick-after i false x y h k = k refl
 
-  set-after : (i : ℕ) (s : Said) → P i s → After (suc i) (setStep mode (recordAt job i) s)
-  unfolding setStep valueStep endStep
-  set-after i s p =
+  -- a value or an end
+  set-after : (i : ℕ) (s : Said) → (isValue (recordAt job i) ≡ false → isEnd (recordAt job i) ≡ true) → P i s
+      → After (suc i) (pick (isValue (recordAt job i)) (valueStep (recordAt job i) s) (endStep mode s))
+  unfolding valueStep endStep
+  set-after i s known p =
       let r = recordAt job i in
       let q = firstLike (s .regions) (regionOf r) in
-      pick-after (suc i) (eqb (kind r) valueKind) (valueStep r s) (pick (eqb (kind r) endKind) (endStep mode r s) (stop 5))
-      (λ e. unless-after (suc i) (valueNo r (length (s .regions)) (has q (s .named))) (inSets (afterValue s q (valueWord r)))
+      pick-after (suc i) (isValue r) (valueStep r s) (endStep mode s)
+      (λ e. unless-after (suc i) (valueNo r (length (s .regions)) (has q (s .named))) (on (inSets (afterValue s q (valueWord r))))
       (λ z. value-more i s (eqb-true (kind r) valueKind e) z p))
-      (λ _. pick-after (suc i) (eqb (kind r) endKind) (endStep mode r s) (stop 5)
-      (λ e. unless-after (suc i) (endNo mode r (length (s .sets))) (inSets (afterEnd s)) (λ z. end-more i s (eqb-true (kind r) endKind e) p))
-      (λ _. tt))
+      (λ e. unless-after (suc i) (endNo mode (length (s .sets))) (on (inSets (afterEnd s)))
+      (λ z. end-more i s (eqb-true (kind r) endKind (known e)) p))
+
+  kind-after : (i : ℕ) (s : State) → Kept i s → formNo axes (axesBefore axes i s) (isLate s) (recordAt job i) ≡ 0
+      → After (suc i) (kindStep mode (recordAt job i) (saidAt axes job i s))
+  unfolding kindStep saidAt axesBefore isLate
+  kind-after i inAxes k z =
+      let r = recordAt job i in
+      let first = regionsOnly (regionList axes (i / axes) job) in
+      let f = form-passed axes i false r z in
+      pick-after (suc i) (isAxis r) (on inAxes) (pick (isValue r) (valueStep r first) (endStep mode first))
+      (λ e. axis-more i (eqb-true (kind r) axisKind e) z k)
+      (λ e. set-after i first (third (isAxis r) (isValue r) (isEnd r) (f .known) e) (begin i (f .whole e) k))
+  kind-after i (inSets s) k z =
+      let r = recordAt job i in
+      let f = form-passed axes (axes * length (s .regions)) true r z in
+      pick-after (suc i) (isAxis r) (on inAxes) (pick (isValue r) (valueStep r s) (endStep mode s))
+      (λ e. absurd (true-false refl (f .early e)))
+      (λ e. set-after i s (third (isAxis r) (isValue r) (isEnd r) (f .known) e) k)
 
   step-after : (i : ℕ) (s : State) → Kept i s → After (suc i) (step axes mode job (recordAt job i) i s)
   unfolding step
-  step-after i inAxes k =
-      let r = recordAt job i in
-      let first = regionsOnly (regionList axes (i / axes) job) in
-      pick-after (suc i) (eqb (kind r) axisKind) (unless (axisNo axes r i) inAxes) (pick (eqb (i % axes) 0) (setStep mode r first) (stop 5))
-      (λ e. unless-after (suc i) (axisNo axes r i) inAxes (λ z. axis-more i (eqb-true (kind r) axisKind e) z k))
-      (λ _. pick-after (suc i) (eqb (i % axes) 0) (setStep mode r first) (stop 5)
-      (λ z. set-after i first (begin i (eqb-true (i % axes) 0 z) k))
-      (λ _. tt))
-  step-after i (inSets s) k = set-after i s k
+  step-after i s k =
+      unless-after (suc i) (formNo axes (axesBefore axes i s) (isLate s) (recordAt job i)) (kindStep mode (recordAt job i) (saidAt axes job i s))
+      (λ z. kind-after i s k z)
 
   -- ---- the recordsFrom
 

@@ -1,4 +1,4 @@
--- A job, record by record: where it is refused, or what it says (RULES J1 to J6, R1 to R9, T1 to T3, T5). The axis records come first and say the
+-- A job, record by record: where it is refused, or what it says (RULES J1 to J6, R1 to R9, R30 to R34, T1 to T3, T5). The axis records come first and say the
 -- regions (state `inAxes`); from the first value or end on, each value goes into the set that is begun and each end ends it (state `inSets`, with all
 -- that was said so far). A record is judged in the state before it: it stops the reading by a number, or leads to the next state.
 use mathlib.Core.Bool.{Bool, true, false}
@@ -8,8 +8,8 @@ use lib.ListN.{length}
 use lib.Dec.{eqb}
 use Rattle.laws.specs.Pick.{pick}
 use Rattle.sets.specs.Set.{Set}
-use Rattle.said.specs.Records.{afterRecord, recordCount, kind, axisKind, valueKind, endKind, regionOf, valueWord}
-use Rattle.said.specs.Refusals.{badRecord, unfinished, earlyNo, axisNo, valueNo, endNo}
+use Rattle.said.specs.Records.{afterRecord, recordCount, isAxis, isValue, regionOf, valueWord}
+use Rattle.said.specs.Refusals.{unfinished, earlyNo, formNo, valueNo, endNo}
 use Rattle.said.specs.Sets.{Region, regionList, firstLike, has, withUse, indexIn, withValue}
 
 -- what the records so far say, once the axis records are over
@@ -34,10 +34,10 @@ pub data Step : Type 0 where
   stop : ℕ → Step
   on : State → Step
 
--- on, unless there is a refusal number
-unfoldable pub unless : (number : ℕ) → State → Step
-unless zero s = on s
-unless (suc n) s = stop (suc n)
+-- stopped by a refusal number, or else as it goes on
+unfoldable pub unless : (number : ℕ) → Step → Step
+unless zero x = x
+unless (suc n) x = stop (suc n)
 
 -- a value of the first region like it, q, whose index is that among the regions in use
 unfoldable pub afterValue : Said → (region word : ℕ) → Said
@@ -54,28 +54,41 @@ afterValue s q w = record {
 unfoldable pub afterEnd : Said → Said
 afterEnd s = record { regions = s .regions; used = s .used; sets = s .sets ++ (s .begun ∷ []); values = s .values; named = []; begun = [] }
 
+-- R6, R7
 unfoldable pub valueStep : (bytes : List ℕ) → Said → Step
 valueStep r s =
     unless (valueNo r (length (s .regions)) (has (firstLike (s .regions) (regionOf r)) (s .named)))
-    (inSets (afterValue s (firstLike (s .regions) (regionOf r)) (valueWord r)))
+    (on (inSets (afterValue s (firstLike (s .regions) (regionOf r)) (valueWord r))))
 
-unfoldable pub endStep : (mode : ℕ) (bytes : List ℕ) → Said → Step
-endStep mode r s = unless (endNo mode r (length (s .sets))) (inSets (afterEnd s))
-
--- R5: an unknown kind, or an axis record that comes too late
-unfoldable pub setStep : (mode : ℕ) (bytes : List ℕ) → Said → Step
-setStep mode r s = pick (eqb (kind r) valueKind) (valueStep r s) (pick (eqb (kind r) endKind) (endStep mode r s) (stop badRecord))
+-- R9
+unfoldable pub endStep : (mode : ℕ) → Said → Step
+endStep mode s = unless (endNo mode (length (s .sets))) (on (inSets (afterEnd s)))
 
 -- no sets yet
 unfoldable pub regionsOnly : List Region → Said
 regionsOnly regions = record { regions = regions; used = []; sets = []; values = 0; named = []; begun = [] }
 
--- Record i, of the bytes r. R5: a value or end where a region is not complete
+-- what is said before record i
+unfoldable pub saidAt : (axes : ℕ) (job : List ℕ) (i : ℕ) → State → Said
+saidAt axes job i inAxes = regionsOnly (regionList axes (i / axes) job)
+saidAt axes job i (inSets s) = s
+
+-- how many axis records stand before record i, and whether a value or an end does
+unfoldable pub axesBefore : (axes i : ℕ) → State → ℕ
+axesBefore axes i inAxes = i
+axesBefore axes i (inSets s) = axes * length (s .regions)
+
+unfoldable pub isLate : State → Bool
+isLate inAxes = false
+isLate (inSets s) = true
+
+-- a record whose form is right, by its kind
+unfoldable pub kindStep : (mode : ℕ) (bytes : List ℕ) → Said → Step
+kindStep mode r s = pick (isAxis r) (on inAxes) (pick (isValue r) (valueStep r s) (endStep mode s))
+
+-- Record i, of the bytes r: R30 to R34, then by its kind
 unfoldable pub step : (axes mode : ℕ) (job bytes : List ℕ) (i : ℕ) → State → Step
-step axes mode job r i inAxes =
-    pick (eqb (kind r) axisKind) (unless (axisNo axes r i) inAxes)
-    (pick (eqb (i % axes) 0) (setStep mode r (regionsOnly (regionList axes (i / axes) job))) (stop badRecord))
-step axes mode job r i (inSets s) = setStep mode r s
+step axes mode job r i s = unless (formNo axes (axesBefore axes i s) (isLate s) r) (kindStep mode r (saidAt axes job i s))
 
 -- a refusal's number and place, or what the job says
 pub data Outcome : Type 0 where

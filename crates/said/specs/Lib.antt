@@ -5,3 +5,4 @@ pub mod Sets
 pub mod Job
 pub mod LentGood
 pub mod Worked
+pub mod WorkedForms

@@ -1,12 +1,12 @@
 -- A record of a job (RULES J1): 12 bytes, the highest byte of a number first, the kind in byte 0. This file alone knows
 -- where in a record things stand, and where in a job a record does. Below, `r` are the bytes from a record's first one
 -- on.
-use mathlib.Core.Bool.{Bool, _&&_}
+use mathlib.Core.Bool.{Bool, _||_}
 use mathlib.Core.List.{List, [], _∷_}
 use Prim.Native.Nat.{ℕ, _+_, _*_, _/_, _%_}
 use lib.ListN.{getD, drop, length}
 use lib.Dec.{eqb}
-use Rattle.laws.specs.Bounded.{allBelow}
+use Rattle.laws.specs.Pick.{pick}
 use Rattle.laws.specs.Bytes.{be}
 use Rattle.laws.specs.Signed.{word, signed}
 -- how many records and axes there may be
@@ -68,9 +68,14 @@ valueKind = 2
 abbrev pub endKind : ℕ
 endKind = 3
 
--- the n bytes from byte p on are 0
-unfoldable pub zeros : List ℕ → ℕ → ℕ → Bool
-zeros r p n = allBelow n (λ t. eqb (getD r (p + t) 0) 0)
+abbrev pub isAxis : List ℕ → Bool
+isAxis r = eqb (kind r) axisKind
+
+abbrev pub isValue : List ℕ → Bool
+isValue r = eqb (kind r) valueKind
+
+abbrev pub isEnd : List ℕ → Bool
+isEnd r = eqb (kind r) endKind
 
 -- an axis record: region, axis, start, peak, end; its other bytes are 0
 abbrev pub regionOf : List ℕ → ℕ
@@ -78,9 +83,6 @@ regionOf r = getD r 1 0
 
 abbrev pub axisOf : List ℕ → ℕ
 axisOf r = getD r 2 0
-
-unfoldable pub axisZeros : List ℕ → Bool
-axisZeros r = zeros r 3 1 && zeros r 10 2
 
 -- start, peak and end, each by the number that its 16 bits are
 abbrev pub startOf : List ℕ → ℕ
@@ -106,14 +108,26 @@ axisCoords from a = from + recordBytes * a
 abbrev pub coordsLong : ℕ
 coordsLong = 6
 
--- a value record: region and value; its other bytes are 0
-unfoldable pub valueZeros : List ℕ → Bool
-valueZeros r = zeros r 2 2 && zeros r 8 4
-
--- the word of the value (`value` of laws gives the signed number)
+-- a value record: region and value; its other bytes are 0. The word of the value (`value` of laws gives the signed
+-- number)
 unfoldable pub valueWord : List ℕ → ℕ
 valueWord r = word (signed 4 (be 4 r 4))
 
 -- an end record: all bytes but the kind are 0
-unfoldable pub endZeros : List ℕ → Bool
-endZeros r = zeros r 1 11
+
+-- ---- the bytes that must be 0
+
+-- of a record of this kind
+unfoldable pub mustBeZero : ℕ → List ℕ
+mustBeZero k =
+    pick (eqb k axisKind) (3 ∷ 10 ∷ 11 ∷ [])
+    (pick (eqb k valueKind) (2 ∷ 3 ∷ 8 ∷ 9 ∷ 10 ∷ 11 ∷ [])
+    (pick (eqb k endKind) (1 ∷ 2 ∷ 3 ∷ 4 ∷ 5 ∷ 6 ∷ 7 ∷ 8 ∷ 9 ∷ 10 ∷ 11 ∷ []) []))
+
+-- the first of these bytes that is not 0; 0 where all are
+unfoldable pub firstNotZero : List ℕ → List ℕ → ℕ
+firstNotZero r [] = 0
+firstNotZero r (b ∷ l) = pick (eqb (getD r b 0) 0) (firstNotZero r l) b
+
+unfoldable pub wrongByte : List ℕ → ℕ
+wrongByte r = firstNotZero r (mustBeZero (kind r))

@@ -1,5 +1,5 @@
--- Refusals: their numbers, and the tests of one record (RULES R1 to R14, T1, T2).
-use mathlib.Core.Bool.{Bool, true, false, not, _&&_}
+-- Refusals: their numbers, and the tests of one record (RULES R1 to R14, R30 to R34, T1, T2).
+use mathlib.Core.Bool.{Bool, true, false, not, _&&_, _||_}
 use mathlib.Core.List.{List, [], _∷_}
 use mathlib.Core.Path.{_≡_}
 use Prim.Native.Nat.{ℕ, zero, suc, _+_, _*_, _/_, _%_, _≤_, _<_, min}
@@ -8,7 +8,7 @@ use Rattle.laws.specs.Pick.{pick}
 use Rattle.limits.specs.Limits.{maxShapes, maxItems}
 -- the pair records that are lent beside work: fewer is WORK_SHORT
 pub use Rattle.limits.specs.Limits.{pairRecords}
-use Rattle.said.specs.Records.{recordsIn, areRecords, mostRecords, mostAxes, kind, axisKind, regionOf, axisOf, axisZeros, valueZeros, endZeros}
+use Rattle.said.specs.Records.{recordsIn, areRecords, mostRecords, mostAxes, isAxis, isValue, isEnd, regionOf, axisOf, wrongByte}
 
 -- ---- their numbers
 
@@ -23,9 +23,6 @@ badJobLength = 3
 
 abbrev pub workShort : ℕ
 workShort = 4
-
-abbrev pub badRecord : ℕ
-badRecord = 5
 
 abbrev pub unknownRegion : ℕ
 unknownRegion = 6
@@ -54,6 +51,21 @@ logShort = 13
 abbrev pub outShort : ℕ
 outShort = 14
 
+abbrev pub unknownKind : ℕ
+unknownKind = 30
+
+abbrev pub notZero : ℕ
+notZero = 31
+
+abbrev pub axisOutOfTurn : ℕ
+axisOutOfTurn = 32
+
+abbrev pub axisTooLate : ℕ
+axisTooLate = 33
+
+abbrev pub regionUnfinished : ℕ
+regionUnfinished = 34
+
 -- ---- their tests
 
 -- Tests in their order, each with its number: the number of the first that fails, 0 where all hold.
@@ -80,20 +92,31 @@ earlyNo axes mode bytes work pairs =
     ∷ (leb pairRecords pairs, workShort)
     ∷ [])
 
--- Record i, an axis record. R5: its other bytes are 0, and its numbers are the next ones (J4)
-unfoldable pub axisNo : ℕ → List ℕ → ℕ → ℕ
-axisNo axes r i = firstFailed ((eqb (regionOf r) (i / axes) && eqb (axisOf r) (i % axes) && axisZeros r, badRecord) ∷ [])
+-- ---- one record (T2)
 
--- A value record, where there are so many regions, and the set has named its region already or not. R5, R6, R7 in this
--- order (T2)
-unfoldable pub valueNo : List ℕ → ℕ → Bool → ℕ
-valueNo r regions named =
+-- an axis record is in turn where its numbers are the ones after so many axis records (J4)
+unfoldable pub inTurn : (axes before : ℕ) (bytes : List ℕ) → Bool
+inTurn axes before r = eqb (regionOf r) (before / axes) && eqb (axisOf r) (before % axes)
+
+-- R30 to R34, of a record of any kind behind so many axis records; `late` where a value or an end stands before it
+unfoldable pub formNo : (axes before : ℕ) (late : Bool) (bytes : List ℕ) → ℕ
+formNo axes before late r =
     firstFailed
-    ((valueZeros r, badRecord)
-    ∷ (ltb (regionOf r) regions, unknownRegion)
-    ∷ (not named, regionTwice)
+    ((isAxis r || (isValue r || isEnd r), unknownKind)
+    ∷ (eqb (wrongByte r) 0, notZero)
+    ∷ (not (isAxis r) || inTurn axes before r, axisOutOfTurn)
+    ∷ (not (isAxis r) || not late, axisTooLate)
+    ∷ (isAxis r || eqb (before % axes) 0, regionUnfinished)
     ∷ [])
 
--- An end record after so many others. R5, then R9 (T2)
-unfoldable pub endNo : ℕ → List ℕ → ℕ → ℕ
-endNo mode r sets = firstFailed ((endZeros r, badRecord) ∷ (not (eqb mode 1 && eqb sets maxItems), setsFull) ∷ [])
+-- R6, R7, of a value record where there are so many regions, and the set has named its region already or not
+unfoldable pub valueNo : (bytes : List ℕ) (regions : ℕ) (named : Bool) → ℕ
+valueNo r regions named = firstFailed ((ltb (regionOf r) regions, unknownRegion) ∷ (not named, regionTwice) ∷ [])
+
+-- R9, of an end record after so many others
+unfoldable pub endNo : (mode sets : ℕ) → ℕ
+endNo mode sets = firstFailed ((not (eqb mode 1 && eqb sets maxItems), setsFull) ∷ [])
+
+-- The byte that a refusal names within its record: for R31 the first that must be 0 and is not, byte 0 for every other
+unfoldable pub byteOf : (number : ℕ) (bytes : List ℕ) → ℕ
+byteOf n r = pick (eqb n notZero) (wrongByte r) 0

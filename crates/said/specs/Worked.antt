@@ -3,14 +3,13 @@ use mathlib.Core.Bool.{Bool, true, false}
 use mathlib.Core.List.{List, [], _∷_, _++_}
 use mathlib.Core.Path.{_≡_, refl}
 use Prim.Native.Nat.{ℕ, _+_}
-use Rattle.laws.specs.Bounded.{allBelow}
 use Rattle.laws.specs.Bytes.{be}
 use Rattle.laws.specs.Signed.{word, signed, zeroWord}
 use Rattle.sets.specs.Set.{Set}
-use Rattle.said.specs.Records.{zeros, axisZeros, valueZeros, endZeros, valueWord}
-use Rattle.said.specs.Refusals.{pairRecords, firstFailed, publishedWork, earlyNo, axisNo, valueNo, endNo}
+use Rattle.said.specs.Records.{mustBeZero, firstNotZero, wrongByte, valueWord}
+use Rattle.said.specs.Refusals.{pairRecords, firstFailed, publishedWork, earlyNo, inTurn, formNo, valueNo, endNo, byteOf}
 use Rattle.said.specs.Sets.{Region, coordinates, regionList, sameRegion, like, firstLike, has, withUse, indexIn, withEntry, withValue}
-use Rattle.said.specs.Job.{Said, Outcome, refused, fine, unless, afterValue, afterEnd, valueStep, endStep, setStep, regionsOnly, step, ended, endedSets, follow, recordsFrom, outcomeFrom, outcome}
+use Rattle.said.specs.Job.{Said, Outcome, refused, fine, unless, afterValue, afterEnd, valueStep, endStep, regionsOnly, saidAt, axesBefore, isLate, kindStep, step, ended, endedSets, follow, recordsFrom, outcomeFrom, outcome}
 
 -- an axis record of start 0, a value record with a value of one byte's size from 0 on, an end record
 abbrev axisRecord : ℕ → ℕ → ℕ → List ℕ
@@ -56,11 +55,14 @@ answers =
     ∷ one (twins (valueRecord 1 5 ++ (endRecord ++ (valueRecord 0 5 ++ endRecord))))
     ∷ one (twins (valueRecord 0 5 ++ (valueRecord 1 0 ++ endRecord)))
     ∷ one (two (endRecord ++ axisRecord 2 0 64))
+    ∷ one (two (valueRecord 0 5 ++ axisRecord 3 0 64))
     ∷ one (axisRecord 1 0 64)
     ∷ one (two (valueRecord 2 5 ++ endRecord))
     ∷ one (two (valueRecord 0 5))
     ∷ outcome 2 0 (axisRecord 0 0 64) 4096 pairRecords
     ∷ outcome 2 0 (axisRecord 0 0 64 ++ endRecord) 4096 pairRecords
+    ∷ outcome 2 0 (axisRecord 0 0 64 ++ (axisRecord 0 1 64 ++ (endRecord ++ axisRecord 1 0 64))) 4096 pairRecords
+    ∷ outcome 2 0 (axisRecord 0 0 64 ++ (axisRecord 0 1 64 ++ (endRecord ++ axisRecord 0 1 64))) 4096 pairRecords
     ∷ outcome 1 1 endRecord 16 pairRecords
     ∷ outcome 1 1 endRecord 17 pairRecords
     ∷ outcome 1 1 endRecord 17 1048575
@@ -78,12 +80,15 @@ worked : answers ≡
     ∷ says (r₀ ∷ r₁ ∷ []) (1 ∷ 0 ∷ []) (((0, up 5) ∷ (1, up 7) ∷ []) ∷ ((0, up 4) ∷ (1, up 3) ∷ []) ∷ []) 4
     ∷ says (r₀ ∷ r₀ ∷ []) (0 ∷ []) (((0, up 5) ∷ []) ∷ ((0, up 5) ∷ []) ∷ []) 2
     ∷ refused 7 3
-    ∷ refused 5 3
-    ∷ refused 5 0
+    ∷ refused 33 3
+    ∷ refused 32 3
+    ∷ refused 32 0
     ∷ refused 6 2
     ∷ refused 8 3
     ∷ refused 8 1
-    ∷ refused 5 1
+    ∷ refused 34 1
+    ∷ refused 33 3
+    ∷ refused 32 3
     ∷ refused 4 0
     ∷ says [] [] ([] ∷ []) 0
     ∷ refused 4 0
@@ -91,5 +96,5 @@ worked : answers ≡
     ∷ refused 2 0
     ∷ refused 1 0
     ∷ []
-unfolding answers outcome outcomeFrom recordsFrom follow ended endedSets step regionsOnly setStep endStep valueStep afterEnd afterValue unless withValue withEntry indexIn withUse has firstLike like sameRegion regionList coordinates endNo valueNo axisNo earlyNo publishedWork firstFailed valueWord endZeros valueZeros axisZeros zeros word signed be allBelow
+unfolding answers outcome outcomeFrom recordsFrom follow ended endedSets step kindStep isLate axesBefore saidAt regionsOnly endStep valueStep afterEnd afterValue unless withValue withEntry indexIn withUse has firstLike like sameRegion regionList coordinates endNo valueNo formNo inTurn earlyNo publishedWork firstFailed valueWord wrongByte firstNotZero mustBeZero word signed be
 worked = refl

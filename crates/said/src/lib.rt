@@ -14,8 +14,6 @@ impl Refusal {
     pub const WORK_SHORT: usize = 4;
 
     // At a record, or at the job's end.
-    pub const BAD_RECORD: usize = 5;
-
     pub const UNKNOWN_REGION: usize = 6;
 
     pub const REGION_TWICE: usize = 7;
@@ -34,4 +32,15 @@ impl Refusal {
     pub const LOG_SHORT: usize = 13;
 
     pub const OUT_SHORT: usize = 14;
+
+    // At a record, by its form.
+    pub const UNKNOWN_KIND: usize = 30;
+
+    pub const NOT_ZERO: usize = 31;
+
+    pub const AXIS_OUT_OF_TURN: usize = 32;
+
+    pub const AXIS_TOO_LATE: usize = 33;
+
+    pub const REGION_UNFINISHED: usize = 34;
 }
