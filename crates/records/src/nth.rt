@@ -1,14 +1,15 @@
-// Record i of a job: its kind, its refusal, its region and its value.
-use crate::axis_no;
-use crate::end_no;
+// Record i of a job: its kind, its form, its region and its value.
+use crate::forms::form_no;
+use crate::forms::wrong_byte;
 use crate::region_of;
-use crate::value_fine;
 use crate::value_word;
+use said::Refusal;
 ghost use mathlib.Core.Path.{_≡_};
-ghost use Prim.Native.Nat.{ℕ, _+_, _*_, _<_, _≤_};
+ghost use mathlib.Core.Bool.{true};
+ghost use Prim.Native.Nat.{ℕ, _+_, _*_, _%_, _<_, _≤_};
 ghost use lib.ListN.{length};
-ghost use Rattle.said.specs.Records.{recordStart, recordAt, kind, regionOf, valueZeros, valueWord};
-ghost use Rattle.said.specs.Refusals.{axisNo, endNo};
+ghost use Rattle.said.specs.Records.{recordStart, recordAt, kind, regionOf, valueWord};
+ghost use Rattle.said.specs.Refusals.{notZero, formNo, byteOf};
 
 // The bytes of a record.
 pub const BYTES: usize = 12;
@@ -31,28 +32,23 @@ pub fn kind_at(job: &[u8], i: usize) -> u8
     job[BYTES * i]
 }
 
-// The refusal number of an axis record.
-pub fn axis_at(job: &[u8], axes: usize, i: usize) -> usize
-    requires { ⌜ (0 < axes) × (recordStart (i + 1) ≤ length (now job)) ⌝ }
-    ensures { λ r. ⌜ r ≡ axisNo axes (recordAt (now (job .entry)) i) i ⌝ }
+// Refusals 30 to 34, of a record behind so many axis records; `late` where a value or an end stands before it.
+pub fn form_at(job: &[u8], axes: usize, i: usize, before: usize, late: bool) -> usize
+    requires { ⌜ (0 < axes) × (recordStart (i + 1) ≤ length (now job)) × (late ≡ true → before % axes ≡ 0) ⌝ }
+    ensures { λ r. ⌜ r ≡ formNo axes before late (recordAt (now (job .entry)) i) ⌝ }
 {
-    axis_no(&job[BYTES * i..], axes, i)
+    form_no(&job[BYTES * i..], axes, before, late)
 }
 
-// The refusal number of an end record after so many others.
-pub fn end_at(job: &[u8], i: usize, mode: u32, sets: usize) -> usize
-    requires { ⌜ recordStart (i + 1) ≤ length (now job) ⌝ }
-    ensures { λ r. ⌜ r ≡ endNo mode (recordAt (now (job .entry)) i) sets ⌝ }
+// The byte that refusal `no` names within record `at`.
+pub fn byte_at(job: &[u8], no: usize, at: usize) -> usize
+    requires { ⌜ (no ≡ notZero → recordStart (at + 1) ≤ length (now job)) ⌝ }
+    ensures { λ r. ⌜ r ≡ byteOf no (recordAt (now (job .entry)) at) ⌝ }
 {
-    end_no(&job[BYTES * i..], mode, sets)
-}
-
-// The zero bytes of a value record are zero.
-pub fn fine_at(job: &[u8], i: usize) -> bool
-    requires { ⌜ recordStart (i + 1) ≤ length (now job) ⌝ }
-    ensures { λ r. ⌜ r ≡ valueZeros (recordAt (now (job .entry)) i) ⌝ }
-{
-    value_fine(&job[BYTES * i..])
+    if no != Refusal::NOT_ZERO {
+        return 0;
+    }
+    wrong_byte(&job[BYTES * at..])
 }
 
 // The region that a value record names.

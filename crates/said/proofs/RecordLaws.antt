@@ -13,8 +13,8 @@ use Rattle.laws.specs.Signed.{word, signed, zeroWord}
 use Rattle.laws.proofs.Cases.{and-true, true-false}
 use Rattle.laws.proofs.SignedLaws.{value-twos, word-value}
 use Rattle.limits.specs.Limits.{maxItems}
-use Rattle.said.specs.Records.{isAxis, isValue, isEnd, regionOf, axisOf, wrongByte, valueWord}
-use Rattle.said.specs.Refusals.{unknownRegion, regionTwice, setsFull, unknownKind, notZero, axisOutOfTurn, axisTooLate, regionUnfinished, firstFailed, inTurn, formNo, valueNo, endNo}
+use Rattle.said.specs.Records.{isAxis, isKnown, regionOf, axisOf, wrongByte, valueWord}
+use Rattle.said.specs.Refusals.{unknownRegion, regionTwice, setsFull, unknownKind, notZero, axisOutOfTurn, axisTooLate, regionUnfinished, firstFailed, inTurn, formNo, valueNo, endNo, byteOf}
 
 pub be-two : (s : List ℕ) (p : ℕ) → be 2 s p ≡ getD s p 0 * 256 + getD s (p + 1) 0
 unfolding be
@@ -44,10 +44,6 @@ first-passed true n l z = (refl, z)
 first-passed false n l z = absurd (omega arith)
 
 -- ---- R30 to R34
-
--- a kind that there is
-abbrev pub isKnown : List ℕ → Bool
-isKnown r = isAxis r || (isValue r || isEnd r)
 
 -- which of the five, one by one
 module _ (axes before : ℕ) (late : Bool) (r : List ℕ) where
@@ -128,6 +124,16 @@ form-passed axes before late r e =
       early = λ x. not-then late (passed-then (isAxis r) (not late) (d .0) x);
       whole = λ x. eqb-true (before % axes) 0 (passed-else (isAxis r) (eqb (before % axes) 0) (f .0) x);
     }
+
+-- ---- the byte
+
+pub byte-none : (n : ℕ) (r : List ℕ) → (n ≡ notZero → ⊥) → 0 ≡ byteOf n r
+unfolding byteOf
+byte-none n r d = rw (ne-eqb n notZero d)
+
+pub byte-wrong : (n : ℕ) (r : List ℕ) → n ≡ notZero → wrongByte r ≡ byteOf n r
+unfolding byteOf
+byte-wrong n r e = rw (eq-eqb n notZero e)
 
 -- ---- R9, R6, R7
 

@@ -77,6 +77,9 @@ isValue r = eqb (kind r) valueKind
 abbrev pub isEnd : List ℕ → Bool
 isEnd r = eqb (kind r) endKind
 
+abbrev pub isKnown : List ℕ → Bool
+isKnown r = isAxis r || (isValue r || isEnd r)
+
 -- an axis record: region, axis, start, peak, end; its other bytes are 0
 abbrev pub regionOf : List ℕ → ℕ
 regionOf r = getD r 1 0

@@ -8,7 +8,7 @@ use Rattle.laws.specs.Pick.{pick}
 use Rattle.limits.specs.Limits.{maxShapes, maxItems}
 -- the pair records that are lent beside work: fewer is WORK_SHORT
 pub use Rattle.limits.specs.Limits.{pairRecords}
-use Rattle.said.specs.Records.{recordsIn, areRecords, mostRecords, mostAxes, isAxis, isValue, isEnd, regionOf, axisOf, wrongByte}
+use Rattle.said.specs.Records.{recordsIn, areRecords, mostRecords, mostAxes, isAxis, isKnown, regionOf, axisOf, wrongByte}
 
 -- ---- their numbers
 
@@ -102,7 +102,7 @@ inTurn axes before r = eqb (regionOf r) (before / axes) && eqb (axisOf r) (befor
 unfoldable pub formNo : (axes before : ℕ) (late : Bool) (bytes : List ℕ) → ℕ
 formNo axes before late r =
     firstFailed
-    ((isAxis r || (isValue r || isEnd r), unknownKind)
+    ((isKnown r, unknownKind)
     ∷ (eqb (wrongByte r) 0, notZero)
     ∷ (not (isAxis r) || inTurn axes before r, axisOutOfTurn)
     ∷ (not (isAxis r) || not late, axisTooLate)

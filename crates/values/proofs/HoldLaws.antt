@@ -21,9 +21,9 @@ use Rattle.said.specs.Sets.{has, withUse, indexIn, withEntry, withValue, firstL
 use Rattle.said.specs.Job.{Said, afterValue, afterEnd}
 use Rattle.values.specs.Lent.{Stamps, Uses, UsedNow, PutEntry, Holds, ValueFits, PutValue, TookValue, EndedSet}
 use Rattle.said.specs.LentGood.{SetsGood}
-use Rattle.said.specs.Records.{regionOf, valueZeros, valueWord}
-use Rattle.said.specs.Refusals.{badRecord, unknownRegion, regionTwice, valueNo}
-use Rattle.said.proofs.RecordLaws.{value-bad, value-unknown, value-twice, value-passed}
+use Rattle.said.specs.Records.{regionOf, valueWord}
+use Rattle.said.specs.Refusals.{unknownRegion, regionTwice, valueNo}
+use Rattle.said.proofs.RecordLaws.{value-unknown, value-twice, value-passed}
 use Rattle.values.proofs.EntryLaws.{entries-kept}
 use Rattle.said.proofs.GoodLaws.{good-value, good-end}
 
@@ -205,28 +205,25 @@ module _ {t : SetTables} {s : Said} {sets uses start count : ℕ} {w : List ℕ}
     count-few = omega arith;
   }
 
-  pub took-bad : valueZeros r ≡ false → TookValue r t s sets uses start count w w badRecord uses count
-  took-bad z = stopped badRecord (value-bad r (length (s .regions)) _ z) (λ e. omega arith)
-
-  pub took-unknown : valueZeros r ≡ true → t .regions ≤ regionOf r → TookValue r t s sets uses start count w w unknownRegion uses count
-  took-unknown z l = stopped unknownRegion (value-unknown r (length (s .regions)) _ z (omega (arith, h .regions-are))) (λ e. omega arith)
+  pub took-unknown : t .regions ≤ regionOf r → TookValue r t s sets uses start count w w unknownRegion uses count
+  took-unknown l = stopped unknownRegion (value-unknown r (length (s .regions)) _ (omega (arith, h .regions-are))) (λ e. omega arith)
 
   module _ (l : regionOf r < t .regions) (mark : ℕ) (m : mark ≡ sets + 1) (q : ℕ) (e : q ≡ getD w (t .first + regionOf r) 0) where
     named-is : eqb (getD w (t .stamp + q) 0) mark ≡ has (firstLike (s .regions) (regionOf r)) (s .named)
     named-is = rw (m, e) (h .stamps .here (getD w (t .first + regionOf r) 0) (h .firsts-low (regionOf r) l) ∙ rw (h .firsts (regionOf r) l))
 
-    pub took-twice : valueZeros r ≡ true → getD w (t .stamp + q) 0 ≡ mark → TookValue r t s sets uses start count w w regionTwice uses count
-    took-twice z y =
-        stopped regionTwice (value-twice r (length (s .regions)) _ z (omega (arith, h .regions-are)) (sym named-is ∙ eq-eqb (getD w (t .stamp + q) 0) mark y)) (λ x. omega arith)
+    pub took-twice : getD w (t .stamp + q) 0 ≡ mark → TookValue r t s sets uses start count w w regionTwice uses count
+    took-twice y =
+        stopped regionTwice (value-twice r (length (s .regions)) _ (omega (arith, h .regions-are)) (sym named-is ∙ eq-eqb (getD w (t .stamp + q) 0) mark y)) (λ x. omega arith)
 
-    pub took-on : valueZeros r ≡ true → (getD w (t .stamp + q) 0 ≡ mark → ⊥)
+    pub took-on : (getD w (t .stamp + q) 0 ≡ mark → ⊥)
         → (v : ℕ) → v ≡ valueWord r → (w′ : List ℕ) (nr uses′ count′ : ℕ) → PutValue q v t s sets uses start count w w′ nr uses′ count′
         → TookValue r t s sets uses start count w w′ nr uses′ count′
-    took-on z d v x w′ nr uses′ count′ p =
+    took-on d v x w′ nr uses′ count′ p =
         let f : q ≡ firstLike (s .regions) (regionOf r) = e ∙ h .firsts (regionOf r) l in
         let n : has (firstLike (s .regions) (regionOf r)) (s .named) ≡ false = sym named-is ∙ ne-eqb (getD w (t .stamp + q) 0) mark d in
         record {
-          no-is = p .no-is ∙ value-passed r (length (s .regions)) _ z (omega (arith, h .regions-are)) n;
+          no-is = p .no-is ∙ value-passed r (length (s .regions)) _ (omega (arith, h .regions-are)) n;
           now-holds = λ _. rw (← x, ← f) (p .now-holds (rw f n));
           only = p .only;
           uses-few = p .uses-few;

@@ -1,9 +1,8 @@
-// A value record: its refusal, or the value in its set.
+// A value record whose form is right: its refusal, or the value in its set.
 use crate::tables::SetTables;
 use crate::tables::put_entry;
 use crate::tables::use_region;
 use laws::wide;
-use records::fine_at;
 use records::region_at;
 use records::word_at;
 use said::Refusal;
@@ -71,7 +70,7 @@ fn put_value(
     }
 }
 
-// Record i, a value record: refusals 5, 6 and 7 in their order, or the value in its set.
+// Record i, a value record whose form is right: refusals 6 and 7 in their order, or the value in its set.
 pub fn take_value(
     job: &[u8],
     i: usize,
@@ -87,13 +86,6 @@ pub fn take_value(
     ensures { λ r. ⌜ ((s : Said) (sets : ℕ) → mark ≡ sets + 1 → Holds (now (work .entry)) t s sets uses start count
         → TookValue (recordAt (now (job .entry)) i) t s sets uses start count (now (work .entry)) (now (work .exit)) (r .no) (r .uses) (r .count)) ⌝ }
 {
-    if !fine_at(job, i) {
-        return Took {
-            no: Refusal::BAD_RECORD,
-            uses,
-            count,
-        };
-    }
     let r = region_at(job, i);
     if t.regions <= r {
         return Took {

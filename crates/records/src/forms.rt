@@ -1,0 +1,113 @@
+// The form of one record, by the bytes from its first one on: the byte that must be 0 and is not, and refusals 30 to 34.
+use crate::byte_wide;
+use crate::nth::Kind;
+use crate::region_of;
+use said::Refusal;
+ghost use mathlib.Core.Path.{_≡_};
+ghost use mathlib.Core.Bool.{true};
+ghost use mathlib.Core.List.{_++_};
+ghost use Prim.Native.Nat.{ℕ, _%_, _<_, _≤_};
+ghost use lib.ListN.{length};
+ghost use Rattle.said.specs.Records.{recordBytes, isKnown, firstNotZero, wrongByte};
+ghost use Rattle.said.specs.Refusals.{inTurn, formNo};
+ghost use Rattle.records.specs.Lent.{between};
+
+// The first byte from `from` up to `to` that is not 0; 0 where all are.
+fn not_zero(rec: &[u8], from: usize, to: usize) -> usize
+    requires { ⌜ to ≤ length (now rec) ⌝ }
+    ensures { λ r. ⌜ r ≡ firstNotZero (now (rec .entry)) (between from to) ⌝ }
+{
+    let mut b = from;
+    while b < to {
+        if rec[b] != 0 {
+            return b;
+        }
+        b += 1;
+    }
+    0
+}
+
+// The same of two parts.
+fn not_zero_in(rec: &[u8], from: usize, to: usize, then: usize, end: usize) -> usize
+    requires { ⌜ (0 < from) × (to ≤ length (now rec)) × (end ≤ length (now rec)) ⌝ }
+    ensures { λ r. ⌜ r ≡ firstNotZero (now (rec .entry)) (between from to ++ between then end) ⌝ }
+{
+    let b = not_zero(rec, from, to);
+    if b != 0 {
+        return b;
+    }
+    not_zero(rec, then, end)
+}
+
+// The first byte that must be 0 and is not; 0 where all are.
+pub fn wrong_byte(rec: &[u8]) -> usize
+    requires { ⌜ recordBytes ≤ length (now rec) ⌝ }
+    ensures { λ r. ⌜ r ≡ wrongByte (now (rec .entry)) ⌝ }
+{
+    let kind = rec[0];
+    if kind == Kind::VALUE {
+        return not_zero_in(rec, 2, 4, 8, 12);
+    }
+    if kind == Kind::END {
+        return not_zero(rec, 1, 12);
+    }
+    if kind == Kind::AXIS {
+        return not_zero_in(rec, 3, 4, 10, 12);
+    }
+    0
+}
+
+// Its kind is one that there is.
+fn is_known(rec: &[u8]) -> bool
+    requires { ⌜ recordBytes ≤ length (now rec) ⌝ }
+    ensures { λ r. ⌜ r ≡ isKnown (now (rec .entry)) ⌝ }
+{
+    let kind = rec[0];
+    if kind == Kind::VALUE {
+        return true;
+    }
+    if kind == Kind::END {
+        return true;
+    }
+    kind == Kind::AXIS
+}
+
+// An axis record is the next one after so many.
+fn in_turn(rec: &[u8], axes: usize, before: usize) -> bool
+    requires { ⌜ (0 < axes) × (recordBytes ≤ length (now rec)) ⌝ }
+    ensures { λ r. ⌜ r ≡ inTurn axes before (now (rec .entry)) ⌝ }
+{
+    if region_of(rec) != before / axes {
+        return false;
+    }
+    byte_wide(rec[2]) == before % axes
+}
+
+// Refusals 30 to 34. A value or an end stands only behind whole regions, so that one that is late need not divide.
+pub fn form_no(rec: &[u8], axes: usize, before: usize, late: bool) -> usize
+    requires { ⌜ (0 < axes) × (recordBytes ≤ length (now rec)) × (late ≡ true → before % axes ≡ 0) ⌝ }
+    ensures { λ r. ⌜ r ≡ formNo axes before late (now (rec .entry)) ⌝ }
+{
+    if !is_known(rec) {
+        return Refusal::UNKNOWN_KIND;
+    }
+    if wrong_byte(rec) != 0 {
+        return Refusal::NOT_ZERO;
+    }
+    if rec[0] == Kind::AXIS {
+        if !in_turn(rec, axes, before) {
+            return Refusal::AXIS_OUT_OF_TURN;
+        }
+        if late {
+            return Refusal::AXIS_TOO_LATE;
+        }
+        return 0;
+    }
+    if late {
+        return 0;
+    }
+    if before % axes != 0 {
+        return Refusal::REGION_UNFINISHED;
+    }
+    0
+}
