@@ -9,12 +9,14 @@ use Rattle.laws.specs.LentRange.{Only}
 use Rattle.sets.specs.Set.{Set}
 use Rattle.sets.specs.Lent.{entries, entriesAt, countOf}
 use Rattle.said.specs.Records.{recordAt, regionFrom}
-use Rattle.said.specs.Job.{Said, inSets, regionsOnly, refused, fine, recordsFrom}
+use Rattle.said.specs.Job.{Said, inSets, stop, on, regionsOnly, step, refused, fine, recordsFrom}
 use Rattle.values.specs.declared.tables.SetTables.{SetTables}
+use Rattle.values.specs.declared.values.Took.{Took}
 use Rattle.said.specs.Sets.{Region, coordinates, regionList, firstLike}
-use Rattle.values.specs.Lent.{Holds}
+use Rattle.values.specs.Lent.{Holds, ValueFits}
 use Rattle.limits.specs.Limits.{mostRecords}
 use Rattle.job_scan.specs.declared.reading.SetsEnd.{SetsEnd}
+use Rattle.job_scan.specs.declared.reading.SoFar.{SoFar}
 
 -- a region as a set: its coordinates by their numbers, from k on
 unfoldable pub asSet : ℕ → Region → Set
@@ -72,6 +74,20 @@ pub record SetsRead (axes mode : ℕ) (job : List ℕ) (records from : ℕ) (t :
 abbrev pub refusedEnd : ℕ → ℕ → SetsEnd
 refusedEnd n i = record { no = n; at = i; sets = 0; values = 0; uses = 0 }
 
+abbrev pub stoppedBy : ℕ → SoFar
+stoppedBy n = record { no = n; sets = 0; values = 0; uses = 0; start = 0; count = 0; begun = 0 }
+
+-- ---- one record of the sets
+
+abbrev pub begunAt : ℕ → SoFar
+begunAt start = record { no = 0; sets = 0; values = 0; uses = 0; start = start; count = 0; begun = 0 }
+
+abbrev pub valueMore : SoFar → Took → SoFar
+valueMore f k = record { no = k .no; sets = f .sets; values = f .values + 1; uses = k .uses; start = f .start; count = k .count; begun = 1 }
+
+abbrev pub endMore : SoFar → SoFar
+endMore f = record { no = 0; sets = f .sets + 1; values = f .values; uses = f .uses; start = f .start + 2 * f .count; count = 0; begun = 0 }
+
 -- what the end of a set asks of the tables
 pub record EndFits (w : List ℕ) (t : SetTables) (sets start count : ℕ) : Type 0 where
   pub row : t .rows + 2 * sets + 2 ≤ t .body
@@ -82,3 +98,37 @@ pub record EndFits (w : List ℕ) (t : SetTables) (sets start count : ℕ) : Typ
   pub first-to : t .first + t .regions ≤ length w
   pub body-low : t .body ≤ start
   pub long-few : t .used ≤ 4294967295
+
+-- what one more record asks of the tables
+pub record RecordFits (w : List ℕ) (t : SetTables) (f : SoFar) : Type 0 where
+  pub value-fits : ValueFits w t (f .uses) (f .start) (f .count)
+  pub end-fits : EndFits w t (f .sets) (f .start) (f .count)
+  pub few : f .sets + f .values < mostRecords
+
+-- 0 for no region, else 1: what the code keeps of the regions that a set has named
+abbrev pub isOpen : List ℕ → ℕ
+isOpen [] = 0
+isOpen (q ∷ named) = 1
+
+-- work and counts are what s says, behind `from` axis records
+pub record Reached (axes from : ℕ) (w : List ℕ) (t : SetTables) (s : Said) (f : SoFar) : Type 0 where
+  pub held : Holds w t s (f .sets) (f .uses) (f .start) (f .count)
+  pub opened : f .begun ≡ isOpen (s .named)
+  pub closed : f .begun ≡ 0 → f .count ≡ 0
+  pub values-are : s .values ≡ f .values
+  pub regions-from : axes * length (s .regions) ≡ from
+
+-- record i leads on: to what is said then, and the counts have grown by one value or one set
+pub record RecordOn (axes mode : ℕ) (job : List ℕ) (i from : ℕ) (t : SetTables) (s : Said) (f : SoFar) (new : List ℕ) (r : SoFar) : Type 0 where
+  pub said : Said
+  pub is : step axes mode job (recordAt job i) i (inSets s) ≡ on (inSets said)
+  pub reached : Reached axes from new t said r
+  pub one : r .sets + r .values ≡ f .sets + f .values + 1
+  pub uses-few : r .uses + f .values ≤ f .uses + r .values
+  pub body-few : r .start + 2 * r .count + 2 * f .values ≤ f .start + 2 * f .count + 2 * r .values
+
+-- record i is refused by a number, or (it is 0) leads on
+pub record RecordRead (axes mode : ℕ) (job : List ℕ) (i from : ℕ) (t : SetTables) (s : Said) (f : SoFar) (old new : List ℕ) (r : SoFar) : Type 0 where
+  pub stops : (r .no ≡ 0 → ⊥) → step axes mode job (recordAt job i) i (inSets s) ≡ stop (r .no)
+  pub goes : r .no ≡ 0 → RecordOn axes mode job i from t s f new r
+  pub only : Only ((0, t .first) ∷ []) old new

@@ -1,6 +1,6 @@
 // The axis records that a job begins with.
 use records::Kind;
-use records::axis_at;
+use records::form_at;
 use records::kind_at;
 use said::Refusal;
 ghost use mathlib.Core.Path.{_≡_};
@@ -22,18 +22,12 @@ pub fn axes_end(job: &[u8], axes: usize, records: usize) -> AxesEnd
 {
     let mut i: usize = 0;
     while i < records {
-        if kind_at(job, i) != Kind::AXIS {
-            if i % axes != 0 {
-                return AxesEnd {
-                    no: Refusal::BAD_RECORD,
-                    at: i,
-                };
-            }
-            return AxesEnd { no: 0, at: i };
-        }
-        let no = axis_at(job, axes, i);
+        let no = form_at(job, axes, i, i, false);
         if no != 0 {
             return AxesEnd { no, at: i };
+        }
+        if kind_at(job, i) != Kind::AXIS {
+            return AxesEnd { no: 0, at: i };
         }
         i += 1;
     }

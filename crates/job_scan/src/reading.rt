@@ -1,19 +1,23 @@
 // The records of the sets: each refused at its place, or its set held in work.
+use limits::Limits;
 use records::Kind;
-use records::end_at;
+use records::form_at;
 use records::kind_at;
 use said::Refusal;
 use values::SetTables;
+use values::Took;
 use values::take_value;
 ghost use mathlib.Core.Path.{_≡_};
 ghost use mathlib.Core.List.{List};
-ghost use Prim.Native.Nat.{ℕ, _+_, _*_, _/_, _<_, _≤_};
+ghost use Prim.Native.Nat.{ℕ, _+_, _*_, _/_, _%_, _<_, _≤_};
 ghost use lib.ListN.{length};
+ghost use Rattle.limits.specs.Limits.{mostRecords};
 ghost use Rattle.said.specs.Records.{recordStart};
+ghost use Rattle.said.specs.Refusals.{endNo};
 ghost use Rattle.said.specs.Sets.{regionList};
 ghost use Rattle.said.specs.Job.{Said, regionsOnly};
 ghost use Rattle.values.specs.Lent.{Holds, EndedSet};
-ghost use Rattle.job_scan.specs.Lent.{Room, EndFits, SetsRead, refusedEnd};
+ghost use Rattle.job_scan.specs.Lent.{Room, EndFits, RecordFits, Reached, RecordRead, SetsRead, refusedEnd, stoppedBy, begunAt, valueMore, endMore};
 
 // A refusal number with its place, or 0 and the counts.
 pub struct SetsEnd {
@@ -22,6 +26,18 @@ pub struct SetsEnd {
     pub sets: usize,
     pub values: usize,
     pub uses: usize,
+}
+
+// A refusal number, or 0 and how far the sets are read: how many have ended, the values, the regions in use; where the entries of the set that
+// has not ended start, how many there are, and 1 if it has named a region.
+pub struct SoFar {
+    pub no: usize,
+    pub sets: usize,
+    pub values: usize,
+    pub uses: usize,
+    pub start: usize,
+    pub count: usize,
+    pub begun: usize,
 }
 
 // A refusal: it has no counts.
@@ -37,6 +53,80 @@ fn refuse(no: usize, at: usize) -> SetsEnd
     }
 }
 
+// The same of one record.
+fn stop(no: usize) -> SoFar
+    ensures { λ r. ⌜ r ≡ stoppedBy no ⌝ }
+{
+    SoFar {
+        no,
+        sets: 0,
+        values: 0,
+        uses: 0,
+        start: 0,
+        count: 0,
+        begun: 0,
+    }
+}
+
+// Before the first record of the sets.
+fn begin(start: usize) -> SoFar
+    ensures { λ r. ⌜ r ≡ begunAt start ⌝ }
+{
+    SoFar {
+        no: 0,
+        sets: 0,
+        values: 0,
+        uses: 0,
+        start,
+        count: 0,
+        begun: 0,
+    }
+}
+
+// One value more, by what became of it.
+fn value_more(f: SoFar, k: Took) -> SoFar
+    requires { ⌜ f .values < mostRecords ⌝ }
+    ensures { λ r. ⌜ r ≡ valueMore f k ⌝ }
+{
+    SoFar {
+        no: k.no,
+        sets: f.sets,
+        values: f.values + 1,
+        uses: k.uses,
+        start: f.start,
+        count: k.count,
+        begun: 1,
+    }
+}
+
+// One set more.
+fn end_more(f: SoFar) -> SoFar
+    requires { ⌜ (f .sets < mostRecords) × (f .start + 2 * f .count ≤ 4294967295) ⌝ }
+    ensures { λ r. ⌜ r ≡ endMore f ⌝ }
+{
+    SoFar {
+        no: 0,
+        sets: f.sets + 1,
+        values: f.values,
+        uses: f.uses,
+        start: f.start + 2 * f.count,
+        count: 0,
+        begun: 0,
+    }
+}
+
+// Refusal 9, of an end after so many others.
+fn end_no(mode: u32, sets: usize) -> usize
+    ensures { λ r. ⌜ r ≡ endNo mode sets ⌝ }
+{
+    if mode == 1 {
+        if sets == Limits::ITEMS {
+            return Refusal::SETS_FULL;
+        }
+    }
+    0
+}
+
 // Writes the row of a set that has ended.
 fn end_set(work: &mut [u32], t: SetTables, sets: usize, start: usize, count: usize)
     requires { ⌜ EndFits (now work) t sets start count ⌝ }
@@ -46,6 +136,46 @@ fn end_set(work: &mut [u32], t: SetTables, sets: usize, start: usize, count: usi
     let rows = t.rows;
     work[rows + 2 * sets] = start as u32;
     work[rows + 2 * sets + 1] = count as u32;
+}
+
+// Reads record i, behind `from` axis records and behind a value or an end.
+fn read_record(
+    job: &[u8],
+    axes: usize,
+    i: usize,
+    from: usize,
+    mode: u32,
+    work: &mut [u32],
+    t: SetTables,
+    f: SoFar,
+) -> SoFar
+    requires { ⌜ (0 < axes) × (recordStart (i + 1) ≤ length (now job)) × (from % axes ≡ 0) ⌝ }
+    requires { ⌜ RecordFits (now work) t f ⌝ }
+    ensures { λ r. ⌜ ((s : Said) → Reached axes from (now (work .entry)) t s f → RecordRead axes mode (now (job .entry)) i from t s f (now (work .entry)) (now (work .exit)) r) ⌝ }
+{
+    let no = form_at(job, axes, i, from, true);
+    if no != 0 {
+        return stop(no);
+    }
+    if kind_at(job, i) == Kind::VALUE {
+        let k = take_value(
+            job,
+            i,
+            work,
+            t,
+            (f.sets + 1) as u32,
+            f.uses,
+            f.start,
+            f.count,
+        );
+        return value_more(f, k);
+    }
+    let full = end_no(mode, f.sets);
+    if full != 0 {
+        return stop(full);
+    }
+    end_set(work, t, f.sets, f.start, f.count);
+    end_more(f)
 }
 
 // Reads the records from record `from` on, which follow the axis records of so many regions of `axes` axes.
@@ -58,53 +188,28 @@ pub fn read_sets(
     work: &mut [u32],
     t: SetTables,
 ) -> SetsEnd
-    requires { ⌜ (from ≤ records) × (recordStart records ≤ length (now job)) ⌝ }
+    requires { ⌜ (from ≤ records) × (recordStart records ≤ length (now job)) × (0 < axes) × (from % axes ≡ 0) ⌝ }
     requires { ⌜ Room t records (length (now work)) ⌝ }
     requires { ⌜ Holds (now work) t (regionsOnly (regionList axes (from / axes) (now job))) 0 0 (t .body) 0 ⌝ }
     ensures { λ r. ⌜ SetsRead axes mode (now (job .entry)) records from t (now (work .entry)) (now (work .exit)) (r .no) (r .at) (r .sets) (r .values) (r .uses) ⌝ }
 {
+    let mut f = begin(t.body);
     let mut i = from;
-    let mut sets: usize = 0;
-    let mut values: usize = 0;
-    let mut uses: usize = 0;
-    let mut start = t.body;
-    let mut count: usize = 0;
-    let mut begun: usize = 0;
     while i < records {
-        let kind = kind_at(job, i);
-        if kind == Kind::VALUE {
-            let k = take_value(job, i, work, t, (sets + 1) as u32, uses, start, count);
-            if k.no != 0 {
-                return refuse(k.no, i);
-            }
-            uses = k.uses;
-            count = k.count;
-            values += 1;
-            begun = 1;
-            i += 1;
-        } else if kind == Kind::END {
-            let no = end_at(job, i, mode, sets);
-            if no != 0 {
-                return refuse(no, i);
-            }
-            end_set(work, t, sets, start, count);
-            start = start + 2 * count;
-            count = 0;
-            sets += 1;
-            begun = 0;
-            i += 1;
-        } else {
-            return refuse(Refusal::BAD_RECORD, i);
+        f = read_record(job, axes, i, from, mode, work, t, f);
+        if f.no != 0 {
+            return refuse(f.no, i);
         }
+        i += 1;
     }
-    if begun != 0 {
+    if f.begun != 0 {
         return refuse(Refusal::UNFINISHED, i);
     }
     SetsEnd {
         no: 0,
         at: 0,
-        sets,
-        values,
-        uses,
+        sets: f.sets,
+        values: f.values,
+        uses: f.uses,
     }
 }

@@ -23,7 +23,8 @@ use Rattle.said.specs.Sets.{Region}
 use Rattle.said.specs.Job.{Said, Outcome, refused, fine, inAxes, recordsFrom}
 use Rattle.said.specs.LentOpen.{Open}
 use Rattle.said.proofs.SaidLaws.{room-of}
-use Rattle.said.proofs.SoundLaws.{Bytes, Coordinates, WellSaid, well-said, first-passed, fine-walk}
+use Rattle.said.proofs.RecordLaws.{first-passed}
+use Rattle.said.proofs.SoundLaws.{Bytes, Coordinates, WellSaid, well-said, fine-walk}
 use Rattle.encoder.specs.Packed.{Packed}
 use Rattle.finishing.specs.declared.answers.Report.{Report}
 use Rattle.finishing.specs.declared.answers.Built.the-variants.{Done}

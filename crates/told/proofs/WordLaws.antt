@@ -9,10 +9,10 @@ use lib.Dec.{ltb}
 use borrow.Author.Tests.{eq-eqb, ne-eqb, ltb-true}
 use Rattle.laws.proofs.Cases.{Which, which, same-or-not}
 use Rattle.laws.proofs.Cases.Which.{holds, fails}
-use Rattle.said.specs.Records.{kind, valueZeros, regionOf, recordAt}
+use Rattle.said.specs.Records.{kind, regionOf, recordAt}
 use Rattle.said.specs.Refusals.{valueNo}
 use Rattle.said.specs.Sets.{has, withUse, indexIn}
-use Rattle.said.proofs.SoundLaws.{first-passed}
+use Rattle.said.proofs.RecordLaws.{first-passed}
 use Rattle.said.proofs.IndexLaws.{has-snoc, index-snoc-old, with-known, with-new}
 use Rattle.told.specs.Told.{countKind}
 
@@ -33,8 +33,7 @@ not-true false h = refl
 pub value-fine : (r : List ℕ) (regions : ℕ) (named : Bool) → valueNo r regions named ≡ 0 → (regionOf r < regions) × (named ≡ false)
 unfolding valueNo
 value-fine r regions named z =
-    let a = first-passed (valueZeros r) 4 ((ltb (regionOf r) regions, 6) ∷ (not named, 7) ∷ []) z in
-    let b = first-passed (ltb (regionOf r) regions) 5 ((not named, 7) ∷ []) (a .1) in
+    let b = first-passed (ltb (regionOf r) regions) 5 ((not named, 7) ∷ []) z in
     let c = first-passed (not named) 6 [] (b .1) in
     (ltb-true (regionOf r) regions (b .0), not-true named (c .0))
 

@@ -36,7 +36,7 @@ tables-at-requires c κs = let a = c .before .before .before .before .before .be
 read-sets-requires : tie.Need-read-sets-requires
 read-sets-requires c κs = let a = c .before .before .before .before .before .before .before .before .before .before .before .args in
     let e = c .before .before .before .before .before .before .before .before .axes-end in
-    ((e .ensures .within, omega (arith, c .before .before .before .before .before .before .before .before .before .before .before .pre)), ready (c .before .tables-at .result) (a .axes) (e .result .at / a .axes) (a .records) (a .job .now) (a .work .now) _ (c .before .tables-at .ensures) (c .before .before .before .before .prepare .ensures))
+    ((e .ensures .within, omega (arith, c .before .before .before .before .before .before .before .before .before .before .before .pre), c .before .before .before .before .before .before .before .before .before .before .before .pre .1, e .ensures .whole (c .before .before .before .before .before .before .if1 .left)), ready (c .before .tables-at .result) (a .axes) (e .result .at / a .axes) (a .records) (a .job .now) (a .work .now) _ (c .before .tables-at .ensures) (c .before .before .before .before .prepare .ensures))
 
 same-length : tie.Need-same-length
 same-length c = search needs
