@@ -11,15 +11,36 @@ use borrow.Author.Tests.{eq-eqb, ne-eqb}
 use Rattle.laws.specs.Pick.{pick}
 use Rattle.laws.proofs.Cases.{same-or-not}
 use Rattle.said.specs.Records.{recordAt}
-use Rattle.said.specs.Job.{Said, State, inAxes, inSets, regionsOnly, Outcome, refused, fine, ended, endedSets, recordsFrom}
+use Rattle.said.specs.Job.{Said, State, inAxes, inSets, regionsOnly, saidAt, Outcome, refused, fine, ended, endedSets, recordsFrom}
 use Rattle.refusing.specs.Exactly.{Exactly}
-use Rattle.refusing.specs.Counts.{Unfinished}
+use Rattle.refusing.specs.Counts.{RecordNo, Unfinished}
+use Rattle.refusing.specs.Counts.RecordNo.{of-form, of-region, of-sets}
 use Rattle.refusing.specs.Counts.Unfinished.{inside-region, inside-set}
-use Rattle.refusing.proofs.Passing.{StopsAt, EndsAs, saidAt}
+use Rattle.refusing.proofs.Passing.{StopsAt, EndsAs}
 use Rattle.refusing.proofs.StepLaws.{stop-no}
 use Rattle.refusing.proofs.StateLaws.{Means, not-axes}
 use Rattle.refusing.proofs.WalkRows.{Way, way, stops-given}
 use Rattle.refusing.proofs.WalkRows.Way.{stopped, came}
+
+-- ---- the numbers
+
+pub not-eight : (n : ℕ) → RecordNo n → n ≡ 8 → ⊥
+not-eight n (of-form l h) e = omega arith
+not-eight n (of-region v) e = ⊎-elim (λ (z : n ≡ 6). omega arith) (λ (z : n ≡ 7). omega arith) v
+not-eight n (of-sets z) e = omega arith
+
+-- of a record or of the end
+pub record WalkNo (n : ℕ) : Type 0 where
+  pub low : 6 ≤ n
+  pub high : n ≤ 34
+  pub gap : 9 < n → 30 ≤ n
+
+pub record-walk : (n : ℕ) → RecordNo n → WalkNo n
+record-walk n (of-form l h) = record { low = omega arith; high = omega arith; gap = λ g. omega arith }
+record-walk n (of-region v) =
+    ⊎-elim (λ (z : n ≡ 6). record { low = omega arith; high = omega arith; gap = λ g. omega arith })
+    (λ (z : n ≡ 7). record { low = omega arith; high = omega arith; gap = λ g. omega arith }) v
+record-walk n (of-sets z) = record { low = omega arith; high = omega arith; gap = λ g. omega arith }
 
 pub ended-no : (axes : ℕ) (job : List ℕ) (k : ℕ) (s : State) (n i : ℕ) → ended axes job k s ≡ refused n i → (n ≡ 8) × (i ≡ k)
 unfolding ended
@@ -58,20 +79,14 @@ module _ (axes mode : ℕ) (job : List ℕ) (records : ℕ) where
   ends-only o d e = go (way axes mode job records)
     where
       go : Way axes mode job records (recordsFrom axes mode job job records 0 inAxes) → EndsAs axes mode job records o
-      go (stopped m j f a) = absurd (stop-no axes mode job (recordAt job j) j (a .state) m (a .stops) .not-eight (d m j (sym e ∙ f)))
+      go (stopped m j f a) = absurd (not-eight m (stop-no axes mode job (recordAt job j) j (a .state) m (a .stops)) (d m j (sym e ∙ f)))
       go (came a) = record { state = a .state; all-pass = a .all-pass; ends = a .ends ∙ e }
 
-  pub walk-no : (n i : ℕ) → recordsFrom axes mode job job records 0 inAxes ≡ refused n i → (5 ≤ n) × (n ≤ 9)
-  walk-no n i e = ⊎-elim eight record-no (same-or-not n 8)
-    where
-      eight : n ≡ 8 → (5 ≤ n) × (n ≤ 9)
-      eight h = (omega arith, omega arith)
-
-      record-no : (n ≡ 8 → ⊥) → (5 ≤ n) × (n ≤ 9)
-      record-no d =
-          let a = stops-only n i d e in
-          let b = stop-no axes mode job (recordAt job i) i (a .state) n (a .stops) in
-          (b .low, b .high)
+  pub walk-no : (n i : ℕ) → recordsFrom axes mode job job records 0 inAxes ≡ refused n i → WalkNo n
+  walk-no n i e =
+      ⊎-elim (λ (z : n ≡ 8). record { low = omega arith; high = omega arith; gap = λ h. omega arith })
+      (λ d. let a = stops-only n i d e in record-walk n (stop-no axes mode job (recordAt job i) i (a .state) n (a .stops)))
+      (same-or-not n 8)
 
 -- ---- the end of a job
 

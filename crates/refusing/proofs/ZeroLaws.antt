@@ -1,89 +1,170 @@
--- Bytes that are to be 0: all are, or one is not. Assumes nothing.
-use mathlib.Core.Path.{_≡_, refl, sym, ap, _∙_}
-use mathlib.Core.Bool.{Bool, true, false, _&&_}
+-- The bytes of a record that must be 0: all are, or there is a first that is not. Assumes nothing.
+use mathlib.Core.Path.{_≡_, refl, sym, subst, _∙_}
+use mathlib.Core.Bool.{true, false, _||_}
 use mathlib.Core.List.{List, [], _∷_}
-use mathlib.Core.Logic.{_⊎_, inl, inr, ⊎-elim}
-use Prim.Native.Nat.{ℕ, zero, suc, _+_, _≤_, _<_}
+use mathlib.Core.Logic.{_⊎_, ⊎-elim}
+use Prim.Native.Nat.{ℕ, _≤_, _<_}
 use native.Mathlib.Omega.{arith}
 use lib.ListN.{getD}
 use lib.Dec.{eqb}
-use borrow.Author.Tests.{eq-eqb, ne-eqb, eqb-true, eqb-false}
-use Rattle.laws.specs.Bounded.{allBelow}
-use Rattle.laws.proofs.BoundedLaws.{all-at, all-intro, all-false}
-use Rattle.laws.proofs.Cases.{and-true}
-use Rattle.said.specs.Records.{zeros, axisZeros, valueZeros, endZeros}
-use Rattle.refusing.specs.Counts.{Zeros, NotZero}
-use Rattle.refusing.proofs.FailedLaws.{and-false, and-both, and-first, and-second}
+use borrow.Author.Tests.{eq-eqb, ne-eqb, eqb-true}
+use Rattle.laws.proofs.Cases.{Tri, tri, same-or-not, or-left, or-right, or-cases, true-false}
+use Rattle.laws.proofs.Cases.Tri.{below, same, above}
+use Rattle.said.specs.Records.{kind, mustBeZero, firstNotZero, wrongByte}
+use Rattle.said.specs.Refusals.{notZero, byteOf}
+use Rattle.said.specs.Sets.{has}
+use Rattle.refusing.specs.Counts.{AllZero, NotZeroAt}
 
-found : (n : ℕ) (f : ℕ → Bool) → allBelow n f ≡ false → (k : ℕ) × (k < n) × (f k ≡ false)
-unfolding allBelow
-found zero f e = let z : _≡_ {A = ℕ} 0 1 = cc in absurd (omega arith)
-found (suc n) f e = ⊎-elim (λ (a : allBelow n f ≡ false). let x = found n f a in let h = x .1 in (x .0, omega arith, x .2)) (λ (b : f n ≡ false). (n, omega arith, b)) (and-false (allBelow n f) (f n) e)
+-- ---- any bytes, in rising order
+
+-- numbers that rise, each above `low`
+abbrev Rising : ℕ → List ℕ → Type 0
+Rising low [] = Unit {0}
+Rising low (b ∷ l) = (low < b) × Rising b l
+
+rising-above : (low : ℕ) (l : List ℕ) → Rising low l → (b : ℕ) → has b l ≡ true → low < b
+unfolding has
+rising-above low [] u b h = absurd (true-false h refl)
+rising-above low (x ∷ l) u b h = go (λ e. rising-above x l (u .1) b e) (u .0)
+  where
+    go : (has b l ≡ true → x < b) → low < x → low < b
+    go rec h′ =
+        ⊎-elim (λ (e : eqb b x ≡ true). let z = eqb-true b x e in omega arith) (λ (e : has b l ≡ true). let z = rec e in omega arith)
+        (or-cases (eqb b x) (has b l) h)
+
+-- what is found in them
+data Looked (r l : List ℕ) : Type 0 where
+  all-are : ((b : ℕ) → has b l ≡ true → getD r b 0 ≡ 0) → firstNotZero r l ≡ 0 → Looked r l
+  one-not : has (firstNotZero r l) l ≡ true → (getD r (firstNotZero r l) 0 ≡ 0 → ⊥)
+      → ((a : ℕ) → a < firstNotZero r l → has a l ≡ true → getD r a 0 ≡ 0) → 0 < firstNotZero r l → Looked r l
+
+module _ (r : List ℕ) (x : ℕ) (l : List ℕ) where
+  -- a zero before them
+  zero-first : getD r x 0 ≡ 0 → firstNotZero r (x ∷ l) ≡ firstNotZero r l
+  unfolding firstNotZero
+  zero-first z = rw (eq-eqb (getD r x 0) 0 z)
+
+  one-or-more : getD r x 0 ≡ 0 → (b : ℕ) → (has b l ≡ true → getD r b 0 ≡ 0) → has b (x ∷ l) ≡ true → getD r b 0 ≡ 0
+  unfolding has
+  one-or-more z b rec h =
+      ⊎-elim (λ (e : eqb b x ≡ true). subst (λ (k : ℕ). getD r k 0 ≡ 0) (sym (eqb-true b x e)) z) (λ (e : has b l ≡ true). rec e)
+      (or-cases (eqb b x) (has b l) h)
+
+  zero-looked : getD r x 0 ≡ 0 → Looked r l → Looked r (x ∷ l)
+  unfolding has
+  zero-looked z (all-are a e) = all-are (λ b h. one-or-more z b (a b) h) (zero-first z ∙ e)
+  zero-looked z (one-not h d a s) =
+      let e = sym (zero-first z) in
+      one-not (or-right (eqb (firstNotZero r (x ∷ l)) x) (has (firstNotZero r (x ∷ l)) l) (subst (λ (k : ℕ). has k l ≡ true) e h))
+      (subst (λ (k : ℕ). getD r k 0 ≡ 0 → ⊥) e d)
+      (λ b less m. one-or-more z b (a b (omega arith)) m)
+      (omega arith)
+
+  -- a byte before them that is not 0
+  here-first : (getD r x 0 ≡ 0 → ⊥) → firstNotZero r (x ∷ l) ≡ x
+  unfolding firstNotZero
+  here-first d = rw (ne-eqb (getD r x 0) 0 d)
+
+  here-looked : (low : ℕ) → Rising low (x ∷ l) → (getD r x 0 ≡ 0 → ⊥) → Looked r (x ∷ l)
+  unfolding has
+  here-looked low u d =
+      let e = here-first d in
+      let h = u .0 in
+      one-not (or-left (eqb (firstNotZero r (x ∷ l)) x) (has (firstNotZero r (x ∷ l)) l) (eq-eqb (firstNotZero r (x ∷ l)) x e))
+      (subst (λ (k : ℕ). getD r k 0 ≡ 0 → ⊥) (sym e) d)
+      (λ b less m. absurd (none b (omega arith) m))
+      (omega arith)
+    where
+      none : (b : ℕ) → b < x → has b (x ∷ l) ≡ true → ⊥
+      none b less m =
+          ⊎-elim (λ (e : eqb b x ≡ true). let z = eqb-true b x e in omega arith) (λ (e : has b l ≡ true). let z = rising-above x l (u .1) b e in omega arith)
+          (or-cases (eqb b x) (has b l) m)
+
+looked : (r : List ℕ) (low : ℕ) (l : List ℕ) → Rising low l → Looked r l
+unfolding has firstNotZero
+looked r low [] u = all-are (λ b h. absurd (true-false h refl)) refl
+looked r low (x ∷ l) u = go (looked r x l (u .1))
+  where
+    go : Looked r l → Looked r (x ∷ l)
+    go rec = ⊎-elim (λ (z : getD r x 0 ≡ 0). zero-looked r x l z rec) (λ d. here-looked r x l low u d) (same-or-not (getD r x 0) 0)
+
+-- ---- those of a record
+
+must-rise : (k : ℕ) → Rising 0 (mustBeZero k)
+unfolding mustBeZero
+must-rise k =
+    ⊎-elim (λ (e : k ≡ 1). rw (eq-eqb k 1 e) (omega arith, (omega arith, (omega arith, tt))))
+    (λ a. ⊎-elim (λ (e : k ≡ 2). rw (ne-eqb k 1 a, eq-eqb k 2 e) (omega arith, (omega arith, (omega arith, (omega arith, (omega arith, (omega arith, tt)))))))
+    (λ b. ⊎-elim
+    (λ (e : k ≡ 3). rw (ne-eqb k 1 a, ne-eqb k 2 b, eq-eqb k 3 e)
+    (omega arith, (omega arith, (omega arith, (omega arith, (omega arith, (omega arith, (omega arith, (omega arith, (omega arith, (omega arith, (omega arith, tt))))))))))))
+    (λ d. rw (ne-eqb k 1 a, ne-eqb k 2 b, ne-eqb k 3 d) tt)
+    (same-or-not k 3))
+    (same-or-not k 2))
+    (same-or-not k 1)
 
 module _ (r : List ℕ) where
-  module _ (p n : ℕ) where
-    pub zeros-all : zeros r p n ≡ true → Zeros r p n
-    unfolding zeros
-    zeros-all e k h = eqb-true (getD r (p + k) 0) 0 (all-at n (λ t. eqb (getD r (p + t) 0) 0) k e h)
+  -- R31: all zero, or the byte that is named
+  pub data ZerosOf : Type 0 where
+    all-zero : AllZero r → wrongByte r ≡ 0 → ZerosOf
+    not-zero : NotZeroAt r (wrongByte r) → 0 < wrongByte r → ZerosOf
 
-    pub all-zeros : Zeros r p n → zeros r p n ≡ true
-    unfolding zeros
-    all-zeros z = all-intro n (λ t. eqb (getD r (p + t) 0) 0) (λ k h. eq-eqb (getD r (p + k) 0) 0 (z k h))
+  pub zeros-of : ZerosOf
+  unfolding wrongByte
+  zeros-of = go (looked r 0 (mustBeZero (kind r)) (must-rise (kind r)))
+    where
+      go : Looked r (mustBeZero (kind r)) → ZerosOf
+      go (all-are a e) = all-zero a e
+      go (one-not h d a s) = not-zero (record { must = h; is-not = d; first = a }) s
 
-    pub zeros-not : zeros r p n ≡ false → NotZero r p n
-    unfolding zeros
-    zeros-not e =
-        let x = found n (λ t. eqb (getD r (p + t) 0) 0) e in
-        record { byte = x .0; within = x .1; is-not = eqb-false (getD r (p + x .0) 0) 0 (x .2) }
+  pub zeros-all : wrongByte r ≡ 0 → AllZero r
+  zeros-all e = go zeros-of
+    where
+      go : ZerosOf → AllZero r
+      go (all-zero a z) = a
+      go (not-zero n s) = absurd (omega arith)
 
-    pub not-zeros : NotZero r p n → zeros r p n ≡ false
-    unfolding zeros
-    not-zeros z = all-false n (λ t. eqb (getD r (p + t) 0) 0) (z .byte) (z .within) (ne-eqb (getD r (p + z .byte) 0) 0 (z .is-not))
+  pub not-all : (b : ℕ) → NotZeroAt r b → AllZero r → ⊥
+  not-all b n a = n .is-not (a b (n .must))
 
-  module _ (p n q m : ℕ) where
-    two-not : zeros r p n && zeros r q m ≡ false → NotZero r p n ⊎ NotZero r q m
-    two-not e = ⊎-elim (λ (a : zeros r p n ≡ false). inl (zeros-not p n a)) (λ (b : zeros r q m ≡ false). inr (zeros-not q m b)) (and-false (zeros r p n) (zeros r q m) e)
+  pub all-zeros : AllZero r → wrongByte r ≡ 0
+  all-zeros a = go zeros-of
+    where
+      go : ZerosOf → wrongByte r ≡ 0
+      go (all-zero b z) = z
+      go (not-zero n s) = absurd (not-all (wrongByte r) n a)
 
-    not-two : NotZero r p n ⊎ NotZero r q m → zeros r p n && zeros r q m ≡ false
-    not-two z =
-        ⊎-elim (λ (a : NotZero r p n). and-first (zeros r p n) (zeros r q m) (not-zeros p n a)) (λ (b : NotZero r q m). and-second (zeros r p n) (zeros r q m) (not-zeros q m b)) z
+  pub zeros-not : (wrongByte r ≡ 0 → ⊥) → NotZeroAt r (wrongByte r)
+  zeros-not d = go zeros-of
+    where
+      go : ZerosOf → NotZeroAt r (wrongByte r)
+      go (all-zero a z) = absurd (d z)
+      go (not-zero n s) = n
 
-  pub axis-not : axisZeros r ≡ false → NotZero r 3 1 ⊎ NotZero r 10 2
-  unfolding axisZeros
-  axis-not e = two-not 3 1 10 2 e
+  -- there is one first byte
+  pub one-first : (b c : ℕ) → NotZeroAt r b → NotZeroAt r c → b ≡ c
+  one-first b c n m = go (tri b c)
+    where
+      go : Tri b c → b ≡ c
+      go (below h) = absurd (n .is-not (m .first b h (n .must)))
+      go (same e) = e
+      go (above h) = absurd (m .is-not (n .first c h (m .must)))
 
-  pub not-axis : NotZero r 3 1 ⊎ NotZero r 10 2 → axisZeros r ≡ false
-  unfolding axisZeros
-  not-axis z = not-two 3 1 10 2 z
+  pub not-zeros : (b : ℕ) → NotZeroAt r b → (wrongByte r ≡ b) × (0 < wrongByte r)
+  not-zeros b n = go zeros-of
+    where
+      go : ZerosOf → (wrongByte r ≡ b) × (0 < wrongByte r)
+      go (all-zero a z) = absurd (not-all b n a)
+      go (not-zero m s) = (one-first (wrongByte r) b m n, s)
 
-  pub value-not : valueZeros r ≡ false → NotZero r 2 2 ⊎ NotZero r 8 4
-  unfolding valueZeros
-  value-not e = two-not 2 2 8 4 e
+  -- the byte that a refusal names
+  pub byte-wrong : byteOf notZero r ≡ wrongByte r
+  unfolding byteOf
+  byte-wrong = refl
 
-  pub not-value : NotZero r 2 2 ⊎ NotZero r 8 4 → valueZeros r ≡ false
-  unfolding valueZeros
-  not-value z = not-two 2 2 8 4 z
+  pub byte-is : (b : ℕ) → NotZeroAt r b → byteOf notZero r ≡ b
+  byte-is b n = byte-wrong ∙ not-zeros b n .0
 
-  pub value-all : valueZeros r ≡ true → Zeros r 2 2 × Zeros r 8 4
-  unfolding valueZeros
-  value-all e = let x = and-true (zeros r 2 2) (zeros r 8 4) e in (zeros-all 2 2 (x .0), zeros-all 8 4 (x .1))
-
-  pub all-value : Zeros r 2 2 → Zeros r 8 4 → valueZeros r ≡ true
-  unfolding valueZeros
-  all-value a b = and-both (zeros r 2 2) (zeros r 8 4) (all-zeros 2 2 a) (all-zeros 8 4 b)
-
-  pub end-not : endZeros r ≡ false → NotZero r 1 11
-  unfolding endZeros
-  end-not e = zeros-not 1 11 e
-
-  pub not-end : NotZero r 1 11 → endZeros r ≡ false
-  unfolding endZeros
-  not-end z = not-zeros 1 11 z
-
-  pub end-all : endZeros r ≡ true → Zeros r 1 11
-  unfolding endZeros
-  end-all e = zeros-all 1 11 e
-
-  pub all-end : Zeros r 1 11 → endZeros r ≡ true
-  unfolding endZeros
-  all-end z = all-zeros 1 11 z
+  pub byte-none : (n : ℕ) → (n ≡ notZero → ⊥) → byteOf n r ≡ 0
+  unfolding byteOf
+  byte-none n d = rw (ne-eqb n notZero d)

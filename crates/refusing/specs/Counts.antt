@@ -1,17 +1,22 @@
--- What is counted of the records before a record of a job, and R5 to R9 by that: by the job's bytes alone. Assumes nothing.
+-- What is counted of the records before a record of a job, and R6 to R9, R30 to R34 by that: by the job's bytes alone. Where a record breaks several,
+-- the first of R30 to R34, R6, R7, R9 is true of it, and no other (T2). Assumes nothing.
 use mathlib.Core.Path.{_≡_}
+use mathlib.Core.Bool.{true}
 use mathlib.Core.Logic.{_⊎_}
 use mathlib.Core.List.{List, []}
-use Prim.Native.Nat.{ℕ, suc, _+_, _/_, _%_, _≤_, _<_}
+use Prim.Native.Nat.{ℕ, suc, _/_, _%_, _≤_, _<_}
 use lib.ListN.{length, getD}
-use Rattle.said.specs.Records.{kind, regionOf, axisOf, recordAt, recordCount}
-use Rattle.said.specs.Sets.{Region, regionList}
+use Rattle.said.specs.Records.{kind, axisKind, valueKind, endKind, mustBeZero, regionOf, axisOf, recordAt, recordCount}
+use Rattle.said.specs.Refusals.{unknownRegion, regionTwice, setsFull, unknownKind, regionUnfinished}
+use Rattle.said.specs.Sets.{Region, regionList, has}
 use Rattle.told.specs.Told.{countKind, endsBefore}
 use Rattle.limits.specs.Limits.{maxItems}
 
+-- ---- what stands before record i
+
 -- how many of the first i records are axis records
 abbrev pub axisRecords : List ℕ → ℕ → ℕ
-axisRecords job i = countKind 1 job i
+axisRecords job i = countKind axisKind job i
 
 -- the end records of the whole job
 abbrev pub endRecords : List ℕ → ℕ
@@ -25,31 +30,58 @@ knownRegions axes job i = regionList axes (axisRecords job i / axes) job
 abbrev pub InRegion : ℕ → List ℕ → ℕ → Type 0
 InRegion axes job i = axisRecords job i % axes ≡ 0 → ⊥
 
--- the n bytes from byte p on are 0; one of them is not
-abbrev pub Zeros : List ℕ → ℕ → ℕ → Type 0
-Zeros r p n = (k : ℕ) → k < n → getD r (p + k) 0 ≡ 0
+-- ---- the form of a record
 
-pub record NotZero (r : List ℕ) (p n : ℕ) : Type 0 where
-  pub byte : ℕ
-  pub within : byte < n
-  pub is-not : getD r (p + byte) 0 ≡ 0 → ⊥
+-- byte b is one that must be 0 in a record of its kind
+abbrev pub MustBeZero : List ℕ → ℕ → Type 0
+MustBeZero r b = has b (mustBeZero (kind r)) ≡ true
 
--- R5 BAD_RECORD
-pub data BadRecord (axes : ℕ) (job : List ℕ) (i : ℕ) (r : List ℕ) : Type 0 where
-  unknown-kind : (kind r ≡ 1 → ⊥) → (kind r ≡ 2 → ⊥) → (kind r ≡ 3 → ⊥) → BadRecord axes job i r
-  axis-zero : kind r ≡ 1 → NotZero r 3 1 ⊎ NotZero r 10 2 → BadRecord axes job i r
-  value-zero : kind r ≡ 2 → NotZero r 2 2 ⊎ NotZero r 8 4 → BadRecord axes job i r
-  end-zero : kind r ≡ 3 → NotZero r 1 11 → BadRecord axes job i r
-  -- region by region, and in each axis by axis: the numbers of axis record i are fixed
-  axis-order : kind r ≡ 1 → (regionOf r ≡ i / axes → ⊥) ⊎ (axisOf r ≡ i % axes → ⊥) → BadRecord axes job i r
-  axis-late : kind r ≡ 1 → axisRecords job i < i → BadRecord axes job i r
-  in-region : (kind r ≡ 2) ⊎ (kind r ≡ 3) → InRegion axes job i → BadRecord axes job i r
+-- each of these bytes is 0
+abbrev pub AllZero : List ℕ → Type 0
+AllZero r = (b : ℕ) → MustBeZero r b → getD r b 0 ≡ 0
+
+-- R30 UNKNOWN_KIND
+pub record UnknownKind (r : List ℕ) : Type 0 where
+  pub no-axis : kind r ≡ axisKind → ⊥
+  pub no-value : kind r ≡ valueKind → ⊥
+  pub no-end : kind r ≡ endKind → ⊥
+
+-- R31 NOT_ZERO: byte b is the first of these bytes that is not 0
+pub record NotZeroAt (r : List ℕ) (b : ℕ) : Type 0 where
+  pub must : MustBeZero r b
+  pub is-not : getD r b 0 ≡ 0 → ⊥
+  pub first : (a : ℕ) → a < b → MustBeZero r a → getD r a 0 ≡ 0
+
+-- the numbers of an axis record whose turn it is: region by region, and in each axis by axis
+pub record InTurn (axes : ℕ) (job : List ℕ) (i : ℕ) (r : List ℕ) : Type 0 where
+  pub region-next : regionOf r ≡ axisRecords job i / axes
+  pub axis-next : axisOf r ≡ axisRecords job i % axes
+
+-- R32 AXIS_OUT_OF_TURN
+pub record OutOfTurn (axes : ℕ) (job : List ℕ) (i : ℕ) (r : List ℕ) : Type 0 where
+  pub is-axis : kind r ≡ axisKind
+  pub all-zero : AllZero r
+  pub other : InTurn axes job i r → ⊥
+
+-- R33 AXIS_TOO_LATE: a value or an end stands before it
+pub record TooLate (axes : ℕ) (job : List ℕ) (i : ℕ) (r : List ℕ) : Type 0 where
+  pub is-axis : kind r ≡ axisKind
+  pub all-zero : AllZero r
+  pub in-turn : InTurn axes job i r
+  pub late : axisRecords job i < i
+
+-- R34 REGION_UNFINISHED
+pub record InUnfinished (axes : ℕ) (job : List ℕ) (i : ℕ) (r : List ℕ) : Type 0 where
+  pub value-or-end : (kind r ≡ valueKind) ⊎ (kind r ≡ endKind)
+  pub all-zero : AllZero r
+  pub in-region : InRegion axes job i
+
+-- ---- values and ends
 
 -- a value record with its zeros, not inside an unfinished region
 pub record ValueHere (axes : ℕ) (job : List ℕ) (i : ℕ) (r : List ℕ) : Type 0 where
-  pub is-value : kind r ≡ 2
-  pub zeros-two : Zeros r 2 2
-  pub zeros-eight : Zeros r 8 4
+  pub is-value : kind r ≡ valueKind
+  pub all-zero : AllZero r
   pub whole : axisRecords job i % axes ≡ 0
 
 -- R6 UNKNOWN_REGION
@@ -61,7 +93,7 @@ pub record UnknownRegion (axes : ℕ) (job : List ℕ) (i : ℕ) (r : List ℕ) 
 pub record NamedBefore (axes : ℕ) (job : List ℕ) (i q : ℕ) : Type 0 where
   pub place : ℕ
   pub before-it : place < i
-  pub one-set : (k : ℕ) → place ≤ k → k < i → kind (recordAt job k) ≡ 2
+  pub one-set : (k : ℕ) → place ≤ k → k < i → kind (recordAt job k) ≡ valueKind
   pub same : getD (knownRegions axes job i) (regionOf (recordAt job place)) [] ≡ getD (knownRegions axes job i) q []
 
 -- R7 REGION_TWICE
@@ -72,14 +104,22 @@ pub record RegionTwice (axes : ℕ) (job : List ℕ) (i : ℕ) (r : List ℕ) : 
 
 -- R9 SETS_FULL: 65,535 end records stand before this one
 pub record SetsFull (axes mode : ℕ) (job : List ℕ) (i : ℕ) (r : List ℕ) : Type 0 where
-  pub is-end : kind r ≡ 3
-  pub zeros-one : Zeros r 1 11
+  pub is-end : kind r ≡ endKind
+  pub all-zero : AllZero r
   pub whole : axisRecords job i % axes ≡ 0
   pub mode-one : mode ≡ 1
   pub full : endsBefore job i ≡ maxItems
+
+-- the numbers that a record can be refused by
+pub data RecordNo (n : ℕ) : Type 0 where
+  of-form : unknownKind ≤ n → n ≤ regionUnfinished → RecordNo n
+  of-region : (n ≡ unknownRegion) ⊎ (n ≡ regionTwice) → RecordNo n
+  of-sets : n ≡ setsFull → RecordNo n
+
+-- ---- the end of the job
 
 -- R8 UNFINISHED
 pub data Unfinished (axes : ℕ) (job : List ℕ) (records : ℕ) : Type 0 where
   inside-region : InRegion axes job records → Unfinished axes job records
   -- its last record is a value
-  inside-set : (k : ℕ) → suc k ≡ records → kind (recordAt job k) ≡ 2 → Unfinished axes job records
+  inside-set : (k : ℕ) → suc k ≡ records → kind (recordAt job k) ≡ valueKind → Unfinished axes job records
