@@ -17,7 +17,8 @@ use Rattle.values.specs.Lent.{Holds, ValueFits, TookValue, EndedSet}
 use Rattle.job_scan.specs.declared.reading.SetsEnd.{SetsEnd}
 use Rattle.job_scan.specs.declared.reading.SoFar.{SoFar}
 use Rattle.job_scan.specs.Lent.{Room, EndFits, RecordFits, isOpen, Reached, RecordOn, RecordRead, SetsHeld, SetsRead, refusedEnd, stoppedBy, begunAt, valueMore, endMore}
-use Rattle.job_scan.proofs.WalkLaws.{unless-stop, unless-on, regions-from, form-stops, value-steps, end-steps, left, after, turn-stop, turn-on, at-end}
+use Rattle.said.proofs.StepLaws.{unless-stop, unless-on, regions-from, form-stops, value-steps, end-steps}
+use Rattle.job_scan.proofs.WalkLaws.{left, after, turn-stop, turn-on, at-end}
 
 -- ---- one record
 

@@ -3,6 +3,7 @@ pub mod RegionLaws
 pub mod IndexLaws
 pub mod GoodLaws
 pub mod MeaningLaws
+pub mod StepLaws
 pub mod WalkLaws
 pub mod SaidLaws
 pub mod SoundLaws
