@@ -48,8 +48,9 @@ module _ (c : Lending) where
 module _ (c : Lending) where
   some-early : (n p : ℕ) → n ≤ 4 → answerOf c ≡ Refused n p → early c ≡ 0 → ⊥
   some-early n p h e z =
-      let f = job-only c n p (omega arith) e in
+      let f = job-only c n p (λ x. omega arith) e in
       let g = walk-no (c .axes) (c .mode) (c .job) (length (c .job) / 12) n p (sym (outcome-walked c z) ∙ f) in
+      let l = g .low in
       omega arith
 
   none-early : (n p : ℕ) → 5 ≤ n → answerOf c ≡ Refused n p → early c ≡ 0

@@ -3,8 +3,7 @@ use mathlib.Core.Path.{_≡_, refl, sym, ap, subst, _∙_}
 use mathlib.Core.Bool.{true, false, _||_}
 use mathlib.Core.List.{List, [], _∷_}
 use mathlib.Core.Logic.{_⊎_, inl, inr, ⊎-elim}
-use Prim.Native.Nat.{ℕ, zero, suc, _+_, _-_, _*_, _/_, _%_, _≤_, _<_}
-use native.Mathlib.Nat.{div-add-mod}
+use Prim.Native.Nat.{ℕ, zero, suc, _-_, _*_, _/_, _%_, _≤_, _<_}
 use native.Mathlib.Omega.{arith}
 use lib.ListN.{length, length-append}
 use lib.Dec.{eqb}
@@ -14,7 +13,7 @@ use Rattle.said.specs.Records.{kind, regionOf, valueWord, recordAt}
 use Rattle.said.specs.Sets.{Region, regionList, firstLike, has}
 use Rattle.said.specs.Job.{Said, State, inAxes, inSets, Step, stop, on, unless, afterValue, afterEnd, valueStep, endStep, regionsOnly, saidAt, axesBefore, isLate, step}
 use Rattle.said.proofs.RecordLaws.{Formed, form-passed}
-use Rattle.said.proofs.RegionLaws.{regions-length}
+use Rattle.said.proofs.StepLaws.{regions-from}
 use Rattle.said.proofs.SaidLaws.{value-known}
 use Rattle.told.proofs.WordLaws.{count-here, count-past, count-most}
 use Rattle.told.specs.Told.{countKind, endsBefore}
@@ -136,11 +135,7 @@ module _ (axes : ℕ) (job : List ℕ) (i : ℕ) where
   unfolding axesBefore saidAt
   before-is inAxes m = sym (m .in-axes refl)
   before-is (inSets s) m =
-      let n = axisRecords job i in
-      let z = m .in-sets (not-axes s) .1 in
-      let d = div-add-mod n axes in
-      let e : axes * (n / axes) ≡ n = omega arith in
-      ap (λ (k : ℕ). axes * k) (ap length (m .regions-are) ∙ regions-length axes (n / axes) job) ∙ e
+      ap (λ (l : List Region). axes * length l) (m .regions-are) ∙ regions-from axes job (axisRecords job i) (m .in-sets (not-axes s) .1)
 
   pub late-is : (t : State) → Means axes job i t → Exactly (isLate t ≡ true) (axisRecords job i < i)
   unfolding isLate

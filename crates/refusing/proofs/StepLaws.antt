@@ -14,6 +14,7 @@ use Rattle.said.specs.Refusals.{formNo, valueNo, endNo}
 use Rattle.said.specs.Sets.{firstLike, has}
 use Rattle.said.specs.Job.{Said, State, inAxes, Step, stop, on, unless, valueStep, endStep, saidAt, axesBefore, isLate, kindStep, step}
 use Rattle.said.proofs.RecordLaws.{form-passed}
+use Rattle.said.proofs.StepLaws.{unless-stop, unless-on}
 use Rattle.refusing.specs.Counts.{RecordNo}
 use Rattle.refusing.specs.Counts.RecordNo.{of-form, of-region, of-sets}
 use Rattle.refusing.proofs.FailedLaws.{among}
@@ -31,15 +32,8 @@ unfolding unless
 unless-no zero s n e = absurd (not-stop s n e)
 unless-no (suc k) s n e = let z : suc k ≡ n = cc in (z, omega arith)
 
-pub unless-stops : (k : ℕ) (x : Step) (n : ℕ) → k ≡ n → 0 < n → unless k x ≡ stop n
-unfolding unless
-unless-stops zero x n e h = absurd (omega arith)
-unless-stops (suc k) x n e h = ap stop e
-
-unless-goes : (k : ℕ) (x : Step) → k ≡ 0 → unless k x ≡ x
-unfolding unless
-unless-goes zero x e = refl
-unless-goes (suc k) x e = absurd (omega arith)
+unless-stops : (k : ℕ) (x : Step) (n : ℕ) → k ≡ n → 0 < n → unless k x ≡ stop n
+unless-stops k x n e h = unless-stop k x (λ z. omega arith) ∙ ap stop e
 
 -- ---- a record at its place
 
@@ -57,7 +51,7 @@ module _ (axes mode : ℕ) (job r : List ℕ) (i : ℕ) (s : State) where
 
   form-goes : formTold ≡ 0 → step axes mode job r i s ≡ kindStep mode r said
   unfolding step
-  form-goes e = unless-goes formTold (kindStep mode r said) e
+  form-goes e = unless-on formTold (kindStep mode r said) e
 
   pub data Looks : Type 0 where
     bad : (n : ℕ) → formTold ≡ n → 0 < n → step axes mode job r i s ≡ stop n → Looks
