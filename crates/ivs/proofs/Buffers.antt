@@ -19,7 +19,8 @@ use Rattle.finishing.specs.Buffers.{Lengths, lengths}
 use Rattle.finishing.specs.Late.{lateNo, buffersLeft}
 use Rattle.packer.specs.Lending.{Lending, noPair}
 use Rattle.packer.specs.Build.{coordsInUse, packedOf, leftFrom, pairsLeft, outcomeOf, answerOf, after}
-use Rattle.ivs.proofs.OutcomeRows.{early, outcome-by, outcome-walked, walk-no, early-few, walked-only, job-only, late-many, late, Answers, answers}
+use Rattle.refusing.proofs.WalkEnds.{walk-no}
+use Rattle.ivs.proofs.OutcomeRows.{early, outcome-by, outcome-walked, early-few, walked-only, job-only, late-many, late, Answers, answers}
 use Rattle.ivs.proofs.OutcomeRows.Answers.{by-job, by-late, done}
 
 -- ---- output, ids, map and log
@@ -47,8 +48,9 @@ module _ (c : Lending) where
 module _ (c : Lending) where
   some-early : (n p : ℕ) → n ≤ 4 → answerOf c ≡ Refused n p → early c ≡ 0 → ⊥
   some-early n p h e z =
-      let f = job-only c n p (omega arith) e in
+      let f = job-only c n p (λ x. omega arith) e in
       let g = walk-no (c .axes) (c .mode) (c .job) (length (c .job) / 12) n p (sym (outcome-walked c z) ∙ f) in
+      let l = g .low in
       omega arith
 
   none-early : (n p : ℕ) → 5 ≤ n → answerOf c ≡ Refused n p → early c ≡ 0

@@ -30,7 +30,7 @@ use denote.Triple.Clauses.{Lasts, lasts}
 use Rattle.finishing.specs.Buffers.{buffers}
 use Rattle.packer.specs.Lending.{lending, leaves}
 use Rattle.packer.specs.Build.{Obeys}
-use Rattle.ivs.specs.Answers.{numberOf, reportWords, filled, numberFew}
+use Rattle.ivs.specs.Answers.{numberOf, reportWords, filled, numberFew, byteWithin}
 use Rattle.pairs.specs.declared.Pair.{Pair}
 use Rattle.pairs.proofs.Pair as T
 use Rattle.finishing.specs.declared.answers.Built.{Built}
@@ -211,48 +211,58 @@ module _ {M : Type 1} (𝓤 : URA M) (H : Heap 𝓤) (A : Atoms 𝓤) (W : Given
         frame ! $
         done !)
 
-  module _ (C : Calls 𝓤 H) (fm : FmC 𝓤 H (W .laws) C) (known : Triple 𝓤 (C #ivs·tell) (Tell-of 𝓤 H A mem run)) (κ : Lft) (θ : Share) (γ : GName) (β ι : ℕ) (ν : ℕ) (report : List ℕ) (answer : Built) where
-    abbrev Loan-tell-call : Loan 𝓤 H A
-    Loan-tell-call = lent-ref (Array u64 tt 16) κ θ γ β ι 𝓤 H A W report
+  module _ (C : Calls 𝓤 H) (fm : FmC 𝓤 H (W .laws) C) (known : Triple 𝓤 (C #ivs·tell) (Tell-of 𝓤 H A mem run)) (κ : Lft) (θ : Share) (γ : GName) (β ι : ℕ) (ν : ℕ) (report : List ℕ) (κ₂ : Lft) (θ₂ : Share) (γ₂ : GName) (β₂ ι₂ : ℕ) (ν₂ : ℕ) (job : List ℕ) (answer : Built) where
+    abbrev Loan-tell-mut-see : Loan 𝓤 H A
+    Loan-tell-mut-see = both 𝓤 H A W (lent-ref (Array u64 tt 16) κ θ γ β ι 𝓤 H A W report) (lent-see u8 κ₂ θ₂ γ₂ β₂ ι₂ 𝓤 H A W job ν₂)
 
-    abbrev pub After-tell-call : Val → Item 𝓤
-    After-tell-call w = later (some (λ (r : ℕ). some (λ (x : List ℕ). given ((Unit {0}) × ((r ≡ numberOf answer) × (x ≡ filled 0 (reportWords answer) report))) (HasRef (Array u64 tt 16) κ θ γ β ι 𝓤 (x) ⊛ ‵ (u32 .own r (w ∷ []))))))
+    abbrev pub After-tell-mut-see : Val → Item 𝓤
+    After-tell-mut-see w = later (some (λ (r : ℕ). some (λ (x : List ℕ × Unit {0}). given ((Unit {0} × Unit {0}) × ((r ≡ numberOf answer) × ((x .0) ≡ filled 0 (reportWords job answer) report))) ((HasRef (Array u64 tt 16) κ θ γ β ι 𝓤 (x .0) ⊛ Sees u8 κ₂ θ₂ γ₂ β₂ ι₂ 𝓤 ν₂ job) ⊛ ‵ (u32 .own r (w ∷ []))))))
 
-    abbrev at-tell-call : (g : (ℕ × GName)) → Tell-of 𝓤 H A mem run .Ghost
-    at-tell-call g = (((g .0 ∷ [], tt), (fullShare, tt), tt, (at-ref (Array u64 tt 16) κ θ γ β ι (g .1) report, (answer, tt)), (vptr β ι ∷ [], (EL.val D.the-type D′.the-laws answer ∷ [], tt))), tt)
+    abbrev at-tell-mut-see : (g : (ℕ × GName) × Unit {0}) → Tell-of 𝓤 H A mem run .Ghost
+    at-tell-mut-see g = (((g .0 .0 ∷ [], (κ₂, tt)), (fullShare, (θ₂, tt)), tt, (at-ref (Array u64 tt 16) κ θ γ β ι (g .0 .1) report, (ref u8 κ₂ θ₂ γ₂ β₂ ι₂ γ₂ job, (answer, tt))), (vptr β ι ∷ [], (sliceVal (β₂, ι₂) ν₂ ∷ [], (EL.val D.the-type D′.the-laws answer ∷ [], tt)))), tt)
 
-    leaves-tell-call : (g : (ℕ × GName)) → (w : Val) → ent 𝓤 (Tell-of 𝓤 H A mem run .post (at-tell-call g) w) (mean 𝓤 H A (Gives 𝓤 H A W (Loan-tell-call) u32 (λ x r. (r ≡ numberOf answer) × (x ≡ filled 0 (reportWords answer) report)) g w))
-    leaves-tell-call g w =
-        qed W (later (some (λ (r : ℕ). ((‵ (flft (g .0 ∷ []) fullShare) ⊛ ‵ ftrue) ⊛ ‵ (u32 .own r (w ∷ [])))
-        ⊛ some (λ (ws : Lasts tell.ended (g .0 ∷ [], tt) (at-tell-call g .0 .3)). ‵ (lasts tell.ended (g .0 ∷ [], tt) (at-tell-call g .0 .3) ws) ⊛ raw (fact 𝓤 (r ≡ numberOf answer)) ⊛ raw (fact 𝓤 ((ws .0) ≡ filled 0 (reportWords answer) report))))) ∷ []) ∵
+    leaves-tell-mut-see : (g : (ℕ × GName) × Unit {0}) → (w : Val) → ent 𝓤 (Tell-of 𝓤 H A mem run .post (at-tell-mut-see g) w) (mean 𝓤 H A (Gives 𝓤 H A W (Loan-tell-mut-see) u32 (λ x r. (r ≡ numberOf answer) × ((x .0) ≡ filled 0 (reportWords job answer) report)) g w))
+    leaves-tell-mut-see g w =
+        qed W (later (some (λ (r : ℕ). ((‵ (flft (g .0 .0 ∷ []) fullShare) ⊛ ‵ (flft (κ₂) θ₂) ⊛ ‵ ftrue) ⊛ ‵ (u32 .own r (w ∷ [])))
+        ⊛ some (λ (ws : Lasts tell.ended (g .0 .0 ∷ [], (κ₂, tt)) (at-tell-mut-see g .0 .3)). ‵ (lasts tell.ended (g .0 .0 ∷ [], (κ₂, tt)) (at-tell-mut-see g .0 .3) ws) ⊛ raw (fact 𝓤 (r ≡ numberOf answer)) ⊛ raw (fact 𝓤 ((ws .0) ≡ filled 0 (reportWords job answer) report))))) ∷ []) ∵
         updating ! $ await ! tt $ pick ! (λ r. split ! $ move ! (1 ∷ []) $ pick ! (λ ws. split ! $
         move ! (1 ∷ []) $
         split ! $
         heard ! (r ≡ numberOf answer) (λ e₀.
-        heard ! ((ws .0) ≡ filled 0 (reportWords answer) report) (λ e₁.
+        heard ! ((ws .0) ≡ filled 0 (reportWords job answer) report) (λ e₁.
         fsplit ! $
         move ! (2 ∷ []) $
         split ! $
         split ! $
+        move ! (1 ∷ []) $
+        split ! $
         at-once ! $
-        move ! (0 ∷ 3 ∷ []) $
+        move ! (2 ∷ 4 ∷ []) $
         join ! $
-        keep ! (0 ∷ 2 ∷ []) $ by ! (gives 𝓤 H A W (Loan-tell-call) u32 (λ x r. (r ≡ numberOf answer) × (x ≡ filled 0 (reportWords answer) report)) g w r (ws .0) (tt, (e₀, e₁)))))))
+        join ! $
+        keep ! (0 ∷ 2 ∷ []) $ by ! (gives 𝓤 H A W (Loan-tell-mut-see) u32 (λ x r. (r ≡ numberOf answer) × ((x .0) ≡ filled 0 (reportWords job answer) report)) g w r ((ws .0, tt)) ((tt, tt), (e₀, e₁)))))))
 
-    pub tell-call : Is D.the-row answer (EL.val D.the-type D′.the-laws answer ∷ []) → (numberFew answer) → ent 𝓤 (mean 𝓤 H A (Loan-tell-call .held)) (H .⇛ (C #ivs·tell (vptr β ι ∷ EL.val D.the-type D′.the-laws answer ∷ []) (λ w. mean 𝓤 H A (After-tell-call w))))
-    tell-call g-answer l = loan-call 𝓤 H A W (Loan-tell-call) u32 (λ x r. (r ≡ numberOf answer) × (x ≡ filled 0 (reportWords answer) report)) C fm #ivs·tell (vptr β ι ∷ EL.val D.the-type D′.the-laws answer ∷ []) (λ g.
-        qed W (Loan-tell-call .goes g ∷ []) ∵
-        suffices ! (C #ivs·tell (vptr β ι ∷ EL.val D.the-type D′.the-laws answer ∷ []) (Tell-of 𝓤 H A mem run .post (at-tell-call g))) (fm→monoC 𝓤 H (W .laws) C fm #ivs·tell (vptr β ι ∷ EL.val D.the-type D′.the-laws answer ∷ []) (Tell-of 𝓤 H A mem run .post (at-tell-call g)) _ (leaves-tell-call g)) $
-        suffices ! (Tell-of 𝓤 H A mem run .pre (at-tell-call g)) (known (at-tell-call g)) $ split ! $
+    pub tell-mut-see : Is D.the-row answer (EL.val D.the-type D′.the-laws answer ∷ []) → ((numberFew answer) × (byteWithin job answer)) → ent 𝓤 (mean 𝓤 H A (Loan-tell-mut-see .held)) (H .⇛ (C #ivs·tell (vptr β ι ∷ sliceVal (β₂, ι₂) ν₂ ∷ EL.val D.the-type D′.the-laws answer ∷ []) (λ w. mean 𝓤 H A (After-tell-mut-see w))))
+    tell-mut-see g-answer l = loan-call 𝓤 H A W (Loan-tell-mut-see) u32 (λ x r. (r ≡ numberOf answer) × ((x .0) ≡ filled 0 (reportWords job answer) report)) C fm #ivs·tell (vptr β ι ∷ sliceVal (β₂, ι₂) ν₂ ∷ EL.val D.the-type D′.the-laws answer ∷ []) (λ g.
+        qed W (Loan-tell-mut-see .goes g ∷ []) ∵
+        suffices ! (C #ivs·tell (vptr β ι ∷ sliceVal (β₂, ι₂) ν₂ ∷ EL.val D.the-type D′.the-laws answer ∷ []) (Tell-of 𝓤 H A mem run .post (at-tell-mut-see g))) (fm→monoC 𝓤 H (W .laws) C fm #ivs·tell (vptr β ι ∷ sliceVal (β₂, ι₂) ν₂ ∷ EL.val D.the-type D′.the-laws answer ∷ []) (Tell-of 𝓤 H A mem run .post (at-tell-mut-see g)) _ (leaves-tell-mut-see g)) $
+        suffices ! (Tell-of 𝓤 H A mem run .pre (at-tell-mut-see g)) (known (at-tell-mut-see g)) $ split ! $
+        split ! $
+        move ! (2 ∷ []) $
+        split ! $
         nothing ! $
         move ! (1 ∷ 0 ∷ []) $
+        join ! $
+        move ! (2 ∷ 0 ∷ []) $
         join ! $
         nothing ! $
         owned ! D.the-row (Is D.the-row) (EL.makes D.the-type D′.the-plain 𝓤 H A) answer _ g-answer $
         fjoin ! $
         move ! (2 ∷ 0 ∷ []) $
         fjoin ! $
+        move ! (2 ∷ 0 ∷ []) $
+        fjoin ! $
         move ! (1 ∷ 0 ∷ []) $
         join ! $
         frame ! $
-        use0 W (raw (fact 𝓤 (numberFew answer))) (factI 𝓤 (numberFew answer) (emp 𝓤) l) $ done !)
+        use0 W (raw (fact 𝓤 ((numberFew answer) × (byteWithin job answer)))) (factI 𝓤 ((numberFew answer) × (byteWithin job answer)) (emp 𝓤) l) $ done !)

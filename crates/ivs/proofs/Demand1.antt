@@ -1,11 +1,10 @@
 -- D1 (specs/Demand1.antt), of every call. Assumes nothing.
-use native.Mathlib.Omega.{arith}
 use Rattle.packer.specs.Lending.{Lending}
 use Rattle.ivs.specs.Demand1.{Table, Kept, Demand1}
 use Rattle.ivs.proofs.Unique.{unique}
 use Rattle.ivs.proofs.OutcomeRows.{numbers}
 use Rattle.ivs.proofs.EarlyRows.{bad-axes, bad-mode, bad-job-length, work-short}
-use Rattle.ivs.proofs.RecordRows.{earliest-bad, bad-record, unknown-region, region-twice, sets-full}
+use Rattle.ivs.proofs.RecordRows.{earliest-bad, old-five, unknown-kind, not-zero, byte-elsewhere, axis-out-of-turn, axis-too-late, region-unfinished, unknown-region, region-twice, sets-full}
 use Rattle.ivs.proofs.EndRow.{unfinished, taken}
 use Rattle.ivs.proofs.LateRows.{shapes-full, ids-short, map-short, log-short, out-short, is-done}
 use Rattle.ivs.proofs.Buffers.{untouched, work-kept, pairs-kept, work-cleared, pairs-cleared, work-done, pairs-done}
@@ -18,7 +17,11 @@ module _ (c : Lending) where
     bad-mode = bad-mode c;
     bad-job-length = bad-job-length c;
     work-short = work-short c;
-    bad-record = bad-record c;
+    unknown-kind = unknown-kind c;
+    not-zero = not-zero c;
+    axis-out-of-turn = axis-out-of-turn c;
+    axis-too-late = axis-too-late c;
+    region-unfinished = region-unfinished c;
     unknown-region = unknown-region c;
     region-twice = region-twice c;
     unfinished = unfinished c;
@@ -29,9 +32,11 @@ module _ (c : Lending) where
     log-short = log-short c;
     out-short = out-short c;
     is-done = is-done c;
-    numbers = λ n p e. let h = numbers c n p e in (omega arith, omega arith);
+    numbers = numbers c;
+    byte-elsewhere = λ n p. byte-elsewhere c p n;
     taken = taken c;
     earliest = earliest-bad c;
+    old-five = old-five c;
   }
 
   kept : Kept c

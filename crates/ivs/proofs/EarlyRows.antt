@@ -15,9 +15,9 @@ use Rattle.finishing.specs.declared.answers.Built.{Built}
 use Rattle.finishing.specs.declared.answers.Built.the-variants.{Refused}
 use Rattle.packer.specs.Lending.{Lending}
 use Rattle.packer.specs.Build.{answerOf}
-use Rattle.ivs.specs.Exactly.{Exactly}
+use Rattle.refusing.specs.Exactly.{Exactly}
 use Rattle.ivs.specs.Fits.{AxesFit, ModeFit, LengthFit, WorkFit}
-use Rattle.ivs.proofs.FailedLaws.{Tests, this, failed, other, later, passed, one-of-two, second-failed, none-failed, and-false, and-both, and-first, and-second}
+use Rattle.refusing.proofs.FailedLaws.{Tests, this, failed, other, later, passed, one-of-two, second-failed, none-failed, and-false, and-both, and-first, and-second}
 use Rattle.ivs.proofs.OutcomeRows.{early-only, outcome-early, answer-refused, job-only}
 
 -- ---- the tests
@@ -176,7 +176,7 @@ module _ (c : Lending) (p : ℕ) where
   row : (n : ℕ) (Why : Type 0) → 0 < n → n ≤ 4 → Exactly (earlyNo (c .axes) (c .mode) (length (c .job)) (length (c .work)) (length (c .pairs)) ≡ n) Why → Exactly (answerOf c ≡ Refused n p) ((p ≡ 0) × Why)
   row n Why low high x = record {
     given = λ b. answer-refused c n p (rw (b .0) (outcome-early c n (x .given (b .1)) low));
-    only = λ e. let a = early-only c n p high (job-only c n p (omega arith) e) in (a .1, x .only (a .0));
+    only = λ e. let a = early-only c n p high (job-only c n p (λ z. omega arith) e) in (a .1, x .only (a .0));
   }
 
   -- R1 BAD_AXES

@@ -1,76 +1,25 @@
 -- Row 8 of the refusal table, exactly where it says; its place is the record count. And a job is taken exactly when each of its records is fine and it
 -- is finished. Assumes nothing.
 use mathlib.Core.Path.{_≡_, refl, sym, ap, ap₂, _∙_}
-use mathlib.Core.List.{List, [], _∷_}
-use Prim.Native.Nat.{ℕ, _/_, _%_, _<_}
+use Prim.Native.Nat.{ℕ, _/_}
 use native.Mathlib.Omega.{arith}
 use lib.ListN.{length}
-use lib.Dec.{eqb}
-use borrow.Author.Tests.{eq-eqb, ne-eqb}
-use Rattle.laws.specs.Pick.{pick}
 use Rattle.said.specs.Refusals.{earlyNo}
-use Rattle.said.specs.Job.{Said, State, inAxes, inSets, regionsOnly, Outcome, refused, fine, ended, endedSets}
+use Rattle.said.specs.Job.{Said, State, Outcome, refused, fine, ended}
 use Rattle.finishing.specs.declared.answers.Built.the-variants.{Refused}
 use Rattle.packer.specs.Lending.{Lending}
 use Rattle.packer.specs.Build.{outcomeOf, answerOf}
-use Rattle.ivs.specs.Exactly.{Exactly}
-use Rattle.ivs.proofs.Passing.{Passed, EndsAs, saidAt}
+use Rattle.refusing.specs.Exactly.{Exactly}
+use Rattle.refusing.proofs.Passing.{Passed, EndsAs}
 use Rattle.ivs.specs.Fits.{Fits}
-use Rattle.ivs.specs.Counts.{Unfinished}
-use Rattle.ivs.specs.Counts.Unfinished.{inside-region, inside-set}
+use Rattle.refusing.specs.Counts.{Unfinished}
 use Rattle.ivs.specs.Rows.{AllPass}
-use Rattle.ivs.proofs.WalkRows.{ends-given}
-use Rattle.ivs.proofs.OutcomeRows.{ended-no, ends-only, outcome-walked, walked-only, answer-refused, job-only}
+use Rattle.refusing.proofs.WalkRows.{ends-given}
+use Rattle.refusing.proofs.WalkEnds.{ended-no, ends-only, unfinished-is}
+use Rattle.ivs.proofs.OutcomeRows.{outcome-walked, walked-only, answer-refused, job-only}
 use Rattle.ivs.proofs.EarlyRows.{early-none}
-use Rattle.ivs.proofs.StateLaws.{Means, means, not-axes}
-use Rattle.ivs.proofs.FineLaws.{passed-fine, fine-passed}
-
--- ---- the end of a job
-
-module _ (axes : ℕ) (job : List ℕ) (k : ℕ) where
-  unfinished-axes : Means axes job k inAxes → Exactly (ended axes job k inAxes ≡ refused 8 k) (Unfinished axes job k)
-  unfolding ended saidAt regionsOnly
-  unfinished-axes m = record { given = given; only = only }
-    where
-      cut : (k % axes ≡ 0 → ⊥) → pick (eqb (k % axes) 0) (fine (saidAt axes job k inAxes)) (refused 8 k) ≡ refused 8 k
-      cut d = rw (ne-eqb (k % axes) 0 d)
-
-      given : Unfinished axes job k → ended axes job k inAxes ≡ refused 8 k
-      given (inside-region d) = cut (λ e. d (ap (λ (n : ℕ). n % axes) (m .in-axes refl) ∙ e))
-      given (inside-set j e v) = let h = m .set-open .given (j, e, v) in absurd (omega arith)
-
-      only : ended axes job k inAxes ≡ refused 8 k → Unfinished axes job k
-      only e =
-          inside-region (λ c.
-          let h : k % axes ≡ 0 = ap (λ (n : ℕ). n % axes) (sym (m .in-axes refl)) ∙ c in
-          let f = rw (eq-eqb (k % axes) 0 h) at e in
-          let z : _≡_ {A = ℕ} 0 1 = cc in
-          omega arith)
-
-  sets-some : (s : Said) (l : List ℕ) → 0 < length l → endedSets k s l ≡ refused 8 k
-  unfolding endedSets
-  sets-some s [] h = absurd (omega arith)
-  sets-some s (q ∷ l) h = refl
-
-  some-sets : (s : Said) (l : List ℕ) → endedSets k s l ≡ refused 8 k → 0 < length l
-  unfolding endedSets
-  some-sets s [] e = let z : _≡_ {A = ℕ} 0 1 = cc in absurd (omega arith)
-  some-sets s (q ∷ l) e = omega arith
-
-  unfinished-sets : (s : Said) → Means axes job k (inSets s) → Exactly (ended axes job k (inSets s) ≡ refused 8 k) (Unfinished axes job k)
-  unfolding ended saidAt
-  unfinished-sets s m = record { given = given; only = only }
-    where
-      given : Unfinished axes job k → ended axes job k (inSets s) ≡ refused 8 k
-      given (inside-region d) = absurd (d (m .in-sets (not-axes s) .1))
-      given (inside-set j e v) = sets-some s (s .named) (m .set-open .given (j, e, v))
-
-      only : ended axes job k (inSets s) ≡ refused 8 k → Unfinished axes job k
-      only e = let o = m .set-open .only (some-sets s (s .named) e) in inside-set (o .0) (o .1) (o .2)
-
-  unfinished-is : (s : State) → Means axes job k s → Exactly (ended axes job k s ≡ refused 8 k) (Unfinished axes job k)
-  unfinished-is inAxes m = unfinished-axes m
-  unfinished-is (inSets s) m = unfinished-sets s m
+use Rattle.refusing.proofs.StateLaws.{means}
+use Rattle.refusing.proofs.FineLaws.{passed-fine, fine-passed}
 
 -- ---- the row
 
@@ -100,7 +49,7 @@ module _ (c : Lending) where
         rw (b .0) (answer-refused c 8 records (is-ended (refused 8 records) (a .fits)
         (record { state = t .0; all-pass = t .1; ends = unfinished-is (c .axes) (c .job) records (t .0) m .given (a .why) })));
     only = λ e.
-        let a = ended-is (refused 8 p) (λ n q f. cc) (job-only c 8 p (omega arith) e) in
+        let a = ended-is (refused 8 p) (λ n q f. cc) (job-only c 8 p (λ z. omega arith) e) in
         let x = a .1 in
         let at : p ≡ records = ended-no (c .axes) (c .job) records (x .state) 8 p (x .ends) .1 in
         let m = means (c .axes) (c .mode) (c .job) records (x .state) (x .all-pass) in (
@@ -120,7 +69,7 @@ module _ (c : Lending) where
   pub taken-passes : (s : Said) → outcomeOf c ≡ fine s → EndsAs (c .axes) (c .mode) (c .job) records (fine s)
   taken-passes s e = ended-is (fine s) (not-refused s) e .1
 
-  -- taken, by none of 1 to 9 refused: every record is fine, and the job is finished
+  -- taken: every record is fine, and the job is finished
   pub taken : Exactly ((s : Said) × (outcomeOf c ≡ fine s)) (AllPass c (Unfinished (c .axes) (c .job) records → ⊥))
   taken = record {
     given = λ b.

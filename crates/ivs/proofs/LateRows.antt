@@ -21,10 +21,10 @@ use Rattle.finishing.specs.Late.{lateNo, storeFor, reportOf}
 use Rattle.packer.specs.Lending.{Lending}
 use Rattle.packer.specs.Build.{coordsInUse, packedOf, outcomeOf, answerOf}
 use Rattle.packer.proofs.PastLaws.{ids-long}
-use Rattle.ivs.specs.Exactly.{Exactly}
-use Rattle.ivs.specs.Counts.{endRecords}
+use Rattle.refusing.specs.Exactly.{Exactly}
+use Rattle.refusing.specs.Counts.{endRecords}
 use Rattle.ivs.specs.Rooms.{Taken, shapeCount, distinctIds, storeBytes, ShapesFit, IdsFit, MapFit, LogFit, OutFit}
-use Rattle.ivs.proofs.FailedLaws.{Tests, this, failed, other, later, passed, none-failed}
+use Rattle.refusing.proofs.FailedLaws.{Tests, this, failed, other, later, passed, none-failed}
 use Rattle.ivs.proofs.OutcomeRows.{late, answer-late, answer-done, late-only, Answers, answers}
 use Rattle.ivs.proofs.OutcomeRows.Answers.{by-job, by-late, done}
 
@@ -188,35 +188,35 @@ ends-of c s e = told (c .axes) (c .mode) (c .job) (length (c .work)) (length (c 
 
 module _ (c : Lending) where
   module _ (p : ℕ) where
-    row : (n : ℕ) (Why : Said → Type 0) → 10 ≤ n → ((s : Said) → length (s .sets) ≡ endRecords (c .job) → Exactly (late c s ≡ n) (Why s))
+    row : (n : ℕ) (Why : Said → Type 0) → 10 ≤ n → n ≤ 14 → ((s : Said) → length (s .sets) ≡ endRecords (c .job) → Exactly (late c s ≡ n) (Why s))
         → Exactly (answerOf c ≡ Refused n p) ((p ≡ 0) × Taken c Why)
-    row n Why low x = record {
+    row n Why low high x = record {
       given = λ b. rw (b .0) (answer-late c (b .1 .said) n (b .1 .sound) (x (b .1 .said) (ends-of c (b .1 .said) (b .1 .sound)) .given (b .1 .holds)) (omega arith));
       only = λ e.
-          let a = late-only c n p low e in
+          let a = late-only c n p low high e in
           (a .0, record { said = a .1; sound = a .2; holds = x (a .1) (ends-of c (a .1) (a .2)) .only (a .3) });
     }
 
     -- R10 SHAPES_FULL
     pub shapes-full : Exactly (answerOf c ≡ Refused 10 p) ((p ≡ 0) × Taken c (λ s. ((c .mode) ≡ 0) × (1024 < shapeCount (c .mode) s)))
-    shapes-full = row 10 (λ s. ((c .mode) ≡ 0) × (1024 < shapeCount (c .mode) s)) (omega arith) (late-shapes c)
+    shapes-full = row 10 (λ s. ((c .mode) ≡ 0) × (1024 < shapeCount (c .mode) s)) (omega arith) (omega arith) (late-shapes c)
 
     -- R11 IDS_SHORT
     pub ids-short : Exactly (answerOf c ≡ Refused 11 p) ((p ≡ 0) × Taken c (λ s. ShapesFit (c .mode) s × (length (c .lent .ids) < endRecords (c .job))))
-    ids-short = row 11 (λ s. ShapesFit (c .mode) s × (length (c .lent .ids) < endRecords (c .job))) (omega arith) (late-ids c)
+    ids-short = row 11 (λ s. ShapesFit (c .mode) s × (length (c .lent .ids) < endRecords (c .job))) (omega arith) (omega arith) (late-ids c)
 
     -- R12 MAP_SHORT
     pub map-short : Exactly (answerOf c ≡ Refused 12 p) ((p ≡ 0) × Taken c (λ s. IdsFit c s × (length (c .lent .map) < distinctIds (c .mode) s)))
-    map-short = row 12 (λ s. IdsFit c s × (length (c .lent .map) < distinctIds (c .mode) s)) (omega arith) (late-map c)
+    map-short = row 12 (λ s. IdsFit c s × (length (c .lent .map) < distinctIds (c .mode) s)) (omega arith) (omega arith) (late-map c)
 
     -- R13 LOG_SHORT
     pub log-short : Exactly (answerOf c ≡ Refused 13 p)
         ((p ≡ 0) × Taken c (λ s. MapFit c s × ((c .mode) ≡ 0) × (1 ≤ shapeCount (c .mode) s) × (length (c .lent .log) < 3 * (shapeCount (c .mode) s - 1))))
-    log-short = row 13 (λ s. MapFit c s × ((c .mode) ≡ 0) × (1 ≤ shapeCount (c .mode) s) × (length (c .lent .log) < 3 * (shapeCount (c .mode) s - 1))) (omega arith) (late-log c)
+    log-short = row 13 (λ s. MapFit c s × ((c .mode) ≡ 0) × (1 ≤ shapeCount (c .mode) s) × (length (c .lent .log) < 3 * (shapeCount (c .mode) s - 1))) (omega arith) (omega arith) (late-log c)
 
     -- R14 OUT_SHORT
     pub out-short : Exactly (answerOf c ≡ Refused 14 p) ((p ≡ 0) × Taken c (λ s. LogFit c s × (length (c .lent .out) < storeBytes (c .axes) (c .mode) s)))
-    out-short = row 14 (λ s. LogFit c s × (length (c .lent .out) < storeBytes (c .axes) (c .mode) s)) (omega arith) (late-out c)
+    out-short = row 14 (λ s. LogFit c s × (length (c .lent .out) < storeBytes (c .axes) (c .mode) s)) (omega arith) (omega arith) (late-out c)
 
   -- done: the job is sound, and none of 10 to 14 is given
   pub is-done : (r : Report) → Exactly (answerOf c ≡ Done r)

@@ -1,26 +1,21 @@
 -- Which part of a build answers: the tests before the records, a record, the end of the job, or the tests after it. Assumes nothing.
-use mathlib.Core.Path.{_≡_, refl, sym, ap, _∙_}
+use mathlib.Core.Path.{_≡_, refl, sym, ap, subst, _∙_}
 use mathlib.Core.List.{List, [], _∷_}
 use mathlib.Core.Logic.{_⊎_, inl, inr, ⊎-elim}
-use Prim.Native.Nat.{ℕ, zero, suc, _-_, _/_, _%_, _≤_, _<_}
+use Prim.Native.Nat.{ℕ, zero, suc, _/_, _≤_, _<_}
 use native.Mathlib.Omega.{arith}
 use lib.ListN.{length}
-use borrow.Author.Tests.{eq-eqb, ne-eqb}
-use Rattle.laws.proofs.Cases.{same-or-not}
-use Rattle.said.specs.Records.{recordAt}
+use borrow.Author.Tests.{ne-eqb}
+use Rattle.laws.proofs.Cases.{lt-or-ge, same-or-not}
 use Rattle.said.specs.Refusals.{earlyNo}
-use Rattle.said.specs.Job.{Said, State, inAxes, inSets, Outcome, refused, fine, ended, endedSets, recordsFrom, outcome, outcomeFrom}
+use Rattle.said.specs.Job.{Said, inAxes, Outcome, refused, fine, recordsFrom, outcome, outcomeFrom}
 use Rattle.finishing.specs.declared.answers.Built.the-variants.{Refused, Done}
 use Rattle.finishing.specs.Buffers.{Lengths, lengths}
 use Rattle.finishing.specs.Late.{lateNo, lateAnswer, reportOf}
 use Rattle.packer.specs.Lending.{Lending}
 use Rattle.packer.specs.Build.{coordsInUse, packedOf, answerFrom, outcomeOf, answerOf}
-use Rattle.ivs.specs.Exactly.{Exactly}
-use Rattle.ivs.proofs.Passing.{StopsAt, EndsAs}
-use Rattle.ivs.proofs.FailedLaws.{among}
-use Rattle.ivs.proofs.StepLaws.{stop-no}
-use Rattle.ivs.proofs.WalkRows.{Way, way, stops-given}
-use Rattle.ivs.proofs.WalkRows.Way.{stopped, came}
+use Rattle.refusing.proofs.FailedLaws.{among}
+use Rattle.refusing.proofs.WalkEnds.{walk-no}
 
 -- ---- the numbers of each part
 
@@ -40,58 +35,6 @@ pub late-many : (axes : ℕ) (s : Said) (mode : ℕ) (l : Lengths)
 unfolding lateNo
 late-many axes s mode l =
     among 10 14 _ ((omega arith, omega arith), ((omega arith, omega arith), ((omega arith, omega arith), ((omega arith, omega arith), ((omega arith, omega arith), tt)))))
-
-pub ended-no : (axes : ℕ) (job : List ℕ) (k : ℕ) (s : State) (n i : ℕ) → ended axes job k s ≡ refused n i → (n ≡ 8) × (i ≡ k)
-unfolding ended
-ended-no axes job k inAxes n i e = ⊎-elim whole part (same-or-not (k % axes) 0)
-  where
-    whole : k % axes ≡ 0 → (n ≡ 8) × (i ≡ k)
-    whole h = let f = rw (eq-eqb (k % axes) 0 h) at e in let z : _≡_ {A = ℕ} 0 1 = cc in absurd (omega arith)
-
-    part : (k % axes ≡ 0 → ⊥) → (n ≡ 8) × (i ≡ k)
-    part h = let f = rw (ne-eqb (k % axes) 0 h) at e in let a : n ≡ 8 = cc in let b : i ≡ k = cc in (a, b)
-ended-no axes job k (inSets s) n i e = go (s .named) e
-  where
-    go : (l : List ℕ) → endedSets k s l ≡ refused n i → (n ≡ 8) × (i ≡ k)
-    go [] f = unfold endedSets in (let z : _≡_ {A = ℕ} 0 1 = cc in absurd (omega arith))
-    go (q ∷ l) f = unfold endedSets in (let a : n ≡ 8 = cc in let b : i ≡ k = cc in (a, b))
-
--- ---- the recordsFrom
-
-module _ (axes mode : ℕ) (job : List ℕ) (records : ℕ) where
-  pub stops-only : (n i : ℕ) → (n ≡ 8 → ⊥) → recordsFrom axes mode job job records 0 inAxes ≡ refused n i → StopsAt axes mode job records n i
-  stops-only n i d e = go (way axes mode job records)
-    where
-      go : Way axes mode job records (recordsFrom axes mode job job records 0 inAxes) → StopsAt axes mode job records n i
-      go (stopped m j f a) = let x : m ≡ n = cc in let y : j ≡ i = cc in rw (← x, ← y) a
-      go (came a) = absurd (d (ended-no axes job records (a .state) n i (a .ends ∙ e) .0))
-
-  -- T2: the first record that stops the recordsFrom decides
-  pub earliest : (n i : ℕ) → i < records → Exactly (recordsFrom axes mode job job records 0 inAxes ≡ refused n i) (StopsAt axes mode job records n i)
-  earliest n i h = record { given = λ a. stops-given axes mode job records n i a; only = λ e. go e (way axes mode job records) }
-    where
-      go : recordsFrom axes mode job job records 0 inAxes ≡ refused n i → Way axes mode job records (recordsFrom axes mode job job records 0 inAxes) → StopsAt axes mode job records n i
-      go e (stopped m j f a) = let x : m ≡ n = cc in let y : j ≡ i = cc in rw (← x, ← y) a
-      go e (came a) = let k = ended-no axes job records (a .state) n i (a .ends ∙ e) .1 in absurd (omega arith)
-
-  pub ends-only : (o : Outcome) → ((n i : ℕ) → o ≡ refused n i → n ≡ 8) → recordsFrom axes mode job job records 0 inAxes ≡ o → EndsAs axes mode job records o
-  ends-only o d e = go (way axes mode job records)
-    where
-      go : Way axes mode job records (recordsFrom axes mode job job records 0 inAxes) → EndsAs axes mode job records o
-      go (stopped m j f a) = absurd (stop-no axes mode job (recordAt job j) j (a .state) m (a .stops) .not-eight (d m j (sym e ∙ f)))
-      go (came a) = record { state = a .state; all-pass = a .all-pass; ends = a .ends ∙ e }
-
-  pub walk-no : (n i : ℕ) → recordsFrom axes mode job job records 0 inAxes ≡ refused n i → (5 ≤ n) × (n ≤ 9)
-  walk-no n i e = ⊎-elim eight record-no (same-or-not n 8)
-    where
-      eight : n ≡ 8 → (5 ≤ n) × (n ≤ 9)
-      eight h = (omega arith, omega arith)
-
-      record-no : (n ≡ 8 → ⊥) → (5 ≤ n) × (n ≤ 9)
-      record-no d =
-          let a = stops-only n i d e in
-          let b = stop-no axes mode job (recordAt job i) i (a .state) n (a .stops) in
-          (b .low, b .high)
 
 -- ---- the outcome
 
@@ -122,7 +65,7 @@ module _ (c : Lending) where
   early-only n p h e = ⊎-elim none some outcome-by
     where
       none : early ≡ 0 → (early ≡ n) × (p ≡ 0)
-      none z = let w = walk-no (c .axes) (c .mode) (c .job) (length (c .job) / 12) n p (sym (outcome-walked z) ∙ e) in absurd (omega arith)
+      none z = let w = walk-no (c .axes) (c .mode) (c .job) (length (c .job) / 12) n p (sym (outcome-walked z) ∙ e) in let l = w .low in absurd (omega arith)
 
       some : (0 < early) × (outcomeOf c ≡ refused early 0) → (early ≡ n) × (p ≡ 0)
       some f = let g = f .1 in let a : early ≡ n = cc in let b : p ≡ 0 = cc in (a, b)
@@ -137,6 +80,13 @@ module _ (c : Lending) where
       some f = let b = early-few (c .axes) (c .mode) (length (c .job)) (length (c .work)) (length (c .pairs)) in let a = d early 0 (sym e ∙ f .1) in absurd (omega arith)
 
 -- ---- the answer
+
+-- the numbers of a job's refusals
+pub record JobNo (n : ℕ) : Type 0 where
+  pub some : 0 < n
+  pub most : n ≤ 34
+  pub gap : 9 < n → 30 ≤ n
+  pub not-five : n ≡ 5 → ⊥
 
 module _ (c : Lending) where
   -- the number of the tests after the records
@@ -157,17 +107,17 @@ module _ (c : Lending) where
 
   -- who answers
   pub data Answers : Type 0 where
-    by-job : (n p : ℕ) → outcomeOf c ≡ refused n p → answerOf c ≡ Refused n p → (0 < n) × (n ≤ 9) → Answers
+    by-job : (n p : ℕ) → outcomeOf c ≡ refused n p → answerOf c ≡ Refused n p → JobNo n → Answers
     by-late : (s : Said) → outcomeOf c ≡ fine s → (10 ≤ late s) × (late s ≤ 14) → answerOf c ≡ Refused (late s) 0 → Answers
     done : (s : Said) → outcomeOf c ≡ fine s → late s ≡ 0 → answerOf c ≡ Done (reportOf (c .axes) (coordsInUse s) (packedOf (c .mode) s)) → Answers
 
   pub answers : Answers
   answers = go (outcomeOf c) refl
     where
-      few : (n p : ℕ) → outcomeOf c ≡ refused n p → (0 < n) × (n ≤ 9)
+      few : (n p : ℕ) → outcomeOf c ≡ refused n p → JobNo n
       few n p e =
-          ⊎-elim (λ z. let w = walk-no (c .axes) (c .mode) (c .job) (length (c .job) / 12) n p (sym (outcome-walked c z) ∙ e) in (omega arith, omega arith))
-          (λ f. let g = f .1 in let a : early c ≡ n = cc in let b = early-few (c .axes) (c .mode) (length (c .job)) (length (c .work)) (length (c .pairs)) in (omega arith, omega arith))
+          ⊎-elim (λ z. let w = walk-no (c .axes) (c .mode) (c .job) (length (c .job) / 12) n p (sym (outcome-walked c z) ∙ e) in let l = w .low in record { some = omega arith; most = w .high; gap = w .gap; not-five = λ x. omega arith })
+          (λ f. let g = f .1 in let a : early c ≡ n = cc in let b = early-few (c .axes) (c .mode) (length (c .job)) (length (c .work)) (length (c .pairs)) in let h = f .0 in record { some = omega arith; most = omega arith; gap = λ x. omega arith; not-five = λ x. omega arith })
           (outcome-by c)
 
       go : (o : Outcome) → outcomeOf c ≡ o → Answers
@@ -176,27 +126,34 @@ module _ (c : Lending) where
           ⊎-elim (λ z. done s e z (answer-done s e z)) (λ h. by-late s e h (answer-late s (late s) e refl (omega arith)))
           (late-many (c .axes) s (c .mode) (lengths (c .lent)))
 
-  pub job-only : (n p : ℕ) → n ≤ 9 → answerOf c ≡ Refused n p → outcomeOf c ≡ refused n p
+  pub job-only : (n p : ℕ) → (9 < n → 30 ≤ n) → answerOf c ≡ Refused n p → outcomeOf c ≡ refused n p
   job-only n p h e = go answers
     where
       go : Answers → outcomeOf c ≡ refused n p
       go (by-job m q f g b) = cc
-      go (by-late s f b g) = let z : late s ≡ n = cc in absurd (omega arith)
+      go (by-late s f b g) = let z : late s ≡ n = cc in let l = b .0 in let m = b .1 in let k = h (omega arith) in absurd (omega arith)
       go (done s f b g) = let z : _≡_ {A = ℕ} 0 1 = cc in absurd (omega arith)
 
-  pub late-only : (n p : ℕ) → 10 ≤ n → answerOf c ≡ Refused n p → (p ≡ 0) × (s : Said) × (outcomeOf c ≡ fine s) × (late s ≡ n)
-  late-only n p h e = go answers
+  pub late-only : (n p : ℕ) → 10 ≤ n → n ≤ 14 → answerOf c ≡ Refused n p → (p ≡ 0) × (s : Said) × (outcomeOf c ≡ fine s) × (late s ≡ n)
+  late-only n p low high e = go answers
     where
       go : Answers → (p ≡ 0) × (s : Said) × (outcomeOf c ≡ fine s) × (late s ≡ n)
-      go (by-job m q f g b) = let z : m ≡ n = cc in absurd (omega arith)
+      go (by-job m q f g b) = let z : m ≡ n = cc in let k = b .gap (omega arith) in absurd (omega arith)
       go (by-late s f b g) = let z : late s ≡ n = cc in let y : p ≡ 0 = cc in (y, s, f, z)
       go (done s f b g) = let z : _≡_ {A = ℕ} 0 1 = cc in absurd (omega arith)
 
   -- there are no numbers but those of the table
-  pub numbers : (n p : ℕ) → answerOf c ≡ Refused n p → (1 ≤ n) × (n ≤ 14)
+  pub numbers : (n p : ℕ) → answerOf c ≡ Refused n p → (1 ≤ n) × (n ≡ 5 → ⊥) × ((n ≤ 14) ⊎ ((30 ≤ n) × (n ≤ 34)))
   numbers n p e = go answers
     where
-      go : Answers → (1 ≤ n) × (n ≤ 14)
-      go (by-job m q f g b) = let z : m ≡ n = cc in (omega arith, omega arith)
-      go (by-late s f b g) = let z : late s ≡ n = cc in (omega arith, omega arith)
+      go : Answers → (1 ≤ n) × (n ≡ 5 → ⊥) × ((n ≤ 14) ⊎ ((30 ≤ n) × (n ≤ 34)))
+      go (by-job m q f g b) =
+          let z : m ≡ n = cc in
+          let s = b .some in
+          let h = b .most in
+          (omega arith, λ x. b .not-five (z ∙ x), ⊎-elim (λ (l : 9 < n). inr (subst (λ (k : ℕ). 30 ≤ k) z (b .gap (omega arith)), omega arith)) (λ (l : n ≤ 9). inl (omega arith)) (lt-or-ge 9 n))
+      go (by-late s f b g) = let z : late s ≡ n = cc in let l = b .0 in let h = b .1 in (omega arith, λ x. omega arith, inl (omega arith))
       go (done s f b g) = let z : _≡_ {A = ℕ} 0 1 = cc in absurd (omega arith)
+
+  pub numbers-most : (n p : ℕ) → answerOf c ≡ Refused n p → n ≤ 34
+  numbers-most n p e = ⊎-elim (λ (h : n ≤ 14). omega arith) (λ (h : (30 ≤ n) × (n ≤ 34)). h .1) (numbers n p e .2)

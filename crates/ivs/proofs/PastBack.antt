@@ -8,7 +8,7 @@ use Rattle.packer.specs.Lending.{Lending}
 use Rattle.packer.specs.Build.{answerOf}
 use Rattle.packer.proofs.Accepted.{accepted}
 use Rattle.packer.proofs.PastLaws.{out-past, ids-past, map-past, log-past}
-use Rattle.ivs.specs.Counts.{endRecords}
+use Rattle.refusing.specs.Counts.{endRecords}
 use Rattle.ivs.specs.Past.{PastKept}
 
 -- THE LAW

@@ -7,9 +7,9 @@ use native.Mathlib.Omega.{arith}
 use lib.ListN.{length}
 use lib.Dec.{eqb}
 use borrow.Author.Tests.{eq-eqb}
-use Rattle.said.specs.Records.{kind, endZeros, recordAt}
+use Rattle.said.specs.Records.{kind, recordAt}
 use Rattle.said.specs.Refusals.{endNo}
-use Rattle.said.specs.Job.{State}
+use Rattle.said.specs.Job.{State, saidAt}
 use Rattle.told.specs.Told.{countKind, endsBefore}
 use Rattle.told.proofs.WordLaws.{count-here, count-past}
 use Rattle.told.proofs.Bytes.{told}
@@ -19,20 +19,20 @@ use Rattle.packer.specs.Lending.{Lending}
 use Rattle.packer.specs.Build.{answerOf}
 use Rattle.packer.proofs.Accepted.{accepted}
 use Rattle.packer.proofs.PlainBack.{plain-count, plain-id, plain-map, plain-table}
-use Rattle.ivs.proofs.Passing.{Passed, saidAt}
+use Rattle.refusing.proofs.Passing.{Passed}
 use Rattle.ivs.specs.Plain.{Plain}
-use Rattle.ivs.proofs.FailedLaws.{other, later}
-use Rattle.ivs.proofs.StepLaws.{Looks, looks}
-use Rattle.ivs.proofs.StepLaws.Looks.{axis, late, cut, value, set-end, unknown}
-use Rattle.ivs.proofs.StateLaws.{end-on, Means, means}
+use Rattle.refusing.proofs.FailedLaws.{other}
+use Rattle.refusing.proofs.StepLaws.{not-stop, Looks, looks}
+use Rattle.refusing.proofs.StepLaws.Looks.{bad, axis, value, set-end}
+use Rattle.refusing.proofs.StateLaws.{end-on, Means, means}
 use Rattle.ivs.proofs.EndRow.{taken-passes}
 
 -- an end record that passes is not the 65,536th
-end-room : (r : List ℕ) (n : ℕ) → endNo 1 r n ≡ 0 → n ≡ 65535 → ⊥
+end-room : (n : ℕ) → endNo 1 n ≡ 0 → n ≡ 65535 → ⊥
 unfolding endNo
-end-room r n e z =
+end-room n e z =
     let t = not (eqb 1 1 && eqb n 65535) in
-    let f : t ≡ true = other 9 [] 0 t (λ x. omega arith) (later 5 ((t, 9) ∷ []) 0 (endZeros r) (λ x. omega arith) e) in
+    let f : t ≡ true = other 9 [] 0 t (λ x. omega arith) e in
     let g = rw (eq-eqb n 65535 z) at f in
     let y : _≡_ {A = ℕ} 0 1 = cc in
     omega arith
@@ -46,16 +46,14 @@ ends-few axes job (suc i) s (t, p, f) = go (means axes 1 job i t p) (ends-few ax
     same d h = omega (arith, count-past 3 job i d)
 
     go : Means axes job i t → endsBefore job i ≤ 65535 → Looks axes 1 job (recordAt job i) i t → endsBefore job (suc i) ≤ 65535
-    go m h (axis k a e) = same (λ z. omega arith) h
-    go m h (late k a e) = same (λ z. omega arith) h
-    go m h (cut k a w e) = let z : _≡_ {A = ℕ} 0 1 = cc in absurd (omega arith)
-    go m h (value k w e) = same (λ z. omega arith) h
-    go m h (set-end k w e) =
-        let u = end-on 1 (recordAt job i) (saidAt axes job i t) s (sym e ∙ f) in
-        let n = end-room (recordAt job i) (length (saidAt axes job i t .sets)) (u .0) in
+    go m h (bad n z l e) = absurd (not-stop s n (sym f ∙ e))
+    go m h (axis z k e) = same (λ x. omega arith) h
+    go m h (value z k e) = same (λ x. omega arith) h
+    go m h (set-end z k e) =
+        let u = end-on 1 (saidAt axes job i t) s (sym e ∙ f) in
+        let n = end-room (length (saidAt axes job i t .sets)) (u .0) in
         let d : endsBefore job i ≡ 65535 → ⊥ = λ z. n (m .sets-are ∙ z) in
         omega (arith, count-here 3 job i k)
-    go m h (unknown a b d e) = same d h
 
 -- THE LAW
 pub plain : (c : Lending) (r : Report) → c .mode ≡ 1 → answerOf c ≡ Done r → Plain c r

@@ -5,10 +5,12 @@ use Prim.Native.Nat.{ℕ, suc, _+_, _<_}
 use native.Mathlib.Omega.{arith}
 use lib.ListN.{length, set, take, length-set}
 use lib.Seq.{take-all, take-suc-set, append-snoc}
+use Rattle.said.specs.Records.{mustBeZero, firstNotZero, wrongByte}
+use Rattle.said.specs.Refusals.{notZero, byteOf}
 use Rattle.finishing.specs.declared.answers.Built.{Built}
 use Rattle.finishing.specs.declared.answers.Built.the-variants as built
 use Rattle.packer.specs.Lending.{Lending, Left}
-use Rattle.ivs.specs.Answers.{numberOf, refusedWords, doneWords, reportWords, filled}
+use Rattle.ivs.specs.Answers.{numberOf, byteTold, refusedWords, doneWords, reportWords, filled}
 use Rattle.ivs.specs.Answered.{Answered}
 use Rattle.ivs.specs.Reported.{Reported}
 
@@ -25,19 +27,24 @@ filled-end k (x ∷ l) old e =
     ∙ ap (λ (t : List ℕ). t ++ l) (take-suc-set old k x h)
     ∙ append-snoc (take k old) x l
 
-words-sixteen : (b : Built) → length (reportWords b) ≡ 16
+words-sixteen : (job : List ℕ) (b : Built) → length (reportWords job b) ≡ 16
 unfolding reportWords refusedWords doneWords
-words-sixteen (built.Refused n at) = refl
-words-sixteen (built.Done d) = refl
+words-sixteen job (built.Refused n at) = refl
+words-sixteen job (built.Done d) = refl
+
+-- a value record whose last byte is 1 is refused by 31, and the report says byte 11
+worked : reportWords (2 ∷ 0 ∷ 0 ∷ 0 ∷ 0 ∷ 0 ∷ 0 ∷ 5 ∷ 0 ∷ 0 ∷ 0 ∷ 1 ∷ []) (built.Refused notZero 0) ≡ 31 ∷ 0 ∷ 0 ∷ 0 ∷ 0 ∷ 0 ∷ 0 ∷ 0 ∷ 0 ∷ 0 ∷ 0 ∷ 0 ∷ 11 ∷ 0 ∷ 0 ∷ 0 ∷ []
+unfolding reportWords refusedWords byteTold byteOf wrongByte firstNotZero mustBeZero
+worked = refl
 
 -- THE LAW, of any sixteen words
-pub sixteen : (b : Built) (old : List ℕ) → length old ≡ 16 → filled 0 (reportWords b) old ≡ reportWords b
-sixteen b old e = filled-end 0 (reportWords b) old (omega (arith, words-sixteen b))
+pub sixteen : (job : List ℕ) (b : Built) (old : List ℕ) → length old ≡ 16 → filled 0 (reportWords job b) old ≡ reportWords job b
+sixteen job b old e = filled-end 0 (reportWords job b) old (omega (arith, words-sixteen job b))
 
 -- and of what a host is told
 pub reported : {c : Lending} {number : ℕ} {l : Left} {old new : List ℕ} → Answered c number l old new → length old ≡ 16 → Reported c number l new
 reported {c} {number} {l} {old} {new} t e = record {
   number-is = t .number-is ∙ ap numberOf (t .obeys .answer);
   left-is = t .obeys .left;
-  report-is = t .report-is ∙ sixteen (t .answer) old e ∙ ap reportWords (t .obeys .answer);
+  report-is = t .report-is ∙ sixteen (c .job) (t .answer) old e ∙ ap (reportWords (c .job)) (t .obeys .answer);
 }

@@ -1,28 +1,40 @@
 -- An answer taken apart, and its numbers. Assumes nothing.
 use mathlib.Core.Path.{_≡_, refl, sym, ap, subst, _∙_}
-use mathlib.Core.List.{List, [], _∷_}
-use Prim.Native.Nat.{ℕ, _≤_}
+use mathlib.Core.List.{List}
+use Prim.Native.Nat.{ℕ, _+_, _/_, _≤_, _<_}
 use native.Mathlib.Omega.{arith}
+use lib.ListN.{length}
+use Rattle.said.specs.Records.{recordAt, recordStart}
+use Rattle.said.specs.Refusals.{notZero, byteOf}
 use Rattle.finishing.specs.declared.answers.Report.{Report}
 use Rattle.finishing.specs.declared.answers.Built.{Built}
 use Rattle.finishing.specs.declared.answers.Built.the-variants.{Refused, Done}
 use Rattle.finishing.specs.declared.answers.Built.the-variants as built
 use Rattle.packer.specs.Lending.{Lending}
 use Rattle.packer.specs.Build.{answerOf}
-use Rattle.ivs.specs.Answers.{numberOf, refusedWords, doneWords, reportWords, filled, numberFew}
-use Rattle.ivs.proofs.OutcomeRows.{numbers}
+use Rattle.ivs.specs.Answers.{numberOf, byteTold, refusedWords, doneWords, reportWords, filled, numberFew, byteWithin}
+use Rattle.ivs.proofs.OutcomeRows.{numbers-most}
+use Rattle.ivs.proofs.RecordRows.{zero-within}
 
-pub number-most : (b : Built) (n at : ℕ) → b ≡ Refused n at → numberFew b → n ≤ 14
+pub number-most : (b : Built) (n at : ℕ) → b ≡ Refused n at → numberFew b → n ≤ 34
 number-most b n at e h = subst numberFew e h
 
+pub byte-there : (job : List ℕ) (b : Built) (n at : ℕ) → b ≡ Refused n at → byteWithin job b → n ≡ notZero → recordStart (at + 1) ≤ length job
+byte-there job b n at e h = subst (byteWithin job) e h
+
 pub answer-few : (c : Lending) (b : Built) → b ≡ answerOf c → numberFew b
-answer-few c (built.Refused n at) e = numbers c n at (sym e) .1
+answer-few c (built.Refused n at) e = numbers-most c n at (sym e)
 answer-few c (built.Done d) e = tt
 
-pub told-refused : (b : Built) (n at : ℕ) → b ≡ Refused n at → (w old : List ℕ) → w ≡ filled 0 (refusedWords n at) old → (n ≡ numberOf b) × (w ≡ filled 0 (reportWords b) old)
-unfolding numberOf reportWords
-told-refused b n at e w old h = rw e (refl, h)
+pub answer-within : (c : Lending) (b : Built) → b ≡ answerOf c → byteWithin (c .job) b
+answer-within c (built.Refused n at) e = λ z. let h = zero-within c at (sym e ∙ ap (λ (k : ℕ). Refused k at) z) in omega arith
+answer-within c (built.Done d) e = tt
 
-pub told-done : (b : Built) (d : Report) → b ≡ Done d → (w old : List ℕ) → w ≡ filled 0 (doneWords d) old → (0 ≡ numberOf b) × (w ≡ filled 0 (reportWords b) old)
+pub told-refused : (job : List ℕ) (b : Built) (n at byte : ℕ) → b ≡ Refused n at → byte ≡ byteOf n (recordAt job at) → (w old : List ℕ) → w ≡ filled 0 (refusedWords n at byte) old
+    → (n ≡ numberOf b) × (w ≡ filled 0 (reportWords job b) old)
+unfolding numberOf reportWords byteTold
+told-refused job b n at byte e f w old h = rw e (refl, h ∙ ap (λ (k : ℕ). filled 0 (refusedWords n at k) old) f)
+
+pub told-done : (job : List ℕ) (b : Built) (d : Report) → b ≡ Done d → (w old : List ℕ) → w ≡ filled 0 (doneWords d) old → (0 ≡ numberOf b) × (w ≡ filled 0 (reportWords job b) old)
 unfolding numberOf reportWords
-told-done b d e w old h = rw e (refl, h)
+told-done job b d e w old h = rw e (refl, h)

@@ -15,4 +15,4 @@ unique p q = (p .answer ∙ sym (q .answer), p .left ∙ sym (q .left))
 pub told-once : {c : Lending} {m n : ℕ} {a b : Left} {old x y : List ℕ} → Answered c m a old x → Answered c n b old y → (m ≡ n) × (a ≡ b) × (x ≡ y)
 told-once {c} {m} {n} {a} {b} {old} {x} {y} p q =
     let u = unique (p .obeys) (q .obeys) in
-    (p .number-is ∙ ap numberOf (u .0) ∙ sym (q .number-is), u .1, p .report-is ∙ ap (λ (r : Built). filled 0 (reportWords r) old) (u .0) ∙ sym (q .report-is))
+    (p .number-is ∙ ap numberOf (u .0) ∙ sym (q .number-is), u .1, p .report-is ∙ ap (λ (r : Built). filled 0 (reportWords (c .job) r) old) (u .0) ∙ sym (q .report-is))

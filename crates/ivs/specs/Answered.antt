@@ -12,4 +12,4 @@ pub record Answered (c : Lending) (number : ℕ) (l : Left) (report report′ : 
   pub answer : Built
   pub obeys : Obeys c answer l
   pub number-is : number ≡ numberOf answer
-  pub report-is : report′ ≡ filled 0 (reportWords answer) report
+  pub report-is : report′ ≡ filled 0 (reportWords (c .job) answer) report

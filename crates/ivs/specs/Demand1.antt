@@ -1,5 +1,5 @@
--- D1: every call is answered, and is refused exactly where the refusal table says (R1 to R14), by that number and place; and what everything lent holds
--- afterwards (L1 to L4). Assumes nothing.
+-- D1: every call is answered, and is refused exactly where the refusal table says (R1 to R4, R6 to R14, R30 to R34), by that number, place and byte; and
+-- what everything lent holds afterwards (L1 to L4). Assumes nothing.
 use mathlib.Core.Path.{_≡_}
 use mathlib.Core.Logic.{_⊎_}
 use Prim.Native.Nat.{ℕ, _-_, _*_, _≤_, _<_}
@@ -7,7 +7,7 @@ use lib.ListN.{length, replicate}
 use Rattle.said.specs.Records.{recordAt, recordCount, spareBytes}
 use Rattle.limits.specs.Limits.{mostRecords, mostAxes, maxShapes}
 use Rattle.said.specs.Refusals as refusals
-use Rattle.said.specs.Refusals.{publishedWork, pairRecords, badAxes, badMode, badJobLength, workShort, badRecord, unknownRegion, regionTwice, setsFull, shapesFull, idsShort, mapShort, logShort, outShort}
+use Rattle.said.specs.Refusals.{publishedWork, pairRecords, badAxes, badMode, badJobLength, workShort, unknownRegion, regionTwice, setsFull, shapesFull, idsShort, mapShort, logShort, outShort, unknownKind, notZero, axisOutOfTurn, axisTooLate, regionUnfinished}
 use Rattle.said.specs.Job.{Said, fine}
 use Rattle.finishing.specs.declared.answers.Report.{Report}
 use Rattle.finishing.specs.declared.answers.Built.{Built}
@@ -15,10 +15,12 @@ use Rattle.finishing.specs.declared.answers.Built.the-variants.{Refused, Done}
 use Rattle.finishing.specs.Late.{reportOf}
 use Rattle.packer.specs.Lending.{Lending, Left, noPair}
 use Rattle.packer.specs.Build.{coordsInUse, packedOf, outcomeOf, answerOf, after, Obeys}
-use Rattle.ivs.specs.Exactly.{Exactly}
+use Rattle.refusing.specs.Exactly.{Exactly}
 use Rattle.ivs.specs.Fits.{AxesFit, ModeFit, LengthFit}
-use Rattle.ivs.specs.Counts.{endRecords, BadRecord, UnknownRegion, RegionTwice, SetsFull, Unfinished}
-use Rattle.ivs.specs.Fine.{Fine}
+use Rattle.refusing.specs.Counts.{endRecords, UnknownKind, NotZeroAt, OutOfTurn, TooLate, InUnfinished, UnknownRegion, RegionTwice, SetsFull, RecordNo, Unfinished}
+use Rattle.refusing.specs.BadRecord.{BadRecord}
+use Rattle.refusing.specs.Fine.{Fine}
+use Rattle.ivs.specs.Answers.{byteTold}
 use Rattle.ivs.specs.Rows.{EarliestBad, AllPass}
 use Rattle.ivs.specs.Rooms.{Taken, shapeCount, distinctIds, storeBytes, ShapesFit, IdsFit, MapFit, LogFit, OutFit}
 use Rattle.ivs.specs.Past.{PastKept}
@@ -27,7 +29,7 @@ use Rattle.ivs.specs.Past.{PastKept}
 abbrev pub Row : Lending → ℕ → ℕ → Type 0 → Type 0
 Row c n p Why = Exactly (answerOf c ≡ Refused n p) Why
 
--- none of 1 to 9: each record is fine, and the job is finished
+-- no refusal of the job: each record is fine, and the job is finished
 abbrev pub Sound : Lending → Type 0
 Sound c = AllPass c (Unfinished (c .axes) (c .job) (recordCount (c .job)) → ⊥)
 
@@ -38,7 +40,12 @@ pub record Table (c : Lending) : Type 0 where
   pub bad-job-length : (p : ℕ) → Row c badJobLength p ((p ≡ 0) × (ModeFit (c .axes) (c .mode) × ((spareBytes (length (c .job)) ≡ 0 → ⊥) ⊎ (mostRecords < recordCount (c .job)))))
   pub work-short : (p : ℕ) → Row c workShort p
       ((p ≡ 0) × (LengthFit (c .axes) (c .mode) (length (c .job)) × ((length (c .work) < publishedWork (recordCount (c .job))) ⊎ (length (c .pairs) < pairRecords))))
-  pub bad-record : (i : ℕ) → Row c badRecord i (EarliestBad c i (BadRecord (c .axes) (c .job) i (recordAt (c .job) i)))
+  pub unknown-kind : (i : ℕ) → Row c unknownKind i (EarliestBad c i (UnknownKind (recordAt (c .job) i)))
+  -- with the byte within the record
+  pub not-zero : (i b : ℕ) → Exactly ((answerOf c ≡ Refused notZero i) × (byteTold (c .job) (answerOf c) ≡ b)) (EarliestBad c i (NotZeroAt (recordAt (c .job) i) b))
+  pub axis-out-of-turn : (i : ℕ) → Row c axisOutOfTurn i (EarliestBad c i (OutOfTurn (c .axes) (c .job) i (recordAt (c .job) i)))
+  pub axis-too-late : (i : ℕ) → Row c axisTooLate i (EarliestBad c i (TooLate (c .axes) (c .job) i (recordAt (c .job) i)))
+  pub region-unfinished : (i : ℕ) → Row c regionUnfinished i (EarliestBad c i (InUnfinished (c .axes) (c .job) i (recordAt (c .job) i)))
   pub unknown-region : (i : ℕ) → Row c unknownRegion i (EarliestBad c i (UnknownRegion (c .axes) (c .job) i (recordAt (c .job) i)))
   pub region-twice : (i : ℕ) → Row c regionTwice i (EarliestBad c i (RegionTwice (c .axes) (c .job) i (recordAt (c .job) i)))
   pub unfinished : (p : ℕ) → Row c refusals.unfinished p ((p ≡ recordCount (c .job)) × AllPass c (Unfinished (c .axes) (c .job) (recordCount (c .job))))
@@ -52,11 +59,16 @@ pub record Table (c : Lending) : Type 0 where
   -- done exactly where no row is given
   pub is-done : (r : Report) → Exactly (answerOf c ≡ Done r) (Taken c (λ s. OutFit c s × (r ≡ reportOf (c .axes) (coordsInUse s) (packedOf (c .mode) s))))
   -- and there are no other numbers
-  pub numbers : (n p : ℕ) → answerOf c ≡ Refused n p → (1 ≤ n) × (n ≤ 14)
+  pub numbers : (n p : ℕ) → answerOf c ≡ Refused n p → (1 ≤ n) × (n ≡ 5 → ⊥) × ((n ≤ outShort) ⊎ ((unknownKind ≤ n) × (n ≤ regionUnfinished)))
+  -- no other refusal names a byte
+  pub byte-elsewhere : (n p : ℕ) → (n ≡ notZero → ⊥) → answerOf c ≡ Refused n p → byteTold (c .job) (answerOf c) ≡ 0
   -- a job is taken exactly where it is sound
   pub taken : Exactly ((s : Said) × (outcomeOf c ≡ fine s)) (Sound c)
   -- the earliest bad record decides: a record's refusal is given at i exactly where all before it are fine and it is not
-  pub earliest : (i : ℕ) → Exactly ((n : ℕ) × (5 ≤ n) × (n ≤ 9) × (n ≡ 8 → ⊥) × (answerOf c ≡ Refused n i)) (EarliestBad c i (Fine (c .axes) (c .mode) (c .job) i → ⊥))
+  pub earliest : (i : ℕ) → Exactly ((n : ℕ) × RecordNo n × (answerOf c ≡ Refused n i)) (EarliestBad c i (Fine (c .axes) (c .mode) (c .job) i → ⊥))
+  -- the five rows from 30 on are together the one that 5 BAD_RECORD was
+  pub old-five : (i : ℕ) → Exactly ((n : ℕ) × (unknownKind ≤ n) × (n ≤ regionUnfinished) × (answerOf c ≡ Refused n i))
+      (EarliestBad c i (BadRecord (c .axes) (c .job) i (recordAt (c .job) i)))
 
 -- what everything lent holds afterwards
 pub record Kept (c : Lending) : Type 0 where

@@ -1,8 +1,5 @@
 pub mod Answers
-pub mod Exactly
 pub mod Fits
-pub mod Counts
-pub mod Fine
 pub mod Rooms
 pub mod Rows
 pub mod GlyphWords

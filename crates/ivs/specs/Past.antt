@@ -5,7 +5,7 @@ use lib.ListN.{drop}
 use Rattle.finishing.specs.declared.answers.Report.{Report}
 use Rattle.packer.specs.Lending.{Lending}
 use Rattle.packer.specs.Build.{after}
-use Rattle.ivs.specs.Counts.{endRecords}
+use Rattle.refusing.specs.Counts.{endRecords}
 
 pub record PastKept (c : Lending) (r : Report) : Type 0 where
   -- behind the store's bytes

@@ -6,7 +6,7 @@ use Rattle.limits.specs.Limits.{maxItems}
 use Rattle.finishing.specs.declared.answers.Report.{Report}
 use Rattle.packer.specs.Lending.{Lending}
 use Rattle.packer.specs.Build.{after}
-use Rattle.ivs.specs.Counts.{endRecords}
+use Rattle.refusing.specs.Counts.{endRecords}
 
 pub record Plain (c : Lending) (r : Report) : Type 0 where
   -- R9 lets no more through

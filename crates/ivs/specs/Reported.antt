@@ -9,4 +9,4 @@ use Rattle.ivs.specs.Answers.{numberOf, reportWords}
 pub record Reported (c : Lending) (number : ℕ) (l : Left) (report : List ℕ) : Type 0 where
   pub number-is : number ≡ numberOf (answerOf c)
   pub left-is : l ≡ after c
-  pub report-is : report ≡ reportWords (answerOf c)
+  pub report-is : report ≡ reportWords (c .job) (answerOf c)

@@ -8,7 +8,7 @@ use Rattle.finishing.specs.Late.{storeFor}
 use Rattle.packer.specs.Lending.{Lending}
 use Rattle.packer.specs.Build.{coordsInUse, packedOf, outcomeOf}
 use Rattle.limits.specs.Limits.{maxShapes}
-use Rattle.ivs.specs.Counts.{endRecords}
+use Rattle.refusing.specs.Counts.{endRecords}
 
 -- the job is sound, and this holds of what it says
 pub record Taken (c : Lending) (P : Said → Type 0) : Type 0 where

@@ -3,7 +3,7 @@ use Prim.Native.Nat.{ℕ, _<_}
 use Rattle.said.specs.Records.{recordCount}
 use Rattle.packer.specs.Lending.{Lending}
 use Rattle.ivs.specs.Fits.{Fits}
-use Rattle.ivs.specs.Fine.{AllFine}
+use Rattle.refusing.specs.Fine.{AllFine}
 
 -- none of 1 to 4; every record before i is fine; and this is so of record i
 pub record EarliestBad (c : Lending) (i : ℕ) (Why : Type 0) : Type 0 where

@@ -73,5 +73,5 @@ pub extern "C" fn ivs_build(
     ensures { λ r. ⌜ Answered (lending axes mode (now (job .entry)) (now (work .entry)) (now (pairs .entry)) (buffers (now (out .entry)) (now (ids .entry)) (now (map .entry)) (now (log .entry)))) r (leaves (now (work .exit)) (now (pairs .exit)) (buffers (now (out .exit)) (now (ids .exit)) (now (map .exit)) (now (log .exit)))) (now (report .entry)) (now (report .exit)) ⌝ }
 {
     let answer = packer::build(axes, mode, job, work, pairs, out, ids, map, log);
-    tell(report, answer)
+    tell(report, job, answer)
 }

@@ -3,11 +3,11 @@ use packer::Built;
 use packer::Report;
 ghost use mathlib.Core.Path.{_≡_};
 ghost use Prim.Native.Nat.{_≤_};
-ghost use Rattle.ivs.specs.Answers.{numberOf, reportWords, refusedWords, doneWords, filled, numberFew};
+ghost use Rattle.ivs.specs.Answers.{numberOf, reportWords, refusedWords, doneWords, filled, numberFew, byteWithin};
 
-// A refusal: its number and place, and zeros.
-fn tell_refused(report: &mut [u64; 16], no: usize, at: usize)
-    ensures { λ _. ⌜ now (report .exit) ≡ filled 0 (refusedWords no at) (now (report .entry)) ⌝ }
+// A refusal: its number and place, the byte within the record, and zeros.
+pub fn tell_refused(report: &mut [u64; 16], no: usize, at: usize, byte: usize)
+    ensures { λ _. ⌜ now (report .exit) ≡ filled 0 (refusedWords no at byte) (now (report .entry)) ⌝ }
 {
     report[0] = no as u64;
     report[1] = at as u64;
@@ -21,7 +21,7 @@ fn tell_refused(report: &mut [u64; 16], no: usize, at: usize)
     report[9] = 0;
     report[10] = 0;
     report[11] = 0;
-    report[12] = 0;
+    report[12] = byte as u64;
     report[13] = 0;
     report[14] = 0;
     report[15] = 0;
@@ -50,14 +50,15 @@ fn tell_done(report: &mut [u64; 16], d: Report)
 }
 
 // Fills the report; the refusal number, 0 for done.
-pub fn tell(report: &mut [u64; 16], answer: Built) -> u32
-    requires { ⌜ numberFew answer ⌝ }
+pub fn tell(report: &mut [u64; 16], job: &[u8], answer: Built) -> u32
+    requires { ⌜ numberFew answer × byteWithin (now job) answer ⌝ }
     ensures { λ r. ⌜ r ≡ numberOf answer ⌝ }
-    ensures { λ _. ⌜ now (report .exit) ≡ filled 0 (reportWords answer) (now (report .entry)) ⌝ }
+    ensures { λ _. ⌜ now (report .exit) ≡ filled 0 (reportWords (now (job .entry)) answer) (now (report .entry)) ⌝ }
 {
     match answer {
         Built::Refused(no, at) => {
-            tell_refused(report, no, at);
+            let byte = records::byte_at(job, no, at);
+            tell_refused(report, no, at, byte);
             no as u32
         }
         Built::Done(d) => {

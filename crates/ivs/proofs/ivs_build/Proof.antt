@@ -40,7 +40,7 @@ use denote.Exit.{yes}
 use Rattle.finishing.specs.Buffers.{buffers}
 use Rattle.packer.specs.Lending.{lending, leaves}
 use Rattle.ivs.specs.Answered.{Answered}
-use Rattle.ivs.proofs.TellLaws.{answer-few}
+use Rattle.ivs.proofs.TellLaws.{answer-few, answer-within}
 use Rattle.pairs.specs.declared.Pair.{Pair}
 use Rattle.pairs.proofs.Pair as T
 use Rattle.finishing.specs.declared.answers.Built.{Built}
@@ -49,7 +49,7 @@ use Rattle.finishing.proofs.answers.Built.Laws as D′
 use Rattle.pairs.proofs.Slices.{ref, Has, Sees}
 use Rattle.pairs.proofs.Refs.{HasRef, at-ref}
 use Rattle.pairs.proofs.Clauses.{needs-none}
-use Rattle.ivs.proofs.Calls.{Build-of, Tell-of, build-see-mut-mut-mut-mut-mut-mut, tell-call, After-build-see-mut-mut-mut-mut-mut-mut, After-tell-call}
+use Rattle.ivs.proofs.Calls.{Build-of, Tell-of, build-see-mut-mut-mut-mut-mut-mut, tell-mut-see, After-build-see-mut-mut-mut-mut-mut-mut, After-tell-mut-see}
 use Rattle.packer.proofs.build.Symbol as build-def
 use Rattle.packer.proofs.build.Symbol.{name as #packer·build}
 use Rattle.packer.proofs.build.Met as build-thm
@@ -218,16 +218,18 @@ module _ {M : Type 1} (𝓤 : URA M) (H : Heap 𝓤) (A : Atoms 𝓤) (W : Given
           move ! (1 ∷ []) $
           split ! $
           assigns ! (addr ! (from ! (hop ! (look ! 36 refl) (stop !)))) (from ! (stop !)) (init ! 8 refl (tt, tt)) $
-          move ! (7 ∷ []) $
-          use1 W (later (raw (C #ivs·tell (σ₈ ∷ EL.val D.the-type D′.the-laws b ∷ []) (λ w. mean 𝓤 H A (After-tell-call 𝓤 H A W mem run C fm known-tell κ₈ θ₈ γ₈ β₈ ι₈ ν₈ report b w))))) (tell-call 𝓤 H A W mem run C fm known-tell κ₈ θ₈ γ₈ β₈ ι₈ ν₈ report b (at-D b r-b g-b) (answer-few (lending axes mode job work pairs (buffers out ids map log)) b (e-b .1 .answer))) $ await ! tt $
-          calls ! fm (After-tell-call 𝓤 H A W mem run C fm known-tell κ₈ θ₈ γ₈ β₈ ι₈ ν₈ report b) (and-then ! (load ! (from ! (stop !)) (look ! 8 refl)) (and-then ! (load ! (from ! (stop !)) (look ! 34 refl)) (no-more !))) (λ r-n. await ! tt $ pick ! (λ n. pick ! (λ x-n. learn ! (λ e-n. split ! $ move ! (1 ∷ []) $ facts ! u32 (Is u32) (shows 𝓤 H A u32) n (r-n ∷ []) (λ g-n.
-          land ! (from ! (stop !)) (init ! 56 refl (uint-lawful 𝓤 H A W w32 .typed n _ g-n .0)) $
-          rewrite ! 56 (λ (u : Val). ‵ (fat fullShare (tyInt w32) l₀ 0 u)) (ap only (g-n .0)) refl $
+          move ! (7 ∷ 6 ∷ []) $
+          join ! $
+          use1 W (later (raw (C #ivs·tell (σ₈ ∷ σ ∷ EL.val D.the-type D′.the-laws b ∷ []) (λ w. mean 𝓤 H A (After-tell-mut-see 𝓤 H A W mem run C fm known-tell κ₈ θ₈ γ₈ β₈ ι₈ ν₈ report κ θ γ β ι ν job b w))))) (tell-mut-see 𝓤 H A W mem run C fm known-tell κ₈ θ₈ γ₈ β₈ ι₈ ν₈ report κ θ γ β ι ν job b (at-D b r-b g-b) (answer-few (lending axes mode job work pairs (buffers out ids map log)) b (e-b .1 .answer), answer-within (lending axes mode job work pairs (buffers out ids map log)) b (e-b .1 .answer))) $ await ! tt $
+          calls ! fm (After-tell-mut-see 𝓤 H A W mem run C fm known-tell κ₈ θ₈ γ₈ β₈ ι₈ ν₈ report κ θ γ β ι ν job b) (and-then ! (load ! (from ! (stop !)) (look ! 7 refl)) (and-then ! (load ! (from ! (stop !)) (look ! 49 refl)) (and-then ! (load ! (from ! (stop !)) (look ! 33 refl)) (no-more !)))) (λ r-n. await ! tt $ pick ! (λ n. pick ! (λ x-n. learn ! (λ e-n. split ! $ move ! (1 ∷ []) $ facts ! u32 (Is u32) (shows 𝓤 H A u32) n (r-n ∷ []) (λ g-n.
+          land ! (from ! (stop !)) (init ! 55 refl (uint-lawful 𝓤 H A W w32 .typed n _ g-n .0)) $
+          rewrite ! 55 (λ (u : Val). ‵ (fat fullShare (tyInt w32) l₀ 0 u)) (ap only (g-n .0)) refl $
+          split ! $
           returns ! (look ! 56 refl) $
           forget ! 56 refl $ forget ! 54 refl $ forget ! 52 refl $ forget ! 50 refl $ forget ! 48 refl $ forget ! 46 refl $ forget ! 44 refl $ forget ! 42 refl $ forget ! 40 refl $ forget ! 38 refl $ forget ! 36 refl $ forget ! 34 refl $ forget ! 32 refl $ forget ! 30 refl $ forget ! 28 refl $ forget ! 26 refl $ forget ! 24 refl $ forget ! 22 refl $ forget ! 20 refl $ forget ! 18 refl $ forget ! 16 refl $ forget ! 14 refl $ forget ! 12 refl $ forget ! 10 refl $ forget ! 8 refl $
           move ! (56 ∷ 57 ∷ []) $ free1 ! $ move ! (54 ∷ 55 ∷ []) $ free1 ! $ move ! (52 ∷ 53 ∷ []) $ free1 ! $ move ! (50 ∷ 51 ∷ []) $ free1 ! $ move ! (48 ∷ 49 ∷ []) $ free1 ! $ move ! (46 ∷ 47 ∷ []) $ free1 ! $ move ! (44 ∷ 45 ∷ []) $ free1 ! $ move ! (42 ∷ 43 ∷ []) $ free1 ! $ move ! (40 ∷ 41 ∷ []) $ free1 ! $ move ! (38 ∷ 39 ∷ []) $ free1 ! $ move ! (36 ∷ 37 ∷ []) $ free1 ! $ move ! (34 ∷ 35 ∷ []) $ free1 ! $ move ! (32 ∷ 33 ∷ []) $ free1 ! $ move ! (30 ∷ 31 ∷ []) $ free1 ! $ move ! (28 ∷ 29 ∷ []) $ free1 ! $ move ! (26 ∷ 27 ∷ []) $ free1 ! $ move ! (24 ∷ 25 ∷ []) $ free1 ! $ move ! (22 ∷ 23 ∷ []) $ free1 ! $ move ! (20 ∷ 21 ∷ []) $ free1 ! $ move ! (18 ∷ 19 ∷ []) $ free1 ! $ move ! (16 ∷ 17 ∷ []) $ free1 ! $ move ! (14 ∷ 15 ∷ []) $ free1 ! $ move ! (12 ∷ 13 ∷ []) $ free1 ! $ move ! (10 ∷ 11 ∷ []) $ free1 ! $ move ! (8 ∷ 9 ∷ []) $ free1 ! $ free0 ! $
-          move ! (7 ∷ 6 ∷ 5 ∷ 4 ∷ 3 ∷ 1 ∷ 2 ∷ 0 ∷ []) $
-          by ! (exits (x-b .1 .0) (e-b .0 .1 .0) (x-b .1 .1 .0) (e-b .0 .1 .1 .0) (x-b .1 .1 .1 .0) (e-b .0 .1 .1 .1 .0) (x-b .1 .1 .1 .1 .0) (e-b .0 .1 .1 .1 .1 .0) (x-b .1 .1 .1 .1 .1 .0) (e-b .0 .1 .1 .1 .1 .1 .0) (x-b .1 .1 .1 .1 .1 .1) (e-b .0 .1 .1 .1 .1 .1 .1) x-n n (g-n .1) (record { answer = b; obeys = e-b .1; number-is = e-n .1 .0; report-is = e-n .1 .1 }))))))))))))
+          move ! (1 ∷ 7 ∷ 6 ∷ 5 ∷ 4 ∷ 2 ∷ 3 ∷ 0 ∷ []) $
+          by ! (exits (x-b .1 .0) (e-b .0 .1 .0) (x-b .1 .1 .0) (e-b .0 .1 .1 .0) (x-b .1 .1 .1 .0) (e-b .0 .1 .1 .1 .0) (x-b .1 .1 .1 .1 .0) (e-b .0 .1 .1 .1 .1 .0) (x-b .1 .1 .1 .1 .1 .0) (e-b .0 .1 .1 .1 .1 .1 .0) (x-b .1 .1 .1 .1 .1 .1) (e-b .0 .1 .1 .1 .1 .1 .1) (x-n .0) n (g-n .1) (record { answer = b; obeys = e-b .1; number-is = e-n .1 .0; report-is = e-n .1 .1 }))))))))))))
 
     walk : ent 𝓤 (onEntry 𝓤 H A ivs-build.signature (κ, (κ₂, (κ₃, (κ₄, (κ₅, (κ₆, (κ₇, (κ₈, tt)))))))) (θ, (θ₂, (θ₃, (θ₄, (θ₅, (θ₆, (θ₇, (θ₈, tt)))))))) (bound .0 .3) (bound .0 .4)) (WpFn 𝓤 H C Λ code.function (vint w32 axes ∷ vint w32 mode ∷ σ ∷ σ₂ ∷ σ₃ ∷ σ₄ ∷ σ₅ ∷ σ₆ ∷ σ₇ ∷ σ₈ ∷ []) Post)
     walk =

@@ -1,10 +1,9 @@
 -- A job's records that pass, one after another, and the one that does not, as states of the walk. Assumes nothing.
 use mathlib.Core.Path.{_≡_}
 use mathlib.Core.List.{List}
-use Prim.Native.Nat.{ℕ, zero, suc, _/_, _%_, _<_}
+use Prim.Native.Nat.{ℕ, zero, suc, _<_}
 use Rattle.said.specs.Records.{recordAt}
-use Rattle.said.specs.Sets.{regionList}
-use Rattle.said.specs.Job.{Said, State, inAxes, inSets, stop, on, regionsOnly, step, Outcome, ended}
+use Rattle.said.specs.Job.{State, inAxes, stop, on, step, Outcome, ended}
 
 -- records 0 to i, without i, pass and leave this state
 unfoldable pub Passed : ℕ → ℕ → List ℕ → ℕ → State → Type 0
@@ -23,12 +22,3 @@ pub record EndsAs (axes mode : ℕ) (job : List ℕ) (records : ℕ) (o : Outcom
   pub state : State
   pub all-pass : Passed axes mode job records state
   pub ends : ended axes job records state ≡ o
-
--- what is said before record i, where it is no axis record
-unfoldable pub saidAt : ℕ → List ℕ → ℕ → State → Said
-saidAt axes job i inAxes = regionsOnly (regionList axes (i / axes) job)
-saidAt axes job i (inSets s) = s
-
--- record i does not stand inside an unfinished region
-abbrev pub RegionWhole : ℕ → ℕ → State → Type 0
-RegionWhole axes i s = s ≡ inAxes → i % axes ≡ 0

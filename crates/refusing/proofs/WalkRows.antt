@@ -9,7 +9,7 @@ use native.Mathlib.Omega.{arith}
 use lib.Seq.{drop-drop}
 use Rattle.said.specs.Records.{recordAt}
 use Rattle.said.specs.Job.{State, inAxes, Step, stop, on, step, Outcome, refused, ended, follow, recordsFrom, Said, inSets, fine, endedSets}
-use Rattle.ivs.proofs.Passing.{Passed, StopsAt, EndsAs}
+use Rattle.refusing.proofs.Passing.{Passed, StopsAt, EndsAs}
 
 module _ (axes mode : ℕ) (job : List ℕ) where
   -- one turn

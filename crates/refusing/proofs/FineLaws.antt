@@ -5,14 +5,17 @@ use mathlib.Core.Logic.{_⊎_, ⊎-elim}
 use Prim.Native.Nat.{ℕ, zero, suc, _≤_, _<_}
 use native.Mathlib.Omega.{arith}
 use Rattle.said.specs.Records.{recordAt}
-use Rattle.laws.proofs.Cases.{lt-or-ge, same-or-not}
+use Rattle.laws.proofs.Cases.{lt-or-ge}
 use Rattle.said.specs.Job.{State, inAxes, Step, stop, on, step}
-use Rattle.ivs.specs.Exactly.{Exactly}
-use Rattle.ivs.specs.Fine.{Fine, AllFine}
-use Rattle.ivs.proofs.Passing.{Passed}
-use Rattle.ivs.proofs.StepLaws.{stop-no}
-use Rattle.ivs.proofs.StateLaws.{Means, means}
-use Rattle.ivs.proofs.RecordStops.{stops-five, stops-six, stops-seven, stops-nine}
+use Rattle.refusing.specs.Exactly.{Exactly}
+use Rattle.refusing.specs.Counts.{RecordNo}
+use Rattle.refusing.specs.Counts.RecordNo.{of-form, of-region, of-sets}
+use Rattle.refusing.specs.Fine.{Fine, AllFine}
+use Rattle.refusing.proofs.Passing.{Passed}
+use Rattle.refusing.proofs.StepLaws.{stop-no}
+use Rattle.refusing.proofs.StateLaws.{Means, means}
+use Rattle.refusing.proofs.RecordStops.{stops-unknown-kind, stops-not-zero, stops-out-of-turn, stops-too-late, stops-unfinished, stops-six, stops-seven, stops-nine}
+use Rattle.refusing.proofs.FiveLaws.{fine-none, stops-one}
 
 module _ (axes mode : ℕ) (job : List ℕ) where
   -- record i, after those before it passed
@@ -28,32 +31,28 @@ module _ (axes mode : ℕ) (job : List ℕ) where
 
     pub on-fine : (t : State) → now ≡ on t → Fine axes mode job i
     on-fine t f = record {
-      not-bad = λ b. not-both t 5 f (stops-five axes mode job i s m .given b);
+      kind-known = λ b. not-both t 30 f (stops-unknown-kind axes mode job i s m .given b);
+      zeros-zero = λ k b. not-both t 31 f (stops-not-zero axes mode job i s m k .given b .0);
+      not-out-of-turn = λ b. not-both t 32 f (stops-out-of-turn axes mode job i s m .given b);
+      not-late = λ b. not-both t 33 f (stops-too-late axes mode job i s m .given b);
+      not-unfinished = λ b. not-both t 34 f (stops-unfinished axes mode job i s m .given b);
       not-unknown = λ b. not-both t 6 f (stops-six axes mode job i s m .given b);
       not-twice = λ b. not-both t 7 f (stops-seven axes mode job i s m p .given b);
       not-full = λ b. not-both t 9 f (stops-nine axes mode job i s m .given b);
     }
 
-    -- one of the four rows is true where it stops
+    -- one of the rows is true where it stops
     pub stop-not-fine : (n : ℕ) → now ≡ stop n → Fine axes mode job i → ⊥
-    stop-not-fine n g f = ⊎-elim
-        (λ (e : n ≡ 5). f .not-bad (stops-five axes mode job i s m .only (subst (λ (k : ℕ). now ≡ stop k) e g)))
-        (λ a. ⊎-elim
-        (λ (e : n ≡ 6). f .not-unknown (stops-six axes mode job i s m .only (subst (λ (k : ℕ). now ≡ stop k) e g)))
-        (λ b. ⊎-elim
-        (λ (e : n ≡ 7). f .not-twice (stops-seven axes mode job i s m p .only (subst (λ (k : ℕ). now ≡ stop k) e g)))
-        (λ d. f .not-full (stops-nine axes mode job i s m .only (subst (λ (k : ℕ). now ≡ stop k) (nine a b d) g)))
-        (same-or-not n 7))
-        (same-or-not n 6))
-        (same-or-not n 5)
+    stop-not-fine n g f = by-no (stop-no axes mode job (recordAt job i) i s n g)
       where
-        nine : (n ≡ 5 → ⊥) → (n ≡ 6 → ⊥) → (n ≡ 7 → ⊥) → n ≡ 9
-        nine a b d =
-            let x = stop-no axes mode job (recordAt job i) i s n g in
-            let l = x .low in
-            let h = x .high in
-            let e = x .not-eight in
-            omega arith
+        at : (k : ℕ) → n ≡ k → now ≡ stop k
+        at k e = subst (λ (x : ℕ). now ≡ stop x) e g
+
+        by-no : RecordNo n → ⊥
+        by-no (of-form l h) = fine-none axes mode job i f (stops-one axes mode job i s m n l h g)
+        by-no (of-region e) =
+            ⊎-elim (λ (e : n ≡ 6). f .not-unknown (stops-six axes mode job i s m .only (at 6 e))) (λ (e : n ≡ 7). f .not-twice (stops-seven axes mode job i s m p .only (at 7 e))) e
+        by-no (of-sets e) = f .not-full (stops-nine axes mode job i s m .only (at 9 e))
 
     pub fine-on : Fine axes mode job i → (t : State) × (now ≡ on t)
     fine-on f = go now refl

@@ -5,20 +5,22 @@ use mathlib.Core.Logic.{_⊎_, ⊎-elim}
 use Prim.Native.Nat.{ℕ, zero, suc, _/_, _≤_, _<_}
 use native.Mathlib.Omega.{arith}
 use lib.ListN.{length}
+use borrow.Author.Tests.{eq-eqb}
 use Rattle.laws.proofs.Cases.{lt-or-ge, same-or-not}
 use Rattle.said.specs.Records.{kind, regionOf, recordAt}
 use Rattle.said.specs.Sets.{Region, regionList, firstLike, has}
-use Rattle.said.specs.Job.{State, stop, step}
+use Rattle.said.specs.Job.{State, saidAt, axesBefore, isLate}
+use Rattle.said.proofs.RecordLaws.{form-passed}
 use Rattle.said.proofs.MeaningLaws.{first-equal, equal-first}
 use Rattle.said.proofs.SaidLaws.{value-known}
 use Rattle.told.specs.Told.{countKind}
 use Rattle.told.proofs.WordLaws.{count-here, count-past, count-most}
-use Rattle.ivs.specs.Exactly.{Exactly}
-use Rattle.ivs.specs.Counts.{knownRegions, NamedBefore, axisRecords}
-use Rattle.ivs.proofs.Passing.{Passed, saidAt}
-use Rattle.ivs.proofs.StepLaws.{Looks, looks}
-use Rattle.ivs.proofs.StepLaws.Looks.{axis, late, cut, value, set-end, unknown}
-use Rattle.ivs.proofs.StateLaws.{value-on, NamedAt, Means, means}
+use Rattle.refusing.specs.Exactly.{Exactly}
+use Rattle.refusing.specs.Counts.{knownRegions, NamedBefore, axisRecords}
+use Rattle.refusing.proofs.Passing.{Passed}
+use Rattle.refusing.proofs.StepLaws.{not-stop, Looks, looks}
+use Rattle.refusing.proofs.StepLaws.Looks.{bad, axis, value, set-end}
+use Rattle.refusing.proofs.StateLaws.{value-on, NamedAt, Means, means, early-is}
 
 -- one record of another kind, and not all are axis records
 count-less : (job : List ℕ) (i p : ℕ) → p < i → (kind (recordAt job p) ≡ 1 → ⊥) → axisRecords job i < i
@@ -52,9 +54,6 @@ module _ (axes mode : ℕ) (job : List ℕ) where
   all-known zero s p q h v = absurd (omega arith)
   all-known (suc i) s (t, p, f) q h v = go (means axes mode job i t p) (λ l. all-known i t p q l v) (looks axes mode job (recordAt job i) i t)
     where
-      five : step axes mode job (recordAt job i) i t ≡ stop 5 → Known (suc i) q
-      five e = let z : _≡_ {A = ℕ} 0 1 = cc in absurd (omega arith)
-
       -- at record i itself, or before it
       at : (i ≤ q → Known (suc i) q) → (q < i → Known (suc i) q) → Known (suc i) q
       at a b = ⊎-elim b a (lt-or-ge q i)
@@ -63,18 +62,17 @@ module _ (axes mode : ℕ) (job : List ℕ) where
       here l = let e : q ≡ i = omega arith in subst (λ (n : ℕ). kind (recordAt job n) ≡ 2) e v
 
       go : Means axes job i t → (q < i → Known i q) → Looks axes mode job (recordAt job i) i t → Known (suc i) q
-      go m rec (axis k a e) =
+      go m rec (bad n z h e) = absurd (not-stop s n (sym f ∙ e))
+      go m rec (axis z k e) =
+          let a = early-is axes job i t (form-passed axes (axesBefore axes i t) (isLate t) (recordAt job i) z .early (eq-eqb (kind (recordAt job i)) 1 k)) in
           at (λ l. let w = here l in absurd (omega arith))
           (λ l. let x = count-less job i q l (λ z. omega arith) in let y = m .in-axes a in absurd (omega arith))
-      go m rec (late k a e) = five e
-      go m rec (cut k a w e) = five e
-      go m rec (value k w e) =
+      go m rec (value z k e) =
           let u = value-on (recordAt job i) (saidAt axes job i t) s (sym e ∙ f) in
           let x = value-known (recordAt job i) (length (saidAt axes job i t .regions)) (has (firstLike (saidAt axes job i t .regions) (regionOf (recordAt job i))) (saidAt axes job i t .named)) (u .0) in
           let y : Known i i = subst (λ (x : List Region). regionOf (recordAt job i) < length x) (m .regions-are) x in
           at (λ l. let z : i ≡ q = omega arith in next-known i (λ c. omega arith) q (subst (λ (n : ℕ). Known i n) z y)) (λ l. next-known i (λ c. omega arith) q (rec l))
-      go m rec (set-end k w e) = at (λ l. let w′ = here l in absurd (omega arith)) (λ l. next-known i (λ c. omega arith) q (rec l))
-      go m rec (unknown a b c e) = five e
+      go m rec (set-end z k e) = at (λ l. let w′ = here l in absurd (omega arith)) (λ l. next-known i (λ c. omega arith) q (rec l))
 
   -- S1: equal regions have one first like
   pub named-before : (i : ℕ) (s : State) → Passed axes mode job i s → (q : ℕ) → q < length (knownRegions axes job i)

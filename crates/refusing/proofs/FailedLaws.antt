@@ -1,6 +1,6 @@
 -- Tests in their order: which one answers. Assumes nothing.
 use mathlib.Core.Path.{_≡_, refl, sym, ap, _∙_}
-use mathlib.Core.Bool.{Bool, true, false, _&&_}
+use mathlib.Core.Bool.{Bool, true, false, not, _&&_, _||_}
 use mathlib.Core.List.{List, [], _∷_}
 use mathlib.Core.Logic.{_⊎_, inl, inr}
 use Prim.Native.Nat.{ℕ, _≤_, _<_}
@@ -86,3 +86,16 @@ and-first a b e = rw e
 pub and-second : (a b : Bool) → b ≡ false → a && b ≡ false
 and-second true b e = e
 and-second false b e = refl
+
+pub or-neither : (a b : Bool) → a || b ≡ false → (a ≡ false) × (b ≡ false)
+or-neither true b e = absurd (true-false refl e)
+or-neither false b e = (refl, e)
+
+-- a test that asks something of some records alone
+pub asked-fails : (a b : Bool) → not a || b ≡ false → (a ≡ true) × (b ≡ false)
+asked-fails true b e = (refl, e)
+asked-fails false b e = absurd (true-false refl e)
+
+pub asked-holds : (a b : Bool) → not a || b ≡ true → a ≡ true → b ≡ true
+asked-holds true b e h = e
+asked-holds false b e h = absurd (true-false h refl)

@@ -1,42 +1,46 @@
 -- What the state before a record means, by counts of the records before it. Assumes nothing.
 use mathlib.Core.Path.{_≡_, refl, sym, ap, subst, _∙_}
-use mathlib.Core.Bool.{true, _||_}
+use mathlib.Core.Bool.{true, false, _||_}
 use mathlib.Core.List.{List, [], _∷_}
 use mathlib.Core.Logic.{_⊎_, inl, inr, ⊎-elim}
-use Prim.Native.Nat.{ℕ, zero, suc, _-_, _/_, _%_, _≤_, _<_}
+use Prim.Native.Nat.{ℕ, zero, suc, _-_, _*_, _/_, _%_, _≤_, _<_}
 use native.Mathlib.Omega.{arith}
 use lib.ListN.{length, length-append}
 use lib.Dec.{eqb}
-use borrow.Author.Tests.{eq-eqb, eqb-true}
-use Rattle.laws.proofs.Cases.{lt-or-ge, or-left, or-right, or-cases}
+use borrow.Author.Tests.{eq-eqb, ne-eqb, eqb-true}
+use Rattle.laws.proofs.Cases.{lt-or-ge, or-left, or-right, or-cases, true-false}
 use Rattle.said.specs.Records.{kind, regionOf, valueWord, recordAt}
-use Rattle.said.specs.Refusals.{axisNo}
 use Rattle.said.specs.Sets.{Region, regionList, firstLike, has}
-use Rattle.said.specs.Job.{Said, State, inAxes, inSets, stop, on, unless, afterValue, afterEnd, valueStep, endStep, regionsOnly, step}
+use Rattle.said.specs.Job.{Said, State, inAxes, inSets, Step, stop, on, unless, afterValue, afterEnd, valueStep, endStep, regionsOnly, saidAt, axesBefore, isLate, step}
+use Rattle.said.proofs.RecordLaws.{Formed, form-passed}
+use Rattle.said.proofs.StepLaws.{regions-from}
 use Rattle.said.proofs.SaidLaws.{value-known}
 use Rattle.told.proofs.WordLaws.{count-here, count-past, count-most}
 use Rattle.told.specs.Told.{countKind, endsBefore}
-use Rattle.ivs.specs.Exactly.{Exactly}
-use Rattle.ivs.proofs.Passing.{Passed, saidAt, RegionWhole}
-use Rattle.ivs.specs.Counts.{axisRecords, knownRegions}
-use Rattle.ivs.proofs.StepLaws.{Looks, looks, valueTold, endTold}
-use Rattle.ivs.proofs.StepLaws.Looks.{axis, late, cut, value, set-end, unknown}
+use Rattle.refusing.specs.Exactly.{Exactly}
+use Rattle.refusing.proofs.Passing.{Passed}
+use Rattle.refusing.specs.Counts.{axisRecords, knownRegions}
+use Rattle.refusing.proofs.StepLaws.{not-stop, formTold, Looks, looks, valueTold, endTold}
+use Rattle.refusing.proofs.StepLaws.Looks.{bad, axis, value, set-end}
 
 -- ---- steps that go on
 
-unless-on-only : (k : ℕ) (s t : State) → unless k s ≡ on t → (k ≡ 0) × (s ≡ t)
+on-one : (s t : State) → on s ≡ on t → s ≡ t
+on-one s t e = cc
+
+unless-on-only : (k : ℕ) (s t : State) → unless k (on s) ≡ on t → (k ≡ 0) × (s ≡ t)
 unfolding unless
-unless-on-only zero s t e = let z : s ≡ t = cc in (refl, z)
-unless-on-only (suc k) s t e = let z : _≡_ {A = ℕ} 0 1 = cc in absurd (omega arith)
+unless-on-only zero s t e = (refl, on-one s t e)
+unless-on-only (suc k) s t e = absurd (not-stop t (suc k) (sym e))
 
 pub value-on : (r : List ℕ) (s : Said) (t : State) → valueStep r s ≡ on t
     → (valueTold r s ≡ 0) × (inSets (afterValue s (firstLike (s .regions) (regionOf r)) (valueWord r)) ≡ t)
 unfolding valueStep
 value-on r s t e = unless-on-only (valueTold r s) _ t e
 
-pub end-on : (mode : ℕ) (r : List ℕ) (s : Said) (t : State) → endStep mode r s ≡ on t → (endTold mode r s ≡ 0) × (inSets (afterEnd s) ≡ t)
+pub end-on : (mode : ℕ) (s : Said) (t : State) → endStep mode s ≡ on t → (endTold mode s ≡ 0) × (inSets (afterEnd s) ≡ t)
 unfolding endStep
-end-on mode r s t e = unless-on-only (endTold mode r s) _ t e
+end-on mode s t e = unless-on-only (endTold mode s) _ t e
 
 -- ---- the regions that a set has named
 
@@ -126,13 +130,22 @@ pub not-axes : (s : Said) → inSets s ≡ inAxes → ⊥
 not-axes s e = let z : _≡_ {A = ℕ} 0 1 = cc in omega arith
 
 module _ (axes : ℕ) (job : List ℕ) (i : ℕ) where
-  -- inside an unfinished region, by the count of axis records
-  pub whole-count : (t : State) → Means axes job i t → RegionWhole axes i t → axisRecords job i % axes ≡ 0
-  whole-count inAxes m w = ap (λ (n : ℕ). n % axes) (m .in-axes refl) ∙ w refl
-  whole-count (inSets s) m w = m .in-sets (not-axes s) .1
+  -- the axis records before record i, and whether a value or an end stands there
+  pub before-is : (t : State) → Means axes job i t → axesBefore axes i t ≡ axisRecords job i
+  unfolding axesBefore saidAt
+  before-is inAxes m = sym (m .in-axes refl)
+  before-is (inSets s) m =
+      ap (λ (l : List Region). axes * length l) (m .regions-are) ∙ regions-from axes job (axisRecords job i) (m .in-sets (not-axes s) .1)
 
-  pub count-whole : (t : State) → Means axes job i t → axisRecords job i % axes ≡ 0 → RegionWhole axes i t
-  count-whole t m c e = ap (λ (n : ℕ). n % axes) (sym (m .in-axes e)) ∙ c
+  pub late-is : (t : State) → Means axes job i t → Exactly (isLate t ≡ true) (axisRecords job i < i)
+  unfolding isLate
+  late-is inAxes m = record { given = λ l. let e = m .in-axes refl in absurd (omega arith); only = λ e. absurd (true-false e refl) }
+  late-is (inSets s) m = record { given = λ l. refl; only = λ e. m .in-sets (not-axes s) .0 }
+
+  pub early-is : (t : State) → isLate t ≡ false → t ≡ inAxes
+  unfolding isLate
+  early-is inAxes e = refl
+  early-is (inSets s) e = absurd (true-false refl e)
 
   none-ended : (t : State) → t ≡ inAxes → length (saidAt axes job i t .sets) ≡ 0
   unfolding saidAt regionsOnly
@@ -152,13 +165,13 @@ module _ (axes : ℕ) (job : List ℕ) (i : ℕ) where
     regions-same : (kind r ≡ 1 → ⊥) → knownRegions axes job (suc i) ≡ knownRegions axes job i
     regions-same d = ap (λ (n : ℕ). regionList axes (n / axes) job) (count-past 1 job i d)
 
-    past-axes : (kind r ≡ 1 → ⊥) → RegionWhole axes i t → (axisRecords job (suc i) < suc i) × (axisRecords job (suc i) % axes ≡ 0)
+    past-axes : (kind r ≡ 1 → ⊥) → axisRecords job i % axes ≡ 0 → (axisRecords job (suc i) < suc i) × (axisRecords job (suc i) % axes ≡ 0)
     past-axes d w =
         let c = count-past 1 job i d in
         let h = count-most 1 job i in
-        (omega arith, ap (λ (n : ℕ). n % axes) c ∙ whole-count t m w)
+        (omega arith, ap (λ (n : ℕ). n % axes) c ∙ w)
 
-    value-mean : kind r ≡ 2 → RegionWhole axes i t → valueTold r old ≡ 0 → Means axes job (suc i) (inSets (afterValue old q′ (valueWord r)))
+    value-mean : kind r ≡ 2 → axisRecords job i % axes ≡ 0 → valueTold r old ≡ 0 → Means axes job (suc i) (inSets (afterValue old q′ (valueWord r)))
     unfolding saidAt afterValue has
     value-mean v w z = record {
       regions-are = m .regions-are ∙ sym (regions-same not-one);
@@ -193,7 +206,7 @@ module _ (axes : ℕ) (job : List ℕ) (i : ℕ) where
             (λ (e : has q (old .named) ≡ true). named-on (knownRegions axes job i) job i q v (m .named-is q .only e))
             (or-cases (eqb q q′) (has q (old .named)) h)
 
-    end-mean : kind r ≡ 3 → RegionWhole axes i t → Means axes job (suc i) (inSets (afterEnd old))
+    end-mean : kind r ≡ 3 → axisRecords job i % axes ≡ 0 → Means axes job (suc i) (inSets (afterEnd old))
     unfolding saidAt afterEnd has
     end-mean v w = record {
       regions-are = m .regions-are ∙ sym (regions-same not-one);
@@ -222,19 +235,30 @@ module _ (axes : ℕ) (job : List ℕ) (i : ℕ) where
         (count-past 3 job i (λ e. omega arith) ∙ sym (m .sets-are) ∙ none-ended t a)
         (λ k e. let y : i ≡ k = omega arith in subst (λ (x : ℕ). kind (recordAt job x) ≡ 1) y v)
 
+    -- a record whose form is right
+    abbrev Right : Type 0
+    Right = Formed axes (axesBefore axes i t) (isLate t) r
+
+    right : (mode : ℕ) → formTold axes mode job r i t ≡ 0 → Right
+    right mode z = form-passed axes (axesBefore axes i t) (isLate t) r z
+
+    pub whole-is : Right → (kind r ≡ 1 → ⊥) → axisRecords job i % axes ≡ 0
+    whole-is f d = ap (λ (n : ℕ). n % axes) (sym (before-is t m)) ∙ f .whole (ne-eqb (kind r) 1 d)
+
     next-means : (mode : ℕ) (s : State) → step axes mode job r i t ≡ on s → Means axes job (suc i) s
     next-means mode s f = go (looks axes mode job r i t)
       where
-        five : step axes mode job r i t ≡ stop 5 → Means axes job (suc i) s
-        five e = let z : _≡_ {A = ℕ} 0 1 = cc in absurd (omega arith)
-
         go : Looks axes mode job r i t → Means axes job (suc i) s
-        go (axis k a e) = subst (λ (x : State). Means axes job (suc i) x) (unless-on-only (axisNo axes r i) inAxes s (sym e ∙ f) .1) (axis-mean k a)
-        go (late k a e) = five e
-        go (cut k a w e) = five e
-        go (value k w e) = let u = value-on r old s (sym e ∙ f) in subst (λ (x : State). Means axes job (suc i) x) (u .1) (value-mean k w (u .0))
-        go (set-end k w e) = let u = end-on mode r old s (sym e ∙ f) in subst (λ (x : State). Means axes job (suc i) x) (u .1) (end-mean k w)
-        go (unknown a b c e) = five e
+        go (bad n e h g) = absurd (not-stop s n (sym f ∙ g))
+        go (axis z k e) =
+            let first = early-is t (right mode z .early (eq-eqb (kind r) 1 k)) in
+            subst (λ (x : State). Means axes job (suc i) x) (on-one inAxes s (sym e ∙ f)) (axis-mean k first)
+        go (value z k e) =
+            let u = value-on r old s (sym e ∙ f) in
+            subst (λ (x : State). Means axes job (suc i) x) (u .1) (value-mean k (whole-is (right mode z) (λ a. omega arith)) (u .0))
+        go (set-end z k e) =
+            let u = end-on mode old s (sym e ∙ f) in
+            subst (λ (x : State). Means axes job (suc i) x) (u .1) (end-mean k (whole-is (right mode z) (λ a. omega arith)))
 
 pub means : (axes mode : ℕ) (job : List ℕ) (i : ℕ) (s : State) → Passed axes mode job i s → Means axes job i s
 unfolding Passed countKind

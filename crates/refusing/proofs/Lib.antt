@@ -1,0 +1,12 @@
+pub mod FailedLaws
+pub mod Passing
+pub mod ZeroLaws
+pub mod StepLaws
+pub mod StateLaws
+pub mod KnownLaws
+pub mod WalkRows
+pub mod RecordTests
+pub mod RecordStops
+pub mod FiveLaws
+pub mod FineLaws
+pub mod WalkEnds

@@ -1,0 +1,4 @@
+pub mod Exactly
+pub mod Counts
+pub mod BadRecord
+pub mod Fine
