@@ -33,11 +33,11 @@ module _ {p : Places} {groups k : ℕ} {w : List ℕ} (f : LineFit p groups k w)
   unfolding lineUp
   line-count = l .count ∙ sym (length-sorted (noLater (livingAt p) w) (livingIn w (p .place) k))
 
-  line-at : (q : ℕ) → q < r → getD w₁ (p .costs + q) 0 ≡ getD (lineUp p k w) q 0
+  line-at : (q : ℕ) → q < r → getD w₁ (p .living + q) 0 ≡ getD (lineUp p k w) q 0
   unfolding lineUp
-  line-at q h = sym (getD-seg (p .costs) r w₁ q h) ∙ ap (λ (z : List ℕ). getD z q 0) (l .is)
+  line-at q h = sym (getD-seg (p .living) r w₁ q h) ∙ ap (λ (z : List ℕ). getD z q 0) (l .is)
 
-  pub line-spots : SpotsFit (p .costs) r (p .columns) groups w₁
+  pub line-spots : SpotsFit (p .living) r (p .spots) groups w₁
   line-spots =
       let n = line-count in
       let few = f .living-few in
@@ -49,31 +49,31 @@ module _ {p : Places} {groups k : ℕ} {w : List ℕ} (f : LineFit p groups k w)
         apart = λ q s a b e. f .apart q s a (omega arith) (sym (line-at q (omega arith)) ∙ e ∙ line-at s b);
       }
 
-  module _ {w₂ : List ℕ} (s : SpotsAt (p .costs) r (p .columns) groups w₁ w₂) where
+  module _ {w₂ : List ℕ} (s : SpotsAt (p .living) r (p .spots) groups w₁ w₂) where
     pub lined-up : LinedUp p groups k w w₂ r
     lined-up =
         let n = line-count in
         let few = f .living-few in
         record {
-          only = only-join {rs = (p .costs, p .room) ∷ []} {ss = (p .columns, p .room) ∷ []}
-              (only-widen (p .costs) (p .room) (omega arith) (omega (arith, l .count, f .few)) (l .only))
-              (only-widen (p .columns) (p .room) (omega arith) (omega (arith, f .few)) (s .only));
+          only = only-join {rs = (p .living, p .room) ∷ []} {ss = (p .spots, p .room) ∷ []}
+              (only-widen (p .living) (p .room) (omega arith) (omega (arith, l .count, f .few)) (l .only))
+              (only-widen (p .spots) (p .room) (omega arith) (omega (arith, f .few)) (s .only));
           count-is = n;
-          at = λ q h. s .only .kept (p .costs + q) (record { apart = λ x. absurd (omega (arith, f .laid, f .few)) }, tt) ∙ line-at q h;
-          spot = λ q h. subst (λ (z : ℕ). getD w₂ (p .columns + z) 0 ≡ q) (line-at q h) (s .at q h);
+          at = λ q h. s .only .kept (p .living + q) (record { apart = λ x. absurd (omega (arith, f .laid, f .few)) }, tt) ∙ line-at q h;
+          spot = λ q h. subst (λ (z : ℕ). getD w₂ (p .spots + z) 0 ≡ q) (line-at q h) (s .at q h);
         }
 
 -- ---- homes, heads and rows
 
 abbrev homesOf : Places → ℕ → HomeTables
-homesOf p groups = record { groups = groups; from = p .order; into = p .into; place = p .place; spot = p .columns; home = p .counts }
+homesOf p groups = record { groups = groups; from = p .order; into = p .into; place = p .place; spot = p .spots; home = p .homes }
 
 abbrev dealOf : Places → DealTables
-dealOf p = record { sets = p .sets; line = p .line; first = p .first; kinds = p .kinds; home = p .counts; finals = p .columns; rows = p .rows }
+dealOf p = record { sets = p .sets; line = p .line; first = p .first; kinds = p .kinds; home = p .homes; finals = p .finals; rows = p .rows }
 
 -- what `arrange` writes
 abbrev arranged-in : Places → List (ℕ × ℕ)
-arranged-in p = (p .counts, p .room) ∷ (p .costs, p .room) ∷ (p .columns, 3 * p .room) ∷ (p .rows, p .sets) ∷ []
+arranged-in p = (p .homes, p .room) ∷ (p .living, p .room) ∷ (p .finals, 3 * p .room) ∷ (p .rows, p .sets) ∷ []
 
 module _ {p : Places} {groups k : ℕ} {w : List ℕ} (f : ArrangeFit p groups k w) {w₁ : List ℕ} {count : ℕ} (l : LinedUp p groups k w w₁ count) where
   lies : Laid p (length w)
@@ -85,7 +85,7 @@ module _ {p : Places} {groups k : ℕ} {w : List ℕ} (f : ArrangeFit p groups k
   count-few : count ≤ groups
   count-few = omega (arith, l .count-is, f .line .living-few)
 
-  low₁ : (i : ℕ) → i < p .costs → getD w₁ i 0 ≡ getD w i 0
+  low₁ : (i : ℕ) → i < p .living → getD w₁ i 0 ≡ getD w i 0
   low₁ i h = l .only .kept i (record { apart = λ x. absurd (omega arith) }, (record { apart = λ x. absurd (omega (arith, lies)) }, tt))
 
   high₁ : (i : ℕ) → p .into ≤ i → getD w₁ i 0 ≡ getD w i 0
@@ -124,13 +124,13 @@ module _ {p : Places} {groups k : ℕ} {w : List ℕ} (f : ArrangeFit p groups k
     other₂ : (i : ℕ) → p .place ≤ i → getD w₂ i 0 ≡ getD w₁ i 0
     other₂ i h = m .only .kept i (record { apart = λ x. omega (arith, lies, few) }, tt)
 
-    line₂ : (q : ℕ) → q < count → getD w₂ (p .costs + q) 0 ≡ getD (lineUp p k w) q 0
-    line₂ q h = other₂ (p .costs + q) (omega (arith, lies)) ∙ l .at q h
+    line₂ : (q : ℕ) → q < count → getD w₂ (p .living + q) 0 ≡ getD (lineUp p k w) q 0
+    line₂ q h = other₂ (p .living + q) (omega (arith, lies)) ∙ l .at q h
 
-    home₂ : (i q : ℕ) → i < groups → q < count → getD (lineUp p k w) q 0 ≡ heirSlot p w i → getD w₂ (p .counts + getD w (p .order + i) 0) 0 ≡ q
+    home₂ : (i q : ℕ) → i < groups → q < count → getD (lineUp p k w) q 0 ≡ heirSlot p w i → getD w₂ (p .homes + getD w (p .order + i) 0) 0 ≡ q
     home₂ i q h g e =
-        let a = subst (λ (z : ℕ). getD w₂ (p .counts + z) 0 ≡ getD w₁ (p .columns + (getD w₁ (p .place + getD w₁ (p .into + i) 0) 0 - 1)) 0) (order₁ i h) (m .at i h) in
-        a ∙ ap (λ (z : ℕ). getD w₁ (p .columns + (z - 1)) 0) (heir₁ i h) ∙ ap (λ (z : ℕ). getD w₁ (p .columns + z) 0) (sym e) ∙ l .spot q g
+        let a = subst (λ (z : ℕ). getD w₂ (p .homes + z) 0 ≡ getD w₁ (p .spots + (getD w₁ (p .place + getD w₁ (p .into + i) 0) 0 - 1)) 0) (order₁ i h) (m .at i h) in
+        a ∙ ap (λ (z : ℕ). getD w₁ (p .spots + (z - 1)) 0) (heir₁ i h) ∙ ap (λ (z : ℕ). getD w₁ (p .spots + z) 0) (sym e) ∙ l .spot q g
 
     slot-few : (q : ℕ) → q < count → p .slots + getD (lineUp p k w) q 0 * p .regions + p .regions ≤ p .order
     slot-few q h =
@@ -138,22 +138,22 @@ module _ {p : Places} {groups k : ℕ} {w : List ℕ} (f : ArrangeFit p groups k
         let r = row-fits (p .regions) (p .room + 1) (getD (lineUp p k w) q 0) (omega (arith, few)) in
         omega (arith, lies)
 
-    pub heads-fit : HeadsFit (p .slots) (p .regions) (p .costs) count (p .columns) w₂
+    pub heads-fit : HeadsFit (p .slots) (p .regions) (p .living) count (p .finals) w₂
     heads-fit = record {
       order-to = omega (arith, lies, few, count-few);
       room = omega (arith, lies, few, count-few, l .only .long, m .only .long);
       few = λ q h. rw (line₂ q h) (omega (arith, lies, slot-few q h));
     }
 
-    module _ {w₃ : List ℕ} (n : HeadsAt (p .slots) (p .regions) (p .costs) count (p .columns) w₂ w₃) where
-      low₃ : (i : ℕ) → i < p .counts → getD w₃ i 0 ≡ getD w i 0
+    module _ {w₃ : List ℕ} (n : HeadsAt (p .slots) (p .regions) (p .living) count (p .finals) w₂ w₃) where
+      low₃ : (i : ℕ) → i < p .homes → getD w₃ i 0 ≡ getD w i 0
       low₃ i h =
           n .only .kept i (record { apart = λ x. absurd (omega (arith, lies)) }, tt)
           ∙ m .only .kept i (record { apart = λ x. absurd (omega arith) }, tt)
           ∙ low₁ i (omega (arith, lies))
 
-      counts₃ : (s : ℕ) → s < groups → getD w₃ (p .counts + s) 0 ≡ getD w₂ (p .counts + s) 0
-      counts₃ s h = n .only .kept (p .counts + s) (record { apart = λ x. absurd (omega (arith, lies, few)) }, tt)
+      homes₃ : (s : ℕ) → s < groups → getD w₃ (p .homes + s) 0 ≡ getD w₂ (p .homes + s) 0
+      homes₃ s h = n .only .kept (p .homes + s) (record { apart = λ x. absurd (omega (arith, lies, few)) }, tt)
 
       kinds₃ : (x : ℕ) → x < p .sets → getD w₃ (p .kinds + x) 0 ≡ getD w (p .kinds + x) 0
       kinds₃ x h = low₃ (p .kinds + x) (omega (arith, lies))
@@ -163,11 +163,11 @@ module _ {p : Places} {groups k : ℕ} {w : List ℕ} (f : ArrangeFit p groups k
 
       -- the home of each slot
       home₃ : ℕ → ℕ
-      home₃ s = getD w₃ (p .counts + s) 0
+      home₃ s = getD w₃ (p .homes + s) 0
 
       home-at : (i q : ℕ) → i < groups → q < count → getD (lineUp p k w) q 0 ≡ heirSlot p w i → home₃ (getD w (p .order + i) 0) ≡ q
       unfolding home₃
-      home-at i q h g e = counts₃ (getD w (p .order + i) 0) (f .from-below i h) ∙ home₂ i q h g e
+      home-at i q h g e = homes₃ (getD w (p .order + i) 0) (f .from-below i h) ∙ home₂ i q h g e
 
       home-below : (s : ℕ) → s < groups → home₃ s < count
       home-below s h =
@@ -215,7 +215,7 @@ module _ {p : Places} {groups k : ℕ} {w : List ℕ} (f : ArrangeFit p groups k
         arranged =
             let c = count-few in
             record {
-              only = only-trans {rs = arranged-in p} (only-weaken (λ i o. (o .1 .0, (apart-part (o .1 .1 .0) (omega arith) (omega arith), tt))) (l .only))
+              only = only-trans {rs = arranged-in p} (only-weaken (λ i o. (o .1 .0, (apart-part (o .1 .1 .0) (omega (arith, lies)) (omega (arith, lies)), tt))) (l .only))
                   (only-trans {rs = arranged-in p} (only-weaken (λ i o. (apart-part (o .0) (omega arith) (omega (arith, few)), tt)) (m .only))
                   (only-trans {rs = arranged-in p} (only-weaken (λ i o. (apart-part (o .1 .1 .0) (omega arith) (omega (arith, few)), tt)) (n .only))
                   (only-weaken (λ i o. (apart-part (o .1 .1 .0) (omega arith) (omega (arith, few)), (o .1 .1 .1 .0, tt))) (d .only))));

@@ -34,6 +34,7 @@ use Rattle.grouping.proofs.GroupSteps.{shape-narrow}
 use Rattle.rule.specs.Told.{words}
 use Rattle.store.specs.Placing.{Final}
 use Rattle.store.specs.Lent.{finalAt, finalsAt}
+use Rattle.store.proofs.GroupLaws.{part-seg}
 use Rattle.encoder.specs.declared.places.Places.{Places}
 use Rattle.encoder.specs.Packed.{own, oneCost}
 use Rattle.encoder.specs.LentPlaces.{Laid}
@@ -67,18 +68,13 @@ words-put group shape rows n w f =
 
 -- ---- the cost of a shape in lent words
 
--- a part that is lent
-pub part-shape : (at regions : ℕ) (w : List ℕ) → take (at + regions - at) (drop at w) ≡ seg at regions w
-unfolding seg
-part-shape at regions w = let e : at + regions - at ≡ regions = omega arith in rw e
-
 module _ (at regions n : ℕ) (w : List ℕ) (f : CostFit at regions n w) where
   pub part-narrow : Narrow (take (at + regions - at) (drop at w))
-  part-narrow = rw (part-shape at regions w) (f .narrow)
+  part-narrow = rw (part-seg at regions w) (f .narrow)
 
   module _ (row cols : ℕ) (m : Measured (take (at + regions - at) (drop at w)) row cols) where
     measured : Measured (seg at regions w) row cols
-    measured = rw (part-shape at regions w) at m
+    measured = rw (part-seg at regions w) at m
 
     pub cost-small : Small row cols
     cost-small = narrow-small (seg at regions w) row cols (f .narrow) measured
@@ -139,9 +135,9 @@ module _ {p : Places} {w : List ℕ} (f : Fit p w) (some : 0 < p .sets) where
   record Order : Type 0 where
     line-ids : p .line ≤ p .ids
     ids-slots : p .ids + p .sets ≤ p .slots
-    slots-group : p .slots + p .regions + p .regions ≤ p .columns
+    slots-group : p .slots + p .regions + p .regions ≤ p .finals
     log-rows : p .log ≤ p .rows
-    group-rows : p .columns + 3 ≤ p .rows
+    group-rows : p .finals + 3 ≤ p .rows
 
   order : Order
   order =
@@ -151,9 +147,9 @@ module _ {p : Places} {w : List ℕ} (f : Fit p w) (some : 0 < p .sets) where
       record {
         line-ids = omega (arith, l .line-to, l .first-to);
         ids-slots = omega (arith, l .ids-to, l .kinds-to);
-        slots-group = omega (arith, two, l .slots-to, l .order-to, l .counts-to, l .place-to, l .costs-to);
+        slots-group = omega (arith, two, l .slots-to, l .order-to, l .counts-to, l .place-to, l .costs-to, l .finals-is);
         log-rows = omega (arith, l .log-to);
-        group-rows = omega (arith, l .room-is, l .columns-to, l .into-to, l .log-to);
+        group-rows = omega (arith, l .room-is, l .columns-to, l .into-to, l .log-to, l .finals-is);
       }
 
   pub ids-fit : (p .ids + p .sets ≤ length w) × (p .sets ≤ 4294967296)
@@ -184,7 +180,7 @@ module _ {p : Places} {w : List ℕ} (f : Fit p w) (some : 0 < p .sets) where
           }
 
       module _ {x : List ℕ} (c : CoverAt 0 (p .sets) (p .slots) (p .slots + p .regions) (p .regions) v x) where
-        pub words-fit : WordsFit (p .columns) (p .slots) (p .rows) (p .sets) x
+        pub words-fit : WordsFit (p .finals) (p .slots) (p .rows) (p .sets) x
         words-fit =
             let o = order in
             record {
@@ -194,7 +190,7 @@ module _ {p : Places} {w : List ℕ} (f : Fit p w) (some : 0 < p .sets) where
               n-few = omega (arith, laid .few);
             }
 
-        module _ {y : List ℕ} (g : WordsAt (p .columns) (p .slots) (p .rows) (p .sets) x y) where
+        module _ {y : List ℕ} (g : WordsAt (p .finals) (p .slots) (p .rows) (p .sets) x y) where
           long : length y ≡ length w
           long = g .only .long ∙ c .only .long ∙ line-rows .long
 
@@ -272,18 +268,18 @@ module _ {p : Places} {w : List ℕ} (f : Fit p w) (some : 0 < p .sets) where
               (c .only))
               (only-widen (p .line) (length w) (omega (arith, o .line-ids, o .ids-slots, o .slots-group)) (omega (arith, o .group-rows, r)) (g .only))))
 
-          final-here : finalAt (p .regions) y (p .columns) ≡ record { shape = coverOf (p .regions) all; ids = upTo (p .sets) }
+          final-here : finalAt (p .regions) y (p .finals) ≡ record { shape = coverOf (p .regions) all; ids = upTo (p .sets) }
           final-here =
-              final-is (p .regions) (p .columns) (p .slots) (p .rows) (p .sets) y (g .shape-is) (g .rows-is) (g .n-is)
+              final-is (p .regions) (p .finals) (p .slots) (p .rows) (p .sets) y (g .shape-is) (g .rows-is) (g .n-is)
               ∙ (λ i. record { shape = shape-is i; ids = rows-are i })
 
           final-first : FinalIn p y 0
           final-first =
               let o = order in
-              let e : p .columns + 3 * 0 ≡ p .columns = omega arith in
-              let s : getD y (p .columns + 3 * 0) 0 ≡ p .slots = ap (λ (k : ℕ). getD y k 0) e ∙ g .shape-is in
-              let r : getD y (p .columns + 3 * 0 + 1) 0 ≡ p .rows = ap (λ (k : ℕ). getD y (k + 1) 0) e ∙ g .rows-is in
-              let n : getD y (p .columns + 3 * 0 + 2) 0 ≡ p .sets = ap (λ (k : ℕ). getD y (k + 2) 0) e ∙ g .n-is in
+              let e : p .finals + 3 * 0 ≡ p .finals = omega arith in
+              let s : getD y (p .finals + 3 * 0) 0 ≡ p .slots = ap (λ (k : ℕ). getD y k 0) e ∙ g .shape-is in
+              let r : getD y (p .finals + 3 * 0 + 1) 0 ≡ p .rows = ap (λ (k : ℕ). getD y (k + 1) 0) e ∙ g .rows-is in
+              let n : getD y (p .finals + 3 * 0 + 2) 0 ≡ p .sets = ap (λ (k : ℕ). getD y (k + 2) 0) e ∙ g .n-is in
               record {
                 shape-to = omega (arith, s, o .slots-group, o .group-rows);
                 rows-from = omega (arith, r);
@@ -298,8 +294,8 @@ module _ {p : Places} {w : List ℕ} (f : Fit p w) (some : 0 < p .sets) where
           rows-one : sum (λ k. getD y (groupAt p k + 2) 0) 1 ≤ p .sets
           unfolding sum
           rows-one =
-              let e : p .columns + 3 * 0 ≡ p .columns = omega arith in
-              let n : getD y (p .columns + 3 * 0 + 2) 0 ≡ p .sets = ap (λ (k : ℕ). getD y (k + 2) 0) e ∙ g .n-is in
+              let e : p .finals + 3 * 0 ≡ p .finals = omega arith in
+              let n : getD y (p .finals + 3 * 0 + 2) 0 ≡ p .sets = ap (λ (k : ℕ). getD y (k + 2) 0) e ∙ g .n-is in
               omega (arith, n)
 
           pub own-done : (cost : ℕ) → cost ≡ costAt (p .slots) (p .regions) (p .sets) y
@@ -326,7 +322,7 @@ module _ {p : Places} {w : List ℕ} (f : Fit p w) (some : 0 < p .sets) where
                   finals-in = final-in;
                   rows-few = rows-one;
                   finals-are =
-                      finals-one (λ k. getD (upTo (length all)) k 0) (p .regions) (p .columns) y
+                      finals-one (λ k. getD (upTo (length all)) k 0) (p .regions) (p .finals) y
                       ∙ rw (final-here, all-long, up-map (p .sets));
                   groups-is = refl;
                   groups-few = omega arith;

@@ -118,9 +118,13 @@ module _ (base n u r long : ℕ) (p : Places) (f : PlacesAt base n u p) (behind 
     slots-to = rw (f .regions-is) (omega (arith, f .order-is));
     order-to = omega (arith, f .counts-is);
     counts-to = omega (arith, f .counts-is, f .place-is);
+    homes-is = f .homes-is;
     place-to = omega (arith, f .costs-is);
     costs-to = omega (arith, f .costs-is, f .columns-is);
+    living-is = f .living-is;
     columns-to = omega (arith, f .columns-is, f .into-is);
+    spots-is = f .spots-is;
+    finals-is = f .finals-is;
     into-to = omega (arith, f .into-is, f .log-is);
     log-to = omega (arith, f .rows-is);
     rows-to = omega (arith, f .sets-is, rows-short);

@@ -362,9 +362,9 @@ module _ {p : Places} {groups ids : ℕ} {w : List ℕ} (f : JoinFit p groups id
     shape-word : (q : ℕ) → q < count → getD w″ (groupAt p q) 0 ≡ p .slots + slotOf (tablesOf p groups) w′ (at q) * p .regions
     shape-word q l = r .shape q l ∙ ap (λ (z : ℕ). p .slots + z * p .regions) (slot-at q l)
 
-    -- `arrange` leaves everything before the counts, and the log
-    low″ : (i : ℕ) → i < p .counts → getD w″ i 0 ≡ getD w′ i 0
-    low″ i h = kept-only {end = p .counts} (r .only) (omega arith, (omega (arith, lies), (omega (arith, lies), (omega (arith, lies), tt)))) .below i h
+    -- `arrange` leaves everything before the homes, and the log
+    low″ : (i : ℕ) → i < p .homes → getD w″ i 0 ≡ getD w′ i 0
+    low″ i h = kept-only {end = p .homes} (r .only) (omega arith, (omega (arith, lies), (omega (arith, lies), (omega (arith, lies), tt)))) .below i h
 
     shape-slot : (q : ℕ) → q < count → seg (getD w″ (groupAt p q) 0) (p .regions) w″ ≡ tab.shapeIn (livingAt p) (slotOf (tablesOf p groups) w′ (at q)) w′
     unfolding tab.shapeIn
@@ -392,15 +392,15 @@ module _ {p : Places} {groups ids : ℕ} {w : List ℕ} (f : JoinFit p groups id
 
     -- ---- all of them
 
-    finals-long : length (finalsAt (p .regions) (p .columns) count w″) ≡ count
+    finals-long : length (finalsAt (p .regions) (p .finals) count w″) ≡ count
     unfolding finalsAt
-    finals-long = length-tabulate 0 count (λ g. finalAt (p .regions) w″ (p .columns + 3 * g))
+    finals-long = length-tabulate 0 count (λ g. finalAt (p .regions) w″ (p .finals + 3 * g))
 
-    final-at : (q : ℕ) → q < count → getD (finalsAt (p .regions) (p .columns) count w″) q nothing ≡ finalAt (p .regions) w″ (groupAt p q)
+    final-at : (q : ℕ) → q < count → getD (finalsAt (p .regions) (p .finals) count w″) q nothing ≡ finalAt (p .regions) w″ (groupAt p q)
     unfolding finalsAt
     final-at q h =
         let e : 0 + q ≡ q = omega arith in
-        getD-tabulate 0 count (λ g. finalAt (p .regions) w″ (p .columns + 3 * g)) nothing q h ∙ ap (λ (z : ℕ). finalAt (p .regions) w″ (p .columns + 3 * z)) e
+        getD-tabulate 0 count (λ g. finalAt (p .regions) w″ (p .finals + 3 * g)) nothing q h ∙ ap (λ (z : ℕ). finalAt (p .regions) w″ (p .finals + 3 * z)) e
 
     -- a group by the ids of its rows
     named : Final → Final
@@ -410,21 +410,21 @@ module _ {p : Places} {groups ids : ℕ} {w : List ℕ} (f : JoinFit p groups id
     unfolding finalAt finalOf named
     named-at q h = λ i. record { shape = shape-is q h i; ids = rows-are q h i }
 
-    finals-are : relabel (λ x. getD (sharedIds all) x 0) (finalsAt (p .regions) (p .columns) count w″) ≡ map (finalOf (p .regions) gs (distinct all)) ordered
+    finals-are : relabel (λ x. getD (sharedIds all) x 0) (finalsAt (p .regions) (p .finals) count w″) ≡ map (finalOf (p .regions) gs (distinct all)) ordered
     unfolding relabel named at
     finals-are =
         let l = finals-long in
-        let n = length-map (finalsAt (p .regions) (p .columns) count w″) named in
+        let n = length-map (finalsAt (p .regions) (p .finals) count w″) named in
         let n′ = length-map ordered (finalOf (p .regions) gs (distinct all)) in
         let s = length-sorted isAhead living in
-        ext-getD nothing (map named (finalsAt (p .regions) (p .columns) count w″)) (map (finalOf (p .regions) gs (distinct all)) ordered) (omega (arith, count-is))
+        ext-getD nothing (map named (finalsAt (p .regions) (p .finals) count w″)) (map (finalOf (p .regions) gs (distinct all)) ordered) (omega (arith, count-is))
         (λ q h.
         let k : q < count = omega arith in
-        getD-map-in named (finalsAt (p .regions) (p .columns) count w″) q nothing nothing (omega arith)
+        getD-map-in named (finalsAt (p .regions) (p .finals) count w″) q nothing nothing (omega arith)
         ∙ ap named (final-at q k) ∙ named-at q k
         ∙ sym (getD-map-in (finalOf (p .regions) gs (distinct all)) ordered q nobody nothing (omega (arith, count-is))))
 
-    finals-shared : relabel (λ x. getD (sharedIds all) x 0) (finalsAt (p .regions) (p .columns) count w″) ≡ finalsOf (p .regions) gs (distinct all)
+    finals-shared : relabel (λ x. getD (sharedIds all) x 0) (finalsAt (p .regions) (p .finals) count w″) ≡ finalsOf (p .regions) gs (distinct all)
     unfolding finalsOf
     finals-shared = finals-are ∙ ap (λ (z : List Group). map (finalOf (p .regions) gs (distinct all)) (sorted isAhead (merged z .living))) (starting-are f)
 

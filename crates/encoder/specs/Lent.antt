@@ -27,9 +27,9 @@ pub record Fit (p : Places) (w : List ℕ) : Type 0 where
 unfoldable pub relabel : (ℕ → ℕ) → List Final → List Final
 relabel f gs = map (λ (g : Final). record { shape = g .shape; ids = map f (g .ids) }) gs
 
--- where the three words of final group g stand: from where `columns` stood, and over what was `into`
+-- where the three words of final group g stand
 abbrev pub groupAt : Places → ℕ → ℕ
-groupAt p g = p .columns + 3 * g
+groupAt p g = p .finals + 3 * g
 
 -- the three words of a final group: its shape and its rows lie in their tables, and its rows are numbers of sets
 pub record FinalIn (p : Places) (w : List ℕ) (g : ℕ) : Type 0 where
@@ -45,9 +45,9 @@ pub record PackedAt (k : Packed) (p : Places) (e : Encoded) (w : List ℕ) : Typ
   pub sets-few : p .sets ≤ mostRecords
   pub regions-few : p .regions ≤ maxRegions
   pub line-to : p .line ≤ p .ids
-  pub ids-to : p .ids + p .sets ≤ p .columns
+  pub ids-to : p .ids + p .sets ≤ p .finals
   pub finals-few : e .count ≤ maxShapes
-  pub finals-to : p .columns + 3 * e .count ≤ p .rows
+  pub finals-to : p .finals + 3 * e .count ≤ p .rows
   pub rows-to : p .rows + p .sets ≤ length w
   pub log-to : p .log + 3 * e .merges ≤ p .rows
   pub ids-are : seg (p .ids) (p .sets) w ≡ k .ids
@@ -56,7 +56,7 @@ pub record PackedAt (k : Packed) (p : Places) (e : Encoded) (w : List ℕ) : Typ
   pub distinct-few : e .distinct ≤ p .sets
   pub finals-in : (g : ℕ) → g < e .count → FinalIn p w g
   pub rows-few : sum (λ g. getD w (groupAt p g + 2) 0) (e .count) ≤ p .sets
-  pub finals-are : relabel (λ x. getD (k .ids) x 0) (finalsAt (p .regions) (p .columns) (e .count) w) ≡ k .finals
+  pub finals-are : relabel (λ x. getD (k .ids) x 0) (finalsAt (p .regions) (p .finals) (e .count) w) ≡ k .finals
   pub groups-is : e .groups ≡ k .groups
   pub groups-few : e .groups ≤ maxShapes
   pub merges-is : e .merges ≡ length (k .log)

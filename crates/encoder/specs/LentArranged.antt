@@ -32,7 +32,7 @@ abbrev pub shapesAt : Places → Shapes
 shapesAt p = record { regions = p .regions; room = p .room; slots = p .slots; order = p .order; counts = p .counts }
 
 abbrev pub livingAt : Places → Shapes
-livingAt p = record { regions = p .regions; room = p .room; slots = p .slots; order = p .costs; counts = p .counts }
+livingAt p = record { regions = p .regions; room = p .room; slots = p .slots; order = p .living; counts = p .counts }
 
 -- the slots of the living of k numbers, in the order of their shapes
 unfoldable pub lineUp : Places → ℕ → List ℕ → List ℕ
@@ -47,10 +47,10 @@ pub record LineFit (p : Places) (groups k : ℕ) (w : List ℕ) : Type 0 where
   pub apart : (q r : ℕ) → q < r → r < length (lineUp p k w) → getD (lineUp p k w) q 0 ≡ getD (lineUp p k w) r 0 → ⊥
 
 pub record LinedUp (p : Places) (groups k : ℕ) (old new : List ℕ) (count : ℕ) : Type 0 where
-  pub only : Only ((p .costs, p .room) ∷ (p .columns, p .room) ∷ []) old new
+  pub only : Only ((p .living, p .room) ∷ (p .spots, p .room) ∷ []) old new
   pub count-is : count ≡ length (lineUp p k old)
-  pub at : (q : ℕ) → q < count → getD new (p .costs + q) 0 ≡ getD (lineUp p k old) q 0
-  pub spot : (q : ℕ) → q < count → getD new (p .columns + getD (lineUp p k old) q 0) 0 ≡ q
+  pub at : (q : ℕ) → q < count → getD new (p .living + q) 0 ≡ getD (lineUp p k old) q 0
+  pub spot : (q : ℕ) → q < count → getD new (p .spots + getD (lineUp p k old) q 0) 0 ≡ q
 
 -- the slot of the living group that starting group i went into
 abbrev pub heirSlot : Places → List ℕ → ℕ → ℕ
@@ -70,7 +70,7 @@ pub record ArrangeFit (p : Places) (groups k : ℕ) (w : List ℕ) : Type 0 wher
 -- The final groups stand in the order of the line, and each one's rows are the sets, in their order and of equal ones the first, whose slot has
 -- its home there.
 pub record Arranged (p : Places) (groups k : ℕ) (old new : List ℕ) (count : ℕ) : Type 0 where
-  pub only : Only ((p .counts, p .room) ∷ (p .costs, p .room) ∷ (p .columns, 3 * p .room) ∷ (p .rows, p .sets) ∷ []) old new
+  pub only : Only ((p .homes, p .room) ∷ (p .living, p .room) ∷ (p .finals, 3 * p .room) ∷ (p .rows, p .sets) ∷ []) old new
   pub count-is : count ≡ length (lineUp p k old)
   pub home : ℕ → ℕ
   pub home-is : (i q : ℕ) → i < groups → q < count → getD (lineUp p k old) q 0 ≡ heirSlot p old i → home (getD old (p .order + i) 0) ≡ q

@@ -10,7 +10,7 @@ use Rattle.encoder.specs.declared.places.Places.{Places}
 unfoldable pub roomFor : ℕ → ℕ → ℕ
 roomFor sets regions = min sets (pick (eqb regions 0) 1 maxShapes)
 
--- The tables of so many sets and regions, one behind the other from `base` on. The final groups will stand where `columns` and `into` stood.
+-- The tables of so many sets and regions, one behind the other from `base` on; four of them stand where another stood before.
 pub record PlacesAt (base sets regions : ℕ) (p : Places) : Type 0 where
   pub sets-is : p .sets ≡ sets
   pub regions-is : p .regions ≡ regions
@@ -22,9 +22,13 @@ pub record PlacesAt (base sets regions : ℕ) (p : Places) : Type 0 where
   pub slots-is : p .slots ≡ base + 4 * sets
   pub order-is : p .order ≡ p .slots + (p .room + 1) * regions
   pub counts-is : p .counts ≡ p .order + p .room
+  pub homes-is : p .homes ≡ p .counts
   pub place-is : p .place ≡ p .order + 2 * p .room
   pub costs-is : p .costs ≡ p .place + 2 * p .room
+  pub living-is : p .living ≡ p .costs
   pub columns-is : p .columns ≡ p .place + 3 * p .room
+  pub spots-is : p .spots ≡ p .columns
+  pub finals-is : p .finals ≡ p .columns
   pub into-is : p .into ≡ p .place + 4 * p .room
   pub log-is : p .log ≡ p .place + 6 * p .room
   pub rows-is : p .rows ≡ p .log + 3 * (p .room - 1)
@@ -43,9 +47,13 @@ pub record Laid (p : Places) (long : ℕ) : Type 0 where
   pub slots-to : p .slots + (p .room + 1) * p .regions ≤ p .order
   pub order-to : p .order + p .room ≤ p .counts
   pub counts-to : p .counts + p .room ≤ p .place
+  pub homes-is : p .homes ≡ p .counts
   pub place-to : p .place + 2 * p .room ≤ p .costs
   pub costs-to : p .costs + p .room ≤ p .columns
+  pub living-is : p .living ≡ p .costs
   pub columns-to : p .columns + p .room ≤ p .into
+  pub spots-is : p .spots ≡ p .columns
+  pub finals-is : p .finals ≡ p .columns
   pub into-to : p .into + 2 * p .room ≤ p .log
   pub log-to : p .log + 3 * (p .room - 1) ≤ p .rows
   pub rows-to : p .rows + p .sets ≤ long

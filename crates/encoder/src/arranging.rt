@@ -10,7 +10,7 @@ use ordering::order_living;
 use table::Shapes;
 ghost use Rattle.encoder.specs.LentArranged.{LineFit, LinedUp, ArrangeFit, Arranged};
 
-// The slots of the living of k numbers, in order, from p.costs on; and the place of each there.
+// The slots of the living of k numbers, in order, from p.living on; and the place of each there, from p.spots on.
 fn line_up(work: &mut [u32], p: Places, groups: usize, k: usize) -> usize
     requires { ⌜ LineFit p groups k (now work) ⌝ }
     ensures { λ r. ⌜ LinedUp p groups k (now (work .entry)) (now (work .exit)) r ⌝ }
@@ -19,15 +19,15 @@ fn line_up(work: &mut [u32], p: Places, groups: usize, k: usize) -> usize
         regions: p.regions,
         room: p.room,
         slots: p.slots,
-        order: p.costs,
+        order: p.living,
         counts: p.counts,
     };
     let count = order_living(work, t, p.place, k);
-    spots(work, p.costs, count, p.columns, groups);
+    spots(work, p.living, count, p.spots, groups);
     count
 }
 
-// Of so many starting groups, and numbers k in all: the final groups from p.columns on, and their rows from p.rows on. Returns how many there are.
+// Of so many starting groups, and numbers k in all: the final groups from p.finals on, and their rows from p.rows on. Returns how many there are.
 pub fn arrange(work: &mut [u32], p: Places, groups: usize, k: usize) -> usize
     requires { ⌜ ArrangeFit p groups k (now work) ⌝ }
     ensures { λ r. ⌜ Arranged p groups k (now (work .entry)) (now (work .exit)) r ⌝ }
@@ -38,18 +38,18 @@ pub fn arrange(work: &mut [u32], p: Places, groups: usize, k: usize) -> usize
         from: p.order,
         into: p.into,
         place: p.place,
-        spot: p.columns,
-        home: p.counts,
+        spot: p.spots,
+        home: p.homes,
     };
     find_homes(work, t);
-    heads(work, p.slots, p.regions, p.costs, count, p.columns);
+    heads(work, p.slots, p.regions, p.living, count, p.finals);
     let d = DealTables {
         sets: p.sets,
         line: p.line,
         first: p.first,
         kinds: p.kinds,
-        home: p.counts,
-        finals: p.columns,
+        home: p.homes,
+        finals: p.finals,
         rows: p.rows,
     };
     deal(work, d, count);

@@ -39,7 +39,7 @@ pub fn own(work: &mut [u32], p: Places) -> Encoded
     own_ids(work, p.ids, p.sets);
     own_ids(work, p.rows, p.sets);
     cover(work, 0, p.sets, p.slots, p.slots + p.regions, p.regions);
-    put_group(work, p.columns, p.slots, p.rows, p.sets);
+    put_group(work, p.finals, p.slots, p.rows, p.sets);
     let cost = cost_at(work, p.slots, p.regions, p.sets);
     Encoded {
         distinct: p.sets,

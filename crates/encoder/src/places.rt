@@ -7,9 +7,10 @@ ghost use Rattle.encoder.specs.LentPlaces.{roomFor, PlacesAt};
 
 // Of so many sets and regions, in this order. `line`, `first`, `ids` and `kinds` have a word for each set: set numbers in the order of the
 // sets, the first like of each, its id, the slot of its shape. Then the shapes, a word a region in each of room + 1 slots, and tables of room
-// words: `order` (the slot of each group), `counts` (sets by slot; then the final group of each slot), `place` (two such tables), `costs` (row
-// costs by slot; then the slots of the final groups), `columns` (columns by slot; then a slot's place in that order), `into` (two). Where those two
-// stood, the final groups come to stand, three words each. Then the log, and a word for each set from `rows` on.
+// words: `order` (the slot of each group), `counts` (sets by slot), `place` (two such tables), `costs` and `columns` (by slot), `into` (two).
+// After merging, the places of some serve again, each use by a name of its own: `homes`, where `counts` stood, has the final group of each
+// slot; `living`, where `costs` stood, the slots of the final groups in order; `spots`, where `columns` stood, a slot's place in that order;
+// and then `finals`, where `columns` and `into` stood, three words a final group. Then the log, and a word for each set from `rows` on.
 pub struct Places {
     pub sets: usize,
     pub regions: usize,
@@ -21,9 +22,13 @@ pub struct Places {
     pub slots: usize,
     pub order: usize,
     pub counts: usize,
+    pub homes: usize,
     pub place: usize,
     pub costs: usize,
+    pub living: usize,
     pub columns: usize,
+    pub spots: usize,
+    pub finals: usize,
     pub into: usize,
     pub log: usize,
     pub rows: usize,
@@ -70,8 +75,12 @@ pub fn lay_out(base: usize, sets: usize, regions: usize) -> Places
     let room = room_for(sets, regions);
     let slots = base + 4 * sets;
     let order = slots + (room + 1) * regions;
-    let place = order + 2 * room;
-    let log = place + 6 * room;
+    let counts = order + room;
+    let place = counts + room;
+    let costs = place + 2 * room;
+    let columns = costs + room;
+    let into = columns + room;
+    let log = into + 2 * room;
     let rows = log + log_words(room);
     Places {
         sets,
@@ -83,11 +92,15 @@ pub fn lay_out(base: usize, sets: usize, regions: usize) -> Places
         kinds: base + 3 * sets,
         slots,
         order,
-        counts: order + room,
+        counts,
+        homes: counts,
         place,
-        costs: place + 2 * room,
-        columns: place + 3 * room,
-        into: place + 4 * room,
+        costs,
+        living: costs,
+        columns,
+        spots: columns,
+        finals: columns,
+        into,
         log,
         rows,
     }

@@ -57,7 +57,7 @@ pub words-fit : {axes starts : ℕ} {job : List ℕ} {p : Places} {e : Encoded} 
 words-fit f = record { packed-as = f .packed-as; packed = f .packed; merges-few = f .merges-few; ids-below = f .ids-below }
 
 module _ {axes starts : ℕ} {job : List ℕ} {p : Places} {e : Encoded} {w : List ℕ} (fit : FinishFit axes starts job p e w) where
-  pub ready : Ready job axes starts w (p .regions) (p .columns) (e .count) 0
+  pub ready : Ready job axes starts w (p .regions) (p .finals) (e .count) 0
   ready =
       let k = fit .packed in
       record {
@@ -77,18 +77,18 @@ module _ {axes starts : ℕ} {job : List ℕ} {p : Places} {e : Encoded} {w : Li
 
   -- ---- what was drafted
 
-  module _ {marks numbers : List ℕ} {bytes runs kept : ℕ} (d : Drafted axes w (p .regions) (p .columns) (e .count) marks numbers bytes runs kept) where
+  module _ {marks numbers : List ℕ} {bytes runs kept : ℕ} (d : Drafted axes w (p .regions) (p .finals) (e .count) marks numbers bytes runs kept) where
     pub kept-few : kept ≤ maxRegions
     kept-few = omega (arith, d .numbered .all, kept-most (markedIn marks) (p .regions), fit .packed .regions-few)
 
     bytes-few : bytes < 4294967296
     bytes-few = omega (arith, d .bytes-is, store-small (fit .packed-as) p e w (fit .packed) axes kept runs (fit .axes-few) kept-few (d .runs-is))
 
-    pub plan : Planned axes w (p .regions) (p .columns) (e .count) marks numbers runs kept
-    plan = planned job axes starts w (p .regions) (p .columns) (e .count) 0 marks numbers bytes runs kept ready d bytes-few
+    pub plan : Planned axes w (p .regions) (p .finals) (e .count) marks numbers runs kept
+    plan = planned job axes starts w (p .regions) (p .finals) (e .count) 0 marks numbers bytes runs kept ready d bytes-few
 
     pub bytes-are : bytes ≡ length (storeIn axes starts job p e w)
-    bytes-are = draft-exact job axes starts w (p .regions) (p .columns) (e .count) 0 marks numbers bytes runs kept ready d bytes-few
+    bytes-are = draft-exact job axes starts w (p .regions) (p .finals) (e .count) 0 marks numbers bytes runs kept ready d bytes-few
 
     -- none of the tests fails: there is room for the store
     pub room : {code out ids map log : ℕ} → code ≡ shortNo (p .sets) (e .distinct) (e .groups) bytes out ids map log → code ≡ 0
@@ -103,14 +103,14 @@ module _ {axes starts : ℕ} {job : List ℕ} {p : Places} {e : Encoded} {w : Li
       coords = coordsIn job axes w starts (p .regions)
 
       abbrev groups : List Final
-      groups = finalsAt (p .regions) (p .columns) (e .count) w
+      groups = finalsAt (p .regions) (p .finals) (e .count) w
 
       abbrev id-of : ℕ → ℕ
       id-of x = getD (k .ids) x 0
 
       groups-all : All (λ (g : Final). All (λ x. x < p .sets) (g .ids)) groups
       unfolding finalsAt finalAt
-      groups-all = all-tabulate (λ (g : Final). All (λ x. x < p .sets) (g .ids)) 0 (e .count) (λ g. finalAt (p .regions) w (p .columns + 3 * g)) (λ g l h. at .finals-in g (omega arith) .numbers)
+      groups-all = all-tabulate (λ (g : Final). All (λ x. x < p .sets) (g .ids)) 0 (e .count) (λ g. finalAt (p .regions) w (p .finals + 3 * g)) (λ g l h. at .finals-in g (omega arith) .numbers)
 
       pub store-is : storeIn axes starts job p e w ≡ storeFor axes coords k
       unfolding storeFor
@@ -129,15 +129,15 @@ module _ {axes starts : ℕ} {job : List ℕ} {p : Places} {e : Encoded} {w : Li
           ∙ ap₂ (λ (m n : ℕ). shortNo (length (k .ids)) (length (k .sets)) m n (l .out) (l .ids) (l .map) (l .log)) (at .groups-is) b
           ∙ late-same (length (k .ids)) (length (k .sets)) (k .groups) (length (storeFor axes coords k)) (l .out) (l .ids) (l .map) (l .log) (omega (arith, at .groups-is, at .groups-few))
 
-      shapes-few : (g : ℕ) → g < e .count → length (finalAt (p .regions) w (p .columns + 3 * g) .shape) < 32768
+      shapes-few : (g : ℕ) → g < e .count → length (finalAt (p .regions) w (p .finals + 3 * g) .shape) < 32768
       unfolding finalAt
       shapes-few g h =
-          omega (arith, length-seg (getD w (p .columns + 3 * g) 0) (p .regions) w (omega (arith, at .finals-in g h .shape-to, at .rows-to)), at .regions-few)
+          omega (arith, length-seg (getD w (p .finals + 3 * g) 0) (p .regions) w (omega (arith, at .finals-in g h .shape-to, at .rows-to)), at .regions-few)
 
       runs-are : runs ≡ length (allRuns (k .finals))
       unfolding sizesAt finalsAt
       runs-are =
-          let f : ℕ → Final = (λ g. finalAt (p .regions) w (p .columns + 3 * g)) in
+          let f : ℕ → Final = (λ g. finalAt (p .regions) w (p .finals + 3 * g)) in
           let number : ℕ → ℕ = (λ r. r) in
           d .runs-is
           ∙ sym (tables-count number (setAt 0 w) f (e .count) shapes-few)

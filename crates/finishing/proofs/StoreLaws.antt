@@ -167,7 +167,7 @@ store-relabel axes coords f set set′ n gs h same =
 -- ---- rows that became ids
 
 module _ (p : Places) (count : ℕ) (old new : List ℕ) (named : RowsNamed (p .rows) (p .sets) (p .ids) old new) (ins : (g : ℕ) → g < count → FinalIn p old g)
-    (groups-to : p .columns + 3 * count ≤ p .rows) (ids-to : p .ids + p .sets ≤ p .columns) (rows-to : p .rows + p .sets ≤ length old) where
+    (groups-to : p .finals + 3 * count ≤ p .rows) (ids-to : p .ids + p .sets ≤ p .finals) (rows-to : p .rows + p .sets ≤ length old) where
   abbrev id-of : ℕ → ℕ
   id-of x = getD (seg (p .ids) (p .sets) old) x 0
 
@@ -208,11 +208,11 @@ module _ (p : Places) (count : ℕ) (old new : List ℕ) (named : RowsNamed (p .
       (part-named b n (f .rows-from) (f .rows-to) (f .numbers)) in
       (λ i. record { shape = shape-is i; ids = ids-are i })
 
-  pub finals-named : finalsAt (p .regions) (p .columns) count new ≡ relabel (λ x. getD (seg (p .ids) (p .sets) old) x 0) (finalsAt (p .regions) (p .columns) count old)
+  pub finals-named : finalsAt (p .regions) (p .finals) count new ≡ relabel (λ x. getD (seg (p .ids) (p .sets) old) x 0) (finalsAt (p .regions) (p .finals) count old)
   unfolding finalsAt relabel
   finals-named =
-      tabulate-same 0 count (λ g. finalAt (p .regions) new (p .columns + 3 * g)) (λ g. labelled id-of (finalAt (p .regions) old (p .columns + 3 * g))) (λ g q r. group-named g (omega arith))
-      ∙ sym (map-tabulate (labelled id-of) 0 count (λ g. finalAt (p .regions) old (p .columns + 3 * g)))
+      tabulate-same 0 count (λ g. finalAt (p .regions) new (p .finals + 3 * g)) (λ g. labelled id-of (finalAt (p .regions) old (p .finals + 3 * g))) (λ g q r. group-named g (omega arith))
+      ∙ sym (map-tabulate (labelled id-of) 0 count (λ g. finalAt (p .regions) old (p .finals + 3 * g)))
 
 -- ---- the store fits 32 bits
 
@@ -274,15 +274,15 @@ module _ (f : ℕ → List ℕ) (c : ℕ → ℕ) where
 
 module _ (k : Packed) (p : Places) (e : Encoded) (w : List ℕ) (packed : PackedAt k p e w) where
   abbrev the-group : ℕ → Final
-  the-group g = finalAt (p .regions) w (p .columns + 3 * g)
+  the-group g = finalAt (p .regions) w (p .finals + 3 * g)
 
   abbrev sets-of : ℕ → ℕ
-  sets-of g = getD w (p .columns + 3 * g + 2) 0
+  sets-of g = getD w (p .finals + 3 * g + 2) 0
 
   module _ (g : ℕ) (h : g < e .count) where
     group-sets : length (the-group g .ids) ≡ sets-of g
     unfolding finalAt
-    group-sets = length-seg (getD w (p .columns + 3 * g + 1) 0) (sets-of g) w (omega (arith, packed .finals-in g h .rows-to, packed .rows-to))
+    group-sets = length-seg (getD w (p .finals + 3 * g + 1) 0) (sets-of g) w (omega (arith, packed .finals-in g h .rows-to, packed .rows-to))
 
     sets-few : length (the-group g .ids) ≤ mostRecords
     sets-few = omega (arith, group-sets, packed .finals-in g h .rows-from, packed .finals-in g h .rows-to, packed .sets-few)
@@ -291,7 +291,7 @@ module _ (k : Packed) (p : Places) (e : Encoded) (w : List ℕ) (packed : Packed
     columns-few = omega (arith, columns-count (the-group g .shape), columns-most (the-group g .shape), shape-few, packed .regions-few)
       where
         shape-few : length (the-group g .shape) ≤ p .regions
-        shape-few = unfold finalAt in unfold seg in omega (arith, length-take (p .regions) (drop (getD w (p .columns + 3 * g) 0) w))
+        shape-few = unfold finalAt in unfold seg in omega (arith, length-take (p .regions) (drop (getD w (p .finals + 3 * g) 0) w))
 
     row-few : columnAt (wordCount (the-group g .shape)) (length (columnsOf (the-group g .shape))) ≤ rowMost
     row-few = omega (arith, row-most (wordCount (the-group g .shape)) (length (columnsOf (the-group g .shape))), columns-few)
@@ -309,8 +309,8 @@ module _ (k : Packed) (p : Places) (e : Encoded) (w : List ℕ) (packed : Packed
         let s = the-group g .shape in
         sizes-few (length (columnsOf s)) (columnAt (wordCount s) (length (columnsOf s))) (length (the-group g .ids)) columns-few row-few sets-few
 
-  pub store-small : (axes kept runs : ℕ) → axes ≤ mostAxes → kept ≤ maxRegions → runs ≡ length (sizesAt (p .regions) (p .columns) (e .count) w)
-      → 8 + 4 * runs + (4 + 6 * axes * kept) + sumOf (sizesAt (p .regions) (p .columns) (e .count) w) < 4294967296
+  pub store-small : (axes kept runs : ℕ) → axes ≤ mostAxes → kept ≤ maxRegions → runs ≡ length (sizesAt (p .regions) (p .finals) (e .count) w)
+      → 8 + 4 * runs + (4 + 6 * axes * kept) + sumOf (sizesAt (p .regions) (p .finals) (e .count) w) < 4294967296
   unfolding sizesAt
   store-small axes kept runs a b r =
       let most = chain-most (λ g. groupSizes (the-group g)) sets-of (e .count) group-most in

@@ -26,7 +26,7 @@ module _ {p : Places} {e : Encoded} {w : List ℕ} (fit : WordsFit p e w) where
       record { row = omega (arith, k .rows, k .room); body = omega (arith, k .body x h, k .room) }
 
   module _ (g : ℕ) (h : g < e .count) where
-    pub handed : Handed (p .regions) 0 w (p .columns + 3 * g)
+    pub handed : Handed (p .regions) 0 w (p .finals + 3 * g)
     handed =
         let k = fit .packed in
         let f = k .finals-in g h in
@@ -34,19 +34,19 @@ module _ {p : Places} {e : Encoded} {w : List ℕ} (fit : WordsFit p e w) where
           row = omega (arith, k .finals-to, k .rows-to);
           shape = omega (arith, f .shape-to, k .rows-to);
           ids = omega (arith, f .rows-to, k .rows-to);
-          sets = all-imp set-in (seg (getD w (p .columns + 3 * g + 1) 0) (getD w (p .columns + 3 * g + 2) 0) w) (f .numbers);
+          sets = all-imp set-in (seg (getD w (p .finals + 3 * g + 1) 0) (getD w (p .finals + 3 * g + 2) 0) w) (f .numbers);
         }
 
-    pub small : Small w (p .columns + 3 * g)
+    pub small : Small w (p .finals + 3 * g)
     small =
         let k = fit .packed in
         let f = k .finals-in g h in
         record { few = omega (arith, f .rows-from, f .rows-to, k .sets-few) }
 
-    pub narrow : Narrow (finalAt (p .regions) w (p .columns + 3 * g) .shape)
+    pub narrow : Narrow (finalAt (p .regions) w (p .finals + 3 * g) .shape)
     narrow = fit .packed .finals-in g h .narrow
 
-  pub groups-to : p .columns + 3 * e .count ≤ length w
+  pub groups-to : p .finals + 3 * e .count ≤ length w
   groups-to = omega (arith, fit .packed .finals-to, fit .packed .rows-to)
 
   -- ---- the rows by ids
@@ -58,11 +58,11 @@ module _ {p : Places} {e : Encoded} {w : List ℕ} (fit : WordsFit p e w) where
     pub long-named : length u ≡ length w
     long-named = named .only .long
 
-    finals-are : finalsAt (p .regions) (p .columns) (e .count) u ≡ relabel (λ x. getD (seg (p .ids) (p .sets) w) x 0) (finalsAt (p .regions) (p .columns) (e .count) w)
+    finals-are : finalsAt (p .regions) (p .finals) (e .count) u ≡ relabel (λ x. getD (seg (p .ids) (p .sets) w) x 0) (finalsAt (p .regions) (p .finals) (e .count) w)
     finals-are = let k = fit .packed in finals-named p (e .count) w u named (k .finals-in) (k .finals-to) (k .ids-to) (k .rows-to)
 
-    map-named : (m m′ : List ℕ) → m′ ≡ stored (idWords 0 (allRuns (finalsAt (p .regions) (p .columns) (e .count) u))) m
-        → m′ ≡ stored (idWords 0 (allRuns (relabel (λ x. getD (seg (p .ids) (p .sets) w) x 0) (finalsAt (p .regions) (p .columns) (e .count) w)))) m
+    map-named : (m m′ : List ℕ) → m′ ≡ stored (idWords 0 (allRuns (finalsAt (p .regions) (p .finals) (e .count) u))) m
+        → m′ ≡ stored (idWords 0 (allRuns (relabel (λ x. getD (seg (p .ids) (p .sets) w) x 0) (finalsAt (p .regions) (p .finals) (e .count) w)))) m
     map-named m m′ q = q ∙ ap (λ (gs : List Final). stored (idWords 0 (allRuns gs)) m) finals-are
 
     set-named : (x : ℕ) → x < p .sets → Stored 0 u x
@@ -75,15 +75,15 @@ module _ {p : Places} {e : Encoded} {w : List ℕ} (fit : WordsFit p e w) where
 
     -- a word of a group's rows is an id
     module _ (g : ℕ) (h : g < e .count) where
-      id-below : All (λ x. x < e .distinct) (seg (getD u (p .columns + 3 * g + 1) 0) (getD u (p .columns + 3 * g + 2) 0) u)
+      id-below : All (λ x. x < e .distinct) (seg (getD u (p .finals + 3 * g + 1) 0) (getD u (p .finals + 3 * g + 2) 0) u)
       id-below =
           let k = fit .packed in
           let f = k .finals-in g h in
-          let a = kept-word (p .columns + 3 * g + 1) (omega (arith, k .finals-to)) in
-          let c = kept-word (p .columns + 3 * g + 2) (omega (arith, k .finals-to)) in
+          let a = kept-word (p .finals + 3 * g + 1) (omega (arith, k .finals-to)) in
+          let c = kept-word (p .finals + 3 * g + 2) (omega (arith, k .finals-to)) in
           rw (a, c)
-          (all-seg (λ x. x < e .distinct) (getD w (p .columns + 3 * g + 2) 0) (getD w (p .columns + 3 * g + 1) 0) u (omega (arith, f .rows-to, k .rows-to, long-named))
-          (λ i l r. one i (omega (arith, f .rows-from)) (omega (arith, f .rows-to)) (seg-all (λ x. x < p .sets) (getD w (p .columns + 3 * g + 2) 0) (getD w (p .columns + 3 * g + 1) 0) w (omega (arith, f .rows-to, k .rows-to)) (f .numbers) i l r)))
+          (all-seg (λ x. x < e .distinct) (getD w (p .finals + 3 * g + 2) 0) (getD w (p .finals + 3 * g + 1) 0) u (omega (arith, f .rows-to, k .rows-to, long-named))
+          (λ i l r. one i (omega (arith, f .rows-from)) (omega (arith, f .rows-to)) (seg-all (λ x. x < p .sets) (getD w (p .finals + 3 * g + 2) 0) (getD w (p .finals + 3 * g + 1) 0) w (omega (arith, f .rows-to, k .rows-to)) (f .numbers) i l r)))
         where
           one : (i : ℕ) → p .rows ≤ i → i < p .rows + p .sets → getD w i 0 < p .sets → getD u i 0 < e .distinct
           one i l r b =
@@ -91,37 +91,37 @@ module _ {p : Places} {e : Encoded} {w : List ℕ} (fit : WordsFit p e w) where
               let q : getD u i 0 ≡ getD w (p .ids + getD w i 0) 0 = rw s at (named .at (i - p .rows) (omega arith) (rw s b)) in
               omega (arith, fit .ids-below (getD w i 0) b)
 
-      pub handed-named : Handed (p .regions) 0 u (p .columns + 3 * g)
+      pub handed-named : Handed (p .regions) 0 u (p .finals + 3 * g)
       handed-named =
           let k = fit .packed in
           let f = k .finals-in g h in
-          let z = kept-word (p .columns + 3 * g) (omega (arith, k .finals-to)) in
-          let a = kept-word (p .columns + 3 * g + 1) (omega (arith, k .finals-to)) in
-          let c = kept-word (p .columns + 3 * g + 2) (omega (arith, k .finals-to)) in
+          let z = kept-word (p .finals + 3 * g) (omega (arith, k .finals-to)) in
+          let a = kept-word (p .finals + 3 * g + 1) (omega (arith, k .finals-to)) in
+          let c = kept-word (p .finals + 3 * g + 2) (omega (arith, k .finals-to)) in
           record {
             row = omega (arith, k .finals-to, k .rows-to, long-named);
             shape = omega (arith, f .shape-to, k .rows-to, long-named);
             ids = omega (arith, f .rows-to, k .rows-to, long-named);
-            sets = all-imp (λ x b. set-named x (omega (arith, k .distinct-few))) (seg (getD u (p .columns + 3 * g + 1) 0) (getD u (p .columns + 3 * g + 2) 0) u) id-below;
+            sets = all-imp (λ x b. set-named x (omega (arith, k .distinct-few))) (seg (getD u (p .finals + 3 * g + 1) 0) (getD u (p .finals + 3 * g + 2) 0) u) id-below;
           }
 
-      pub small-named : Small u (p .columns + 3 * g)
+      pub small-named : Small u (p .finals + 3 * g)
       small-named =
           let k = fit .packed in
-          let c = kept-word (p .columns + 3 * g + 2) (omega (arith, k .finals-to)) in
+          let c = kept-word (p .finals + 3 * g + 2) (omega (arith, k .finals-to)) in
           record { few = omega (arith, small g h .few) }
 
-      pub below-named : (long : ℕ) → e .distinct ≤ long → IdsBelow long u (p .columns + 3 * g)
-      below-named long l = record { below = all-imp (λ x b. omega arith) (seg (getD u (p .columns + 3 * g + 1) 0) (getD u (p .columns + 3 * g + 2) 0) u) id-below }
+      pub below-named : (long : ℕ) → e .distinct ≤ long → IdsBelow long u (p .finals + 3 * g)
+      below-named long l = record { below = all-imp (λ x b. omega arith) (seg (getD u (p .finals + 3 * g + 1) 0) (getD u (p .finals + 3 * g + 2) 0) u) id-below }
 
     pub words-done : {ids map log ids′ map′ log′ : List ℕ} → ids′ ≡ over ids 0 (p .sets) (seg (p .ids) (p .sets) w)
         → log′ ≡ over log 0 (3 * e .merges) (seg (p .log) (3 * e .merges) w)
-        → map′ ≡ stored (idWords 0 (allRuns (finalsAt (p .regions) (p .columns) (e .count) u))) map
+        → map′ ≡ stored (idWords 0 (allRuns (finalsAt (p .regions) (p .finals) (e .count) u))) map
         → WordsWritten p e w ids map log ids′ map′ log′
     words-done {map = map} {map′ = map′} i l m = record { ids-is = i; log-is = l; map-is = map-named map map′ m }
 
 -- the report, once the forecast is worked out
-pub report-done : (axes : ℕ) (p : Places) (e : Encoded) (w : List ℕ) (bytes runs kept model : ℕ) → model ≡ forecastOf axes kept (finalsAt (p .regions) (p .columns) (e .count) w)
+pub report-done : (axes : ℕ) (p : Places) (e : Encoded) (w : List ℕ) (bytes runs kept model : ℕ) → model ≡ forecastOf axes kept (finalsAt (p .regions) (p .finals) (e .count) w)
     → record { bytes = bytes; subtables = runs; regions = kept; ids = e .distinct; groups = e .groups; merges = e .merges; weighed = e .weighed; before = e .before; after = e .after; forecast = model }
     ≡ reportIn axes p e w bytes runs kept
 unfolding reportIn

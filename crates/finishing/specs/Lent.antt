@@ -60,7 +60,7 @@ pub record RoomFor (sets distinct groups bytes out ids map log : ℕ) : Type 0 w
 
 -- the store of what is packed in work, by the numbers of sets
 abbrev pub storeIn : ℕ → ℕ → List ℕ → Places → Encoded → List ℕ → List ℕ
-storeIn axes starts job p e w = storeOf axes (coordsIn job axes w starts (p .regions)) (setAt 0 w) (finalsAt (p .regions) (p .columns) (e .count) w)
+storeIn axes starts job p e w = storeOf axes (coordsIn job axes w starts (p .regions)) (setAt 0 w) (finalsAt (p .regions) (p .finals) (e .count) w)
 
 -- the same sets, and what else is asked of them before ids, map and log are written
 pub record WordsFit (p : Places) (e : Encoded) (w : List ℕ) : Type 0 where
@@ -73,7 +73,7 @@ pub record WordsFit (p : Places) (e : Encoded) (w : List ℕ) : Type 0 where
 pub record WordsWritten (p : Places) (e : Encoded) (w ids map log ids′ map′ log′ : List ℕ) : Type 0 where
   pub ids-is : ids′ ≡ over ids 0 (p .sets) (seg (p .ids) (p .sets) w)
   pub log-is : log′ ≡ over log 0 (3 * e .merges) (seg (p .log) (3 * e .merges) w)
-  pub map-is : map′ ≡ stored (idWords 0 (allRuns (relabel (λ x. getD (seg (p .ids) (p .sets) w) x 0) (finalsAt (p .regions) (p .columns) (e .count) w)))) map
+  pub map-is : map′ ≡ stored (idWords 0 (allRuns (relabel (λ x. getD (seg (p .ids) (p .sets) w) x 0) (finalsAt (p .regions) (p .finals) (e .count) w)))) map
 
 -- the report of what is packed in work, of so many bytes, subtables and regions
 unfoldable pub reportIn : ℕ → Places → Encoded → List ℕ → ℕ → ℕ → ℕ → Report
@@ -87,5 +87,5 @@ reportIn axes p e w bytes runs kept = record {
   weighed = e .weighed;
   before = e .before;
   after = e .after;
-  forecast = forecastOf axes kept (finalsAt (p .regions) (p .columns) (e .count) w);
+  forecast = forecastOf axes kept (finalsAt (p .regions) (p .finals) (e .count) w);
 }

@@ -98,14 +98,14 @@ fn write_out(
     plan: Plan,
 )
     requires { ⌜ FinishFit axes starts (now job) p e (now work) ⌝ }
-    requires { ⌜ Planned axes (now work) (p .regions) (p .columns) (e .count) (now marks) (now numbers) (plan .runs) (plan .kept) ⌝ }
+    requires { ⌜ Planned axes (now work) (p .regions) (p .finals) (e .count) (now marks) (now numbers) (plan .runs) (plan .kept) ⌝ }
     requires { ⌜ length (storeIn axes starts (now job) p e (now work)) ≤ length (now out) ⌝ }
     ensures { λ _. ⌜ now (out .exit) ≡ over (now (out .entry)) 0 (length (storeIn axes starts (now (job .entry)) p e (now (work .entry)))) (storeIn axes starts (now (job .entry)) p e (now (work .entry))) ⌝ }
 {
     let c = Coords { axes, starts };
     let t = Finals {
         regions: p.regions,
-        groups: p.columns,
+        groups: p.finals,
         count: e.count,
         index: 0,
     };
@@ -132,7 +132,7 @@ fn write_words(
     name_rows(work, p.rows, p.sets, p.ids);
     let t = Finals {
         regions: p.regions,
-        groups: p.columns,
+        groups: p.finals,
         count: e.count,
         index: 0,
     };
@@ -146,7 +146,7 @@ fn report(axes: usize, work: &[u32], p: Places, e: Encoded, plan: Plan) -> Repor
     requires { ⌜ WordsFit p e (now work) ⌝ }
     ensures { λ r. ⌜ r ≡ reportIn axes p e (now (work .entry)) (plan .bytes) (plan .runs) (plan .kept) ⌝ }
 {
-    let model = forecast(axes, plan.kept, work, p.regions, p.columns, e.count, 0);
+    let model = forecast(axes, plan.kept, work, p.regions, p.finals, e.count, 0);
     Report {
         bytes: plan.bytes,
         subtables: plan.runs,
@@ -182,7 +182,7 @@ pub fn finish(
     let mut numbers = [0u32; Limits::REGIONS];
     let t = Finals {
         regions: p.regions,
-        groups: p.columns,
+        groups: p.finals,
         count: e.count,
         index: 0,
     };

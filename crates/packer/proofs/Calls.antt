@@ -74,7 +74,7 @@ abbrev pub mach-merged : Merged → Val
 mach-merged x = vstruct (vcons (vint w64 (x .merges)) (vcons (vint w64 (x .weighed)) (vcons (vint w64 (x .before)) (vcons (vint w64 (x .after)) vnil))))
 
 abbrev pub places-mach : Places → Val
-places-mach x = vstruct (vcons (vint w64 (x .sets)) (vcons (vint w64 (x .regions)) (vcons (vint w64 (x .room)) (vcons (vint w64 (x .line)) (vcons (vint w64 (x .first)) (vcons (vint w64 (x .ids)) (vcons (vint w64 (x .kinds)) (vcons (vint w64 (x .slots)) (vcons (vint w64 (x .order)) (vcons (vint w64 (x .counts)) (vcons (vint w64 (x .place)) (vcons (vint w64 (x .costs)) (vcons (vint w64 (x .columns)) (vcons (vint w64 (x .into)) (vcons (vint w64 (x .log)) (vcons (vint w64 (x .rows)) vnil))))))))))))))))
+places-mach x = vstruct (vcons (vint w64 (x .sets)) (vcons (vint w64 (x .regions)) (vcons (vint w64 (x .room)) (vcons (vint w64 (x .line)) (vcons (vint w64 (x .first)) (vcons (vint w64 (x .ids)) (vcons (vint w64 (x .kinds)) (vcons (vint w64 (x .slots)) (vcons (vint w64 (x .order)) (vcons (vint w64 (x .counts)) (vcons (vint w64 (x .homes)) (vcons (vint w64 (x .place)) (vcons (vint w64 (x .costs)) (vcons (vint w64 (x .living)) (vcons (vint w64 (x .columns)) (vcons (vint w64 (x .spots)) (vcons (vint w64 (x .finals)) (vcons (vint w64 (x .into)) (vcons (vint w64 (x .log)) (vcons (vint w64 (x .rows)) vnil))))))))))))))))))))
 
 abbrev pub stage-mach : Stage → Val
 stage-mach x = vstruct (vcons (vbool (x .early)) (vcons (vint w64 (x .no)) (vcons (vint w64 (x .at)) (vcons (vint w64 (x .starts)) (vcons (places-mach (x .places)) (vcons (vint w64 (x .groups)) (vcons (vint w64 (x .distinct)) vnil)))))))

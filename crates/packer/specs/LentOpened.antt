@@ -20,7 +20,7 @@ use Rattle.packer.specs.LentCollected.{Collected, RecordsBuilt}
 
 -- no tables
 abbrev pub noPlaces : Places
-noPlaces = record { sets = 0; regions = 0; room = 0; line = 0; first = 0; ids = 0; kinds = 0; slots = 0; order = 0; counts = 0; place = 0; costs = 0; columns = 0; into = 0; log = 0; rows = 3 }
+noPlaces = record { sets = 0; regions = 0; room = 0; line = 0; first = 0; ids = 0; kinds = 0; slots = 0; order = 0; counts = 0; homes = 0; place = 0; costs = 0; living = 0; columns = 0; spots = 0; finals = 0; into = 0; log = 0; rows = 3 }
 
 abbrev pub refusedAt : Bool → ℕ → ℕ → Stage
 refusedAt early n i = record { early = early; no = n; at = i; starts = 0; places = noPlaces; groups = 0; distinct = 0 }

@@ -34,11 +34,23 @@ mul-order c = omega (arith, few c, most c)
 add-order-2 : tie.Need-add-order-2
 add-order-2 c = omega (arith, few c, most c)
 
-mul-place : tie.Need-mul-place
-mul-place c = omega (arith, few c, most c)
+add-counts : tie.Need-add-counts
+add-counts c = omega (arith, few c, most c)
 
 add-place : tie.Need-add-place
 add-place c = omega (arith, few c, most c)
+
+mul-costs : tie.Need-mul-costs
+mul-costs c = omega (arith, few c, most c)
+
+add-costs : tie.Need-add-costs
+add-costs c = omega (arith, few c, most c)
+
+add-columns : tie.Need-add-columns
+add-columns c = omega (arith, few c, most c)
+
+add-into : tie.Need-add-into
+add-into c = omega (arith, few c, most c)
 
 mul-log : tie.Need-mul-log
 mul-log c = omega (arith, few c, most c)
@@ -52,41 +64,20 @@ log-words-requires c κs = omega (arith, most c)
 add-rows : tie.Need-add-rows
 add-rows c = omega (arith, few (c .before), most (c .before))
 
-add-t11 : tie.Need-add-t11
-add-t11 c = search needs
-
-mul-t10 : tie.Need-mul-t10
-mul-t10 c = search needs
-
-add-t12 : tie.Need-add-t12
-add-t12 c = search needs
-
-mul-t13 : tie.Need-mul-t13
-mul-t13 c = search needs
-
-add-t14 : tie.Need-add-t14
-add-t14 c = search needs
-
 add-t15 : tie.Need-add-t15
-add-t15 c = omega (arith, few (c .before), most (c .before))
+add-t15 c = search needs
 
-mul-t16 : tie.Need-mul-t16
-mul-t16 c = search needs
+mul-t14 : tie.Need-mul-t14
+mul-t14 c = search needs
 
-add-t17 : tie.Need-add-t17
-add-t17 c = omega (arith, few (c .before), most (c .before))
+add-t16 : tie.Need-add-t16
+add-t16 c = search needs
 
-mul-t18 : tie.Need-mul-t18
-mul-t18 c = omega (arith, few (c .before), most (c .before))
+mul-t17 : tie.Need-mul-t17
+mul-t17 c = search needs
 
-add-t19 : tie.Need-add-t19
-add-t19 c = omega (arith, few (c .before), most (c .before))
-
-mul-t20 : tie.Need-mul-t20
-mul-t20 c = omega (arith, few (c .before), most (c .before))
-
-add-t21 : tie.Need-add-t21
-add-t21 c = omega (arith, few (c .before), most (c .before))
+add-t18 : tie.Need-add-t18
+add-t18 c = search needs
 
 returns : tie.Need-returns
 returns c = search needs
@@ -101,22 +92,19 @@ lay-out-spec =
     add-order
     mul-order
     add-order-2
-    mul-place
+    add-counts
     add-place
+    mul-costs
+    add-costs
+    add-columns
+    add-into
     mul-log
     add-log
     log-words-requires
     add-rows
-    add-t11
-    mul-t10
-    add-t12
-    mul-t13
-    add-t14
     add-t15
-    mul-t16
-    add-t17
-    mul-t18
-    add-t19
-    mul-t20
-    add-t21
+    mul-t14
+    add-t16
+    mul-t17
+    add-t18
     returns)
