@@ -6,6 +6,7 @@ pub mod StepLaws
 pub mod WalkRows
 pub mod OutcomeRows
 pub mod TellLaws
+pub mod PartTells
 pub mod Calls
 pub mod EarlyRows
 pub mod LateRows

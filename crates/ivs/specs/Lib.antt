@@ -6,6 +6,7 @@ pub mod Fine
 pub mod Rooms
 pub mod Rows
 pub mod GlyphWords
+pub mod PartWords
 pub mod Answered
 pub mod SetsRead
 pub mod Sized

@@ -6,7 +6,7 @@ ghost use Prim.Native.Nat.{_≤_};
 ghost use Rattle.ivs.specs.Answers.{numberOf, reportWords, refusedWords, doneWords, filled, numberFew};
 
 // A refusal: its number and place, and zeros.
-fn tell_refused(report: &mut [u64; 16], no: usize, at: usize)
+pub fn tell_refused(report: &mut [u64; 16], no: usize, at: usize)
     ensures { λ _. ⌜ now (report .exit) ≡ filled 0 (refusedWords no at) (now (report .entry)) ⌝ }
 {
     report[0] = no as u64;
