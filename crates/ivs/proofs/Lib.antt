@@ -2,6 +2,7 @@ pub mod BitLaws
 pub mod Unique
 pub mod OutcomeRows
 pub mod TellLaws
+pub mod PartTells
 pub mod Calls
 pub mod EarlyRows
 pub mod LateRows

@@ -4,6 +4,8 @@ pub mod Rooms
 pub mod Rows
 pub mod GlyphWords
 pub mod WidthWords
+
+pub mod PartWords
 pub mod Answered
 pub mod SetsRead
 pub mod Sized

@@ -1,10 +1,12 @@
 // The library's entry points: what a host links (libivs.a). They turn answers into numbers, and do nothing else.
 mod glyph_map;
+mod part;
 mod report;
 mod width_table;
 
 pub use crate::glyph_map::ivs_read_glyph;
 pub use crate::glyph_map::ivs_write_glyphs;
+pub use crate::part::ivs_part;
 use crate::report::tell;
 pub use crate::width_table::ivs_read_width;
 pub use crate::width_table::ivs_write_widths;
