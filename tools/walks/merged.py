@@ -13,11 +13,10 @@ push = Fn("push", [("pairs", "&mut Pair"), ("count", WORD), ("p", PAIR)], WORD, 
           [("within", "count < length pairs"), ("ordered", "HeapOrdered pairs count")], crate="pairs")
 take = Fn("take", [("pairs", "&mut Pair"), ("count", WORD)], PAIR, "Popped pairs count r pairs′",
           [("fits", "count ≤ length pairs"), ("some-in", "0 < count"), ("ordered", "HeapOrdered pairs count")], crate="pairs")
-get = Fn("get", [("pairs", "& Pair"), ("k", WORD)], PAIR, "r ≡ pairAt pairs k", [("l", "k < length pairs")], crate="pairs")
-living = Fn("living", [("work", "& u32"), ("tb", TABLES), ("p", PAIR)], BOOL, "BothLive tb p r work",
-            [("laid", "Laid tb (length work)"), ("a", "p .first < 2 * tb .groups"), ("b", "p .second < 2 * tb .groups")], crate="waits", apart=True)
-keep_living = Fn("keep_living", LENT + [("n", WORD)], WORD, "KeptLiving tb n r work pairs pairs′",
-                 [("laid", "Laid tb (length work)"), ("fits", "n ≤ length pairs"), ("numbered", "Numbered tb n pairs")], crate="waits", apart=True)
+marked = Fn("marked", [("work", "& u32"), ("place", WORD), ("p", PAIR)], BOOL, "r ≡ bothMarked work place p",
+            [("a", "place + p .first < length work"), ("b", "place + p .second < length work")], crate="pairs")
+keep_marked = Fn("keep_marked", [("pairs", "&mut Pair"), ("work", "& u32"), ("place", WORD), ("n", WORD)], WORD, "KeptMarked work place pairs n r pairs′",
+                 [("fits", "n ≤ length pairs"), ("numbered", "Numbered work place pairs n")], crate="pairs")
 offer_all = Fn("offer_all", LENT + [("k", WORD), ("at", TALLY)], TALLY, "OfferedAll tb k (at .waiting) (at .weighed) (r .waiting) (r .weighed) work pairs pairs′",
                [("asked", "Asked tb k 0 (at .waiting) work pairs"), ("more-wait", "at .waiting + sum (alive tb work) k ≤ room (tb .groups)"),
                 ("more-weighed", "at .weighed + sum (alive tb work) k ≤ room (tb .groups)"), ENOUGH], crate="waits", apart=True)

@@ -30,9 +30,9 @@ use denote.Triple.Statement.{Contract, Triple}
 use denote.Triple.Clauses.{Lasts, lasts}
 use Rattle.laws.specs.Bag.{sum, weigh}
 use Rattle.shapes.specs.Group.{groupCost}
-use Rattle.pairs.specs.LentQueue.{HeapOrdered, Popped}
+use Rattle.pairs.specs.LentQueue.{HeapOrdered, Popped, bothMarked, Numbered, KeptMarked}
 use Rattle.slots.specs.Lent.{Laid, Shaped, Sound, Dealt, MeasuredAll, starting}
-use Rattle.waits.specs.LentWaits.{room, alive, Asked, OfferedAll, Opening, Opened, BothLive, Numbered, KeptLiving}
+use Rattle.waits.specs.LentWaits.{room, alive, Asked, OfferedAll, Opening, Opened}
 use Rattle.merging.specs.LentHeld.{Joinable, JoinedAt, SomeStanding, Turned, Tidied, Ran}
 use Rattle.merging.specs.LentOptimized.{GroupsPlaced, Onward, AllResolved}
 use Rattle.pairs.specs.declared.Pair.{Pair}
@@ -53,8 +53,8 @@ use Rattle.pairs.proofs.Slices.{ref, Has, Sees, lent-mut, lent-shr, lent-see}
 use Rattle.pairs.proofs.take as take
 use Rattle.waits.proofs.offer_all as offer-all
 use Rattle.waits.proofs.weigh_each as weigh-each
-use Rattle.waits.proofs.living as living
-use Rattle.waits.proofs.keep_living as keep-living
+use Rattle.pairs.proofs.marked as marked
+use Rattle.pairs.proofs.keep_marked as keep-marked
 use Rattle.slots.proofs.measure_all as measure-all
 use Rattle.slots.proofs.size as size
 use Rattle.merging.proofs.optimizing.place_groups as place-groups
@@ -67,8 +67,8 @@ use Rattle.merging.proofs.run.join_all as join-all
 use Rattle.pairs.proofs.take.Symbol.{name as #pairs·take}
 use Rattle.waits.proofs.offer_all.Symbol.{name as #waits·offer-all}
 use Rattle.waits.proofs.weigh_each.Symbol.{name as #waits·weigh-each}
-use Rattle.waits.proofs.living.Symbol.{name as #waits·living}
-use Rattle.waits.proofs.keep_living.Symbol.{name as #waits·keep-living}
+use Rattle.pairs.proofs.marked.Symbol.{name as #pairs·marked}
+use Rattle.pairs.proofs.keep_marked.Symbol.{name as #pairs·keep-marked}
 use Rattle.slots.proofs.measure_all.Symbol.{name as #slots·measure-all}
 use Rattle.slots.proofs.size.Symbol.{name as #slots·size}
 use Rattle.merging.proofs.optimizing.place_groups.Symbol.{name as #merging·place-groups}
@@ -104,11 +104,11 @@ module _ {M : Type 1} (𝓤 : URA M) (H : Heap 𝓤) (A : Atoms 𝓤) (mem : Mem
   abbrev pub WeighEach-of : Contract 𝓤
   WeighEach-of = tripleOf 𝓤 H A weigh-each.signature (weigh-each.spec 𝓤 H A mem run)
 
-  abbrev pub Living-of : Contract 𝓤
-  Living-of = tripleOf 𝓤 H A living.signature (living.spec 𝓤 H A mem run)
+  abbrev pub Marked-of : Contract 𝓤
+  Marked-of = tripleOf 𝓤 H A marked.signature (marked.spec 𝓤 H A mem run)
 
-  abbrev pub KeepLiving-of : Contract 𝓤
-  KeepLiving-of = tripleOf 𝓤 H A keep-living.signature (keep-living.spec 𝓤 H A mem run)
+  abbrev pub KeepMarked-of : Contract 𝓤
+  KeepMarked-of = tripleOf 𝓤 H A keep-marked.signature (keep-marked.spec 𝓤 H A mem run)
 
   abbrev pub MeasureAll-of : Contract 𝓤
   MeasureAll-of = tripleOf 𝓤 H A measure-all.signature (measure-all.spec 𝓤 H A mem run)
@@ -303,66 +303,66 @@ module _ {M : Type 1} (𝓤 : URA M) (H : Heap 𝓤) (A : Atoms 𝓤) (W : Given
         frame ! $
         use0 W (raw (fact 𝓤 (room (tb .groups) ≤ length pairs))) (factI 𝓤 (room (tb .groups) ≤ length pairs) (emp 𝓤) (l .1)) $ use0 W (raw (fact 𝓤 (Opening tb work))) (factI 𝓤 (Opening tb work) (emp 𝓤) (l .0)) $ done !)
 
-  module _ (C : Calls 𝓤 H) (fm : FmC 𝓤 H (W .laws) C) (known : Triple 𝓤 (C #waits·living) (Living-of 𝓤 H A mem run)) (κ : Lft) (θ : Share) (γ : GName) (β ι : ℕ) (ν : ℕ) (work : List ℕ) (tb : MergeTables) (p : Pair) where
-    abbrev Loan-living-call : (long : length work ≡ ν) → Loan 𝓤 H A
-    Loan-living-call long = lent-shr u32 κ θ γ β ι 𝓤 H A W work ν long
+  module _ (C : Calls 𝓤 H) (fm : FmC 𝓤 H (W .laws) C) (known : Triple 𝓤 (C #pairs·marked) (Marked-of 𝓤 H A mem run)) (κ : Lft) (θ : Share) (γ : GName) (β ι : ℕ) (ν : ℕ) (work : List ℕ) (place : ℕ) (p : Pair) where
+    abbrev Loan-marked-call : (long : length work ≡ ν) → Loan 𝓤 H A
+    Loan-marked-call long = lent-shr u32 κ θ γ β ι 𝓤 H A W work ν long
 
-    abbrev pub After-living-call : Val → Item 𝓤
-    After-living-call w = later (some (λ (r : Bool). some (λ (x : Unit {0}). given ((Unit {0}) × (BothLive tb p r work)) (Has u32 κ θ γ β ι 𝓤 ν work ⊛ ‵ (Boolean .own r (w ∷ []))))))
+    abbrev pub After-marked-call : Val → Item 𝓤
+    After-marked-call w = later (some (λ (r : Bool). some (λ (x : Unit {0}). given ((Unit {0}) × (r ≡ bothMarked work place p)) (Has u32 κ θ γ β ι 𝓤 ν work ⊛ ‵ (Boolean .own r (w ∷ []))))))
 
-    abbrev at-living-call : (g : (ℕ × GName)) → Living-of 𝓤 H A mem run .Ghost
-    at-living-call g = (((g .0 ∷ [], tt), (fullShare, tt), tt, (ref u32 κ θ γ β ι (g .1) work, (tb, (p, tt))), (sliceVal (β, ι) ν ∷ [], (mach-tables tb ∷ [], (mach p ∷ [], tt)))), tt)
+    abbrev at-marked-call : (g : (ℕ × GName)) → Marked-of 𝓤 H A mem run .Ghost
+    at-marked-call g = (((g .0 ∷ [], tt), (fullShare, tt), tt, (ref u32 κ θ γ β ι (g .1) work, (place, (p, tt))), (sliceVal (β, ι) ν ∷ [], (vint w64 place ∷ [], (mach p ∷ [], tt)))), tt)
 
-    leaves-living-call : (long : length work ≡ ν) → (g : (ℕ × GName)) → (w : Val) → ent 𝓤 (Living-of 𝓤 H A mem run .post (at-living-call g) w) (mean 𝓤 H A (Gives 𝓤 H A W (Loan-living-call long) Boolean (λ x r. BothLive tb p r work) g w))
-    leaves-living-call long g w =
+    leaves-marked-call : (long : length work ≡ ν) → (g : (ℕ × GName)) → (w : Val) → ent 𝓤 (Marked-of 𝓤 H A mem run .post (at-marked-call g) w) (mean 𝓤 H A (Gives 𝓤 H A W (Loan-marked-call long) Boolean (λ x r. r ≡ bothMarked work place p) g w))
+    leaves-marked-call long g w =
         qed W (later (some (λ (r : Bool). ((‵ (flft (g .0 ∷ []) fullShare) ⊛ ‵ ftrue) ⊛ ‵ (Boolean .own r (w ∷ [])))
-        ⊛ some (λ (ws : Lasts living.ended (g .0 ∷ [], tt) (at-living-call g .0 .3)). ‵ (lasts living.ended (g .0 ∷ [], tt) (at-living-call g .0 .3) ws) ⊛ raw (fact 𝓤 (BothLive tb p r work))))) ∷ []) ∵
+        ⊛ some (λ (ws : Lasts marked.ended (g .0 ∷ [], tt) (at-marked-call g .0 .3)). ‵ (lasts marked.ended (g .0 ∷ [], tt) (at-marked-call g .0 .3) ws) ⊛ raw (fact 𝓤 (r ≡ bothMarked work place p))))) ∷ []) ∵
         updating ! $ await ! tt $ pick ! (λ r. split ! $ move ! (1 ∷ []) $ pick ! (λ ws. split ! $
         move ! (1 ∷ []) $
-        heard ! (BothLive tb p r work) (λ e.
+        heard ! (r ≡ bothMarked work place p) (λ e.
         move ! (1 ∷ []) $
         split ! $
         split ! $
         at-once ! $
-        keep ! (0 ∷ 2 ∷ []) $ by ! (gives 𝓤 H A W (Loan-living-call long) Boolean (λ x r. BothLive tb p r work) g w r tt (tt, e)))))
+        keep ! (0 ∷ 2 ∷ []) $ by ! (gives 𝓤 H A W (Loan-marked-call long) Boolean (λ x r. r ≡ bothMarked work place p) g w r tt (tt, e)))))
 
-    pub living-call : (long : length work ≡ ν) → Is L.the-row tb (mach-tables tb ∷ []) → Is T.the-row p (mach p ∷ []) → ((Laid tb (length work)) × (p .first < 2 * tb .groups) × (p .second < 2 * tb .groups)) → ent 𝓤 (mean 𝓤 H A (Loan-living-call long .held)) (H .⇛ (C #waits·living (sliceVal (β, ι) ν ∷ mach-tables tb ∷ mach p ∷ []) (λ w. mean 𝓤 H A (After-living-call w))))
-    living-call long g-tb g-p l = loan-call 𝓤 H A W (Loan-living-call long) Boolean (λ x r. BothLive tb p r work) C fm #waits·living (sliceVal (β, ι) ν ∷ mach-tables tb ∷ mach p ∷ []) (λ g.
-        qed W (Loan-living-call long .goes g ∷ []) ∵
-        suffices ! (C #waits·living (sliceVal (β, ι) ν ∷ mach-tables tb ∷ mach p ∷ []) (Living-of 𝓤 H A mem run .post (at-living-call g))) (fm→monoC 𝓤 H (W .laws) C fm #waits·living (sliceVal (β, ι) ν ∷ mach-tables tb ∷ mach p ∷ []) (Living-of 𝓤 H A mem run .post (at-living-call g)) _ (leaves-living-call long g)) $
-        suffices ! (Living-of 𝓤 H A mem run .pre (at-living-call g)) (known (at-living-call g)) $ split ! $
+    pub marked-call : (long : length work ≡ ν) → place < 2 ^ 64 → Is T.the-row p (mach p ∷ []) → ((place + p .first < length work) × (place + p .second < length work)) → ent 𝓤 (mean 𝓤 H A (Loan-marked-call long .held)) (H .⇛ (C #pairs·marked (sliceVal (β, ι) ν ∷ vint w64 place ∷ mach p ∷ []) (λ w. mean 𝓤 H A (After-marked-call w))))
+    marked-call long g-place g-p l = loan-call 𝓤 H A W (Loan-marked-call long) Boolean (λ x r. r ≡ bothMarked work place p) C fm #pairs·marked (sliceVal (β, ι) ν ∷ vint w64 place ∷ mach p ∷ []) (λ g.
+        qed W (Loan-marked-call long .goes g ∷ []) ∵
+        suffices ! (C #pairs·marked (sliceVal (β, ι) ν ∷ vint w64 place ∷ mach p ∷ []) (Marked-of 𝓤 H A mem run .post (at-marked-call g))) (fm→monoC 𝓤 H (W .laws) C fm #pairs·marked (sliceVal (β, ι) ν ∷ vint w64 place ∷ mach p ∷ []) (Marked-of 𝓤 H A mem run .post (at-marked-call g)) _ (leaves-marked-call long g)) $
+        suffices ! (Marked-of 𝓤 H A mem run .pre (at-marked-call g)) (known (at-marked-call g)) $ split ! $
         nothing ! $
         move ! (1 ∷ 0 ∷ []) $
         join ! $
         nothing ! $
         owned ! T.the-row (Is T.the-row) (LL.makes T.the-type T′.the-plain 𝓤 H A) p _ g-p $
         fjoin ! $
-        owned ! L.the-row (Is L.the-row) (LL.makes L.the-type L′.the-plain 𝓤 H A) tb _ g-tb $
+        owned ! usize (Is usize) (uint-makes 𝓤 H A W w64) place _ (refl, g-place) $
         fjoin ! $
         move ! (2 ∷ 0 ∷ []) $
         fjoin ! $
         move ! (1 ∷ 0 ∷ []) $
         join ! $
         frame ! $
-        use0 W (raw (fact 𝓤 (p .second < 2 * tb .groups))) (factI 𝓤 (p .second < 2 * tb .groups) (emp 𝓤) (l .2)) $ use0 W (raw (fact 𝓤 (p .first < 2 * tb .groups))) (factI 𝓤 (p .first < 2 * tb .groups) (emp 𝓤) (l .1)) $ use0 W (raw (fact 𝓤 (Laid tb (length work)))) (factI 𝓤 (Laid tb (length work)) (emp 𝓤) (l .0)) $ done !)
+        use0 W (raw (fact 𝓤 ((place + p .first < length work) × (place + p .second < length work)))) (factI 𝓤 ((place + p .first < length work) × (place + p .second < length work)) (emp 𝓤) l) $ done !)
 
-  module _ (C : Calls 𝓤 H) (fm : FmC 𝓤 H (W .laws) C) (known : Triple 𝓤 (C #waits·keep-living) (KeepLiving-of 𝓤 H A mem run)) (κ : Lft) (θ : Share) (γ : GName) (β ι : ℕ) (ν : ℕ) (pairs : List Pair) (κ₂ : Lft) (θ₂ : Share) (γ₂ : GName) (β₂ ι₂ : ℕ) (ν₂ : ℕ) (work : List ℕ) (tb : MergeTables) (n : ℕ) where
-    abbrev Loan-keep-living-mut-see : (long : length pairs ≡ ν) (sized : Room T.the-row ν) → Loan 𝓤 H A
-    Loan-keep-living-mut-see long sized = both 𝓤 H A W (lent-mut T.the-row κ θ γ β ι 𝓤 H A W pairs ν long sized) (lent-see u32 κ₂ θ₂ γ₂ β₂ ι₂ 𝓤 H A W work ν₂)
+  module _ (C : Calls 𝓤 H) (fm : FmC 𝓤 H (W .laws) C) (known : Triple 𝓤 (C #pairs·keep-marked) (KeepMarked-of 𝓤 H A mem run)) (κ : Lft) (θ : Share) (γ : GName) (β ι : ℕ) (ν : ℕ) (pairs : List Pair) (κ₂ : Lft) (θ₂ : Share) (γ₂ : GName) (β₂ ι₂ : ℕ) (ν₂ : ℕ) (work : List ℕ) (place : ℕ) (n : ℕ) where
+    abbrev Loan-keep-marked-mut-see : (long : length pairs ≡ ν) (sized : Room T.the-row ν) → Loan 𝓤 H A
+    Loan-keep-marked-mut-see long sized = both 𝓤 H A W (lent-mut T.the-row κ θ γ β ι 𝓤 H A W pairs ν long sized) (lent-see u32 κ₂ θ₂ γ₂ β₂ ι₂ 𝓤 H A W work ν₂)
 
-    abbrev pub After-keep-living-mut-see : Val → Item 𝓤
-    After-keep-living-mut-see w = later (some (λ (r : ℕ). some (λ (x : List Pair × Unit {0}). given (((length (x .0) ≡ ν) × Unit {0}) × (KeptLiving tb n r work pairs (x .0))) ((Has T.the-row κ θ γ β ι 𝓤 ν (x .0) ⊛ Sees u32 κ₂ θ₂ γ₂ β₂ ι₂ 𝓤 ν₂ work) ⊛ ‵ (usize .own r (w ∷ []))))))
+    abbrev pub After-keep-marked-mut-see : Val → Item 𝓤
+    After-keep-marked-mut-see w = later (some (λ (r : ℕ). some (λ (x : List Pair × Unit {0}). given (((length (x .0) ≡ ν) × Unit {0}) × (KeptMarked work place pairs n r (x .0))) ((Has T.the-row κ θ γ β ι 𝓤 ν (x .0) ⊛ Sees u32 κ₂ θ₂ γ₂ β₂ ι₂ 𝓤 ν₂ work) ⊛ ‵ (usize .own r (w ∷ []))))))
 
-    abbrev at-keep-living-mut-see : (g : (ℕ × GName) × Unit {0}) → KeepLiving-of 𝓤 H A mem run .Ghost
-    at-keep-living-mut-see g = (((g .0 .0 ∷ [], (κ₂, tt)), (fullShare, (θ₂, tt)), tt, (ref T.the-row κ θ γ β ι (g .0 .1) pairs, (ref u32 κ₂ θ₂ γ₂ β₂ ι₂ γ₂ work, (tb, (n, tt)))), (sliceVal (β, ι) ν ∷ [], (sliceVal (β₂, ι₂) ν₂ ∷ [], (mach-tables tb ∷ [], (vint w64 n ∷ [], tt))))), tt)
+    abbrev at-keep-marked-mut-see : (g : (ℕ × GName) × Unit {0}) → KeepMarked-of 𝓤 H A mem run .Ghost
+    at-keep-marked-mut-see g = (((g .0 .0 ∷ [], (κ₂, tt)), (fullShare, (θ₂, tt)), tt, (ref T.the-row κ θ γ β ι (g .0 .1) pairs, (ref u32 κ₂ θ₂ γ₂ β₂ ι₂ γ₂ work, (place, (n, tt)))), (sliceVal (β, ι) ν ∷ [], (sliceVal (β₂, ι₂) ν₂ ∷ [], (vint w64 place ∷ [], (vint w64 n ∷ [], tt))))), tt)
 
-    leaves-keep-living-mut-see : (long : length pairs ≡ ν) (sized : Room T.the-row ν) → (g : (ℕ × GName) × Unit {0}) → (w : Val) → ent 𝓤 (KeepLiving-of 𝓤 H A mem run .post (at-keep-living-mut-see g) w) (mean 𝓤 H A (Gives 𝓤 H A W (Loan-keep-living-mut-see long sized) usize (λ x r. KeptLiving tb n r work pairs (x .0)) g w))
-    leaves-keep-living-mut-see long sized g w =
+    leaves-keep-marked-mut-see : (long : length pairs ≡ ν) (sized : Room T.the-row ν) → (g : (ℕ × GName) × Unit {0}) → (w : Val) → ent 𝓤 (KeepMarked-of 𝓤 H A mem run .post (at-keep-marked-mut-see g) w) (mean 𝓤 H A (Gives 𝓤 H A W (Loan-keep-marked-mut-see long sized) usize (λ x r. KeptMarked work place pairs n r (x .0)) g w))
+    leaves-keep-marked-mut-see long sized g w =
         qed W (later (some (λ (r : ℕ). ((‵ (flft (g .0 .0 ∷ []) fullShare) ⊛ ‵ (flft (κ₂) θ₂) ⊛ ‵ ftrue) ⊛ ‵ (usize .own r (w ∷ [])))
-        ⊛ some (λ (ws : Lasts keep-living.ended (g .0 .0 ∷ [], (κ₂, tt)) (at-keep-living-mut-see g .0 .3)). ‵ (lasts keep-living.ended (g .0 .0 ∷ [], (κ₂, tt)) (at-keep-living-mut-see g .0 .3) ws) ⊛ raw (fact 𝓤 (KeptLiving tb n r work pairs (ws .0)))))) ∷ []) ∵
+        ⊛ some (λ (ws : Lasts keep-marked.ended (g .0 .0 ∷ [], (κ₂, tt)) (at-keep-marked-mut-see g .0 .3)). ‵ (lasts keep-marked.ended (g .0 .0 ∷ [], (κ₂, tt)) (at-keep-marked-mut-see g .0 .3) ws) ⊛ raw (fact 𝓤 (KeptMarked work place pairs n r (ws .0)))))) ∷ []) ∵
         updating ! $ await ! tt $ pick ! (λ r. split ! $ move ! (1 ∷ []) $ pick ! (λ ws. split ! $
         move ! (1 ∷ []) $
-        heard ! (KeptLiving tb n r work pairs (ws .0)) (λ e.
+        heard ! (KeptMarked work place pairs n r (ws .0)) (λ e.
         fsplit ! $
         fsplit ! $
         move ! (1 ∷ []) $
@@ -376,13 +376,13 @@ module _ {M : Type 1} (𝓤 : URA M) (H : Heap 𝓤) (A : Atoms 𝓤) (W : Given
         move ! (2 ∷ 4 ∷ []) $
         join ! $
         join ! $
-        keep ! (0 ∷ 2 ∷ []) $ by ! (gives 𝓤 H A W (Loan-keep-living-mut-see long sized) usize (λ x r. KeptLiving tb n r work pairs (x .0)) g w r ((ws .0, tt)) ((l₀ ∙ long, tt), e))))))
+        keep ! (0 ∷ 2 ∷ []) $ by ! (gives 𝓤 H A W (Loan-keep-marked-mut-see long sized) usize (λ x r. KeptMarked work place pairs n r (x .0)) g w r ((ws .0, tt)) ((l₀ ∙ long, tt), e))))))
 
-    pub keep-living-mut-see : (long : length pairs ≡ ν) (sized : Room T.the-row ν) → Is L.the-row tb (mach-tables tb ∷ []) → n < 2 ^ 64 → ((Laid tb (length work)) × (n ≤ length pairs) × (Numbered tb n pairs)) → ent 𝓤 (mean 𝓤 H A (Loan-keep-living-mut-see long sized .held)) (H .⇛ (C #waits·keep-living (sliceVal (β, ι) ν ∷ sliceVal (β₂, ι₂) ν₂ ∷ mach-tables tb ∷ vint w64 n ∷ []) (λ w. mean 𝓤 H A (After-keep-living-mut-see w))))
-    keep-living-mut-see long sized g-tb g-n l = loan-call 𝓤 H A W (Loan-keep-living-mut-see long sized) usize (λ x r. KeptLiving tb n r work pairs (x .0)) C fm #waits·keep-living (sliceVal (β, ι) ν ∷ sliceVal (β₂, ι₂) ν₂ ∷ mach-tables tb ∷ vint w64 n ∷ []) (λ g.
-        qed W (Loan-keep-living-mut-see long sized .goes g ∷ []) ∵
-        suffices ! (C #waits·keep-living (sliceVal (β, ι) ν ∷ sliceVal (β₂, ι₂) ν₂ ∷ mach-tables tb ∷ vint w64 n ∷ []) (KeepLiving-of 𝓤 H A mem run .post (at-keep-living-mut-see g))) (fm→monoC 𝓤 H (W .laws) C fm #waits·keep-living (sliceVal (β, ι) ν ∷ sliceVal (β₂, ι₂) ν₂ ∷ mach-tables tb ∷ vint w64 n ∷ []) (KeepLiving-of 𝓤 H A mem run .post (at-keep-living-mut-see g)) _ (leaves-keep-living-mut-see long sized g)) $
-        suffices ! (KeepLiving-of 𝓤 H A mem run .pre (at-keep-living-mut-see g)) (known (at-keep-living-mut-see g)) $ split ! $
+    pub keep-marked-mut-see : (long : length pairs ≡ ν) (sized : Room T.the-row ν) → place < 2 ^ 64 → n < 2 ^ 64 → ((n ≤ length pairs) × (Numbered work place pairs n)) → ent 𝓤 (mean 𝓤 H A (Loan-keep-marked-mut-see long sized .held)) (H .⇛ (C #pairs·keep-marked (sliceVal (β, ι) ν ∷ sliceVal (β₂, ι₂) ν₂ ∷ vint w64 place ∷ vint w64 n ∷ []) (λ w. mean 𝓤 H A (After-keep-marked-mut-see w))))
+    keep-marked-mut-see long sized g-place g-n l = loan-call 𝓤 H A W (Loan-keep-marked-mut-see long sized) usize (λ x r. KeptMarked work place pairs n r (x .0)) C fm #pairs·keep-marked (sliceVal (β, ι) ν ∷ sliceVal (β₂, ι₂) ν₂ ∷ vint w64 place ∷ vint w64 n ∷ []) (λ g.
+        qed W (Loan-keep-marked-mut-see long sized .goes g ∷ []) ∵
+        suffices ! (C #pairs·keep-marked (sliceVal (β, ι) ν ∷ sliceVal (β₂, ι₂) ν₂ ∷ vint w64 place ∷ vint w64 n ∷ []) (KeepMarked-of 𝓤 H A mem run .post (at-keep-marked-mut-see g))) (fm→monoC 𝓤 H (W .laws) C fm #pairs·keep-marked (sliceVal (β, ι) ν ∷ sliceVal (β₂, ι₂) ν₂ ∷ vint w64 place ∷ vint w64 n ∷ []) (KeepMarked-of 𝓤 H A mem run .post (at-keep-marked-mut-see g)) _ (leaves-keep-marked-mut-see long sized g)) $
+        suffices ! (KeepMarked-of 𝓤 H A mem run .pre (at-keep-marked-mut-see g)) (known (at-keep-marked-mut-see g)) $ split ! $
         split ! $
         move ! (2 ∷ []) $
         split ! $
@@ -394,7 +394,7 @@ module _ {M : Type 1} (𝓤 : URA M) (H : Heap 𝓤) (A : Atoms 𝓤) (W : Given
         nothing ! $
         owned ! usize (Is usize) (uint-makes 𝓤 H A W w64) n _ (refl, g-n) $
         fjoin ! $
-        owned ! L.the-row (Is L.the-row) (LL.makes L.the-type L′.the-plain 𝓤 H A) tb _ g-tb $
+        owned ! usize (Is usize) (uint-makes 𝓤 H A W w64) place _ (refl, g-place) $
         fjoin ! $
         move ! (2 ∷ 0 ∷ []) $
         fjoin ! $
@@ -403,7 +403,7 @@ module _ {M : Type 1} (𝓤 : URA M) (H : Heap 𝓤) (A : Atoms 𝓤) (W : Given
         move ! (1 ∷ 0 ∷ []) $
         join ! $
         frame ! $
-        use0 W (raw (fact 𝓤 (Numbered tb n pairs))) (factI 𝓤 (Numbered tb n pairs) (emp 𝓤) (l .2)) $ use0 W (raw (fact 𝓤 (n ≤ length pairs))) (factI 𝓤 (n ≤ length pairs) (emp 𝓤) (l .1)) $ use0 W (raw (fact 𝓤 (Laid tb (length work)))) (factI 𝓤 (Laid tb (length work)) (emp 𝓤) (l .0)) $ done !)
+        use0 W (raw (fact 𝓤 ((n ≤ length pairs) × (Numbered work place pairs n)))) (factI 𝓤 ((n ≤ length pairs) × (Numbered work place pairs n)) (emp 𝓤) l) $ done !)
 
   module _ (C : Calls 𝓤 H) (fm : FmC 𝓤 H (W .laws) C) (known : Triple 𝓤 (C #slots·measure-all) (MeasureAll-of 𝓤 H A mem run)) (κ : Lft) (θ : Share) (γ : GName) (β ι : ℕ) (ν : ℕ) (work : List ℕ) (tb : MergeTables) where
     abbrev Loan-measure-all-call : (long : length work ≡ ν) (sized : Room u32 ν) → Loan 𝓤 H A

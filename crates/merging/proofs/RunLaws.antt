@@ -14,10 +14,10 @@ use Rattle.rule.specs.Model.{Living, gainOf, start, run, merged}
 use Rattle.rule.proofs.Theorems.{weighed-few}
 use Rattle.rule.proofs.Bridge.{has, run-numbered, two-intro, merged-is}
 use Rattle.pairs.specs.declared.Pair.{Pair}
-use Rattle.pairs.specs.LentQueue.{HeapOrdered, SameFrom, Popped}
+use Rattle.pairs.specs.LentQueue.{HeapOrdered, SameFrom, Popped, Numbered, KeptMarked}
 use Rattle.slots.specs.declared.tables.MergeTables.{MergeTables}
 use Rattle.slots.specs.Lent.{Laid}
-use Rattle.waits.specs.LentWaits.{room, placeOf, groupOf, alive, Reached, Asked, OfferedAll, Numbered, KeptLiving}
+use Rattle.waits.specs.LentWaits.{room, placeOf, groupOf, alive, Reached, Asked, OfferedAll}
 use Rattle.merging.specs.LentHeld.{written, Lives, Standing, Chosen, Joinable, JoinedAt, SomeStanding, Turned, Tidied, Ran}
 use Rattle.waits.proofs.WaitLaws.{room-is, waits-kept, waits-numbered}
 use Rattle.merging.proofs.HeldLaws.{merges-few, merges-less, chosen-taken, chosen-dead}
@@ -50,13 +50,14 @@ module _ {t : MergeTables} {n m j z : ℕ} {w : List ℕ} {ps : List Pair} (s : 
     chosen xs q = chosen-taken t xs n m j z p w ps ps₁ q o
 
     -- its numbers are known
-    pub turn-known : (p .first < 2 * t .groups) × (p .second < 2 * t .groups)
+    pub turn-known : (t .place + p .first < length w) × (t .place + p .second < length w)
     turn-known =
+        let d = turn-laid in
         let c = chosen (s .groups) (s .standing) in
         let f = merges-few t (s .groups) j w (c .many) (c .held) in
         let r = c .own .reached in
         let l : p .second < t .groups + j = ⊎-elim (λ (e : p .second ≡ t .groups + j). absurd (omega (arith, r .last e))) (λ d. omega (arith, r .below)) (same-or-not (p .second) (t .groups + j)) in
-        (omega (arith, r .order), omega arith)
+        (omega (arith, r .order, d), omega (arith, d))
 
     same-rest : SameFrom ps (room (t .groups)) ps₁
     same-rest i l = o .rest i (omega (arith, turn-room))
@@ -102,10 +103,10 @@ module _ {t : MergeTables} {n m j z : ℕ} {w : List ℕ} {ps : List Pair} (s : 
   pub tidy-merges : j ≤ t .groups
   tidy-merges = omega (arith, turn-merges s)
 
-  pub tidy-numbered : Numbered t n ps
-  tidy-numbered = waits-numbered (turn-merges s) (s .standing .waits)
+  pub tidy-numbered : Numbered w (t .place) ps n
+  tidy-numbered = waits-numbered (turn-laid s) (turn-merges s) (s .standing .waits)
 
-  pub tidied-kept : {n′ : ℕ} {ps′ : List Pair} → KeptLiving t n n′ w ps ps′ → Tidied t n m j z n′ m j z w ps ps′
+  pub tidied-kept : {n′ : ℕ} {ps′ : List Pair} → KeptMarked w (t .place) ps n n′ ps′ → Tidied t n m j z n′ m j z w ps ps′
   tidied-kept u = record {
     stands = λ xs q. record {
       many = q .many;
@@ -118,7 +119,7 @@ module _ {t : MergeTables} {n m j z : ℕ} {w : List ℕ} {ps : List Pair} (s : 
     };
     fewer = u .fewer;
     weighed-same = refl;
-    rest = λ i l. u .rest i (omega (arith, turn-room s));
+    rest = λ i l. u .rest i (omega (arith, turn-room s, u .fewer));
   }
 
 -- ---- the run

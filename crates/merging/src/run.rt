@@ -1,12 +1,12 @@
-// The run: the best pair is taken, and joined where both of its groups live, until none waits. What decides is covered by the prover; `turn`,
+// The run: the best pair is taken, and joined where both of its groups live, until none waits. A number lives that has a place: that is its mark. What decides is covered by the prover; `turn`,
 // `tidy` and `join_all` hold the pairs, and are walked (docs/PROVING.md).
 use crate::joining;
 use pairs::Pair;
+use pairs::keep_marked;
+use pairs::marked;
 use pairs::take;
 use slots::MergeTables;
 use waits::Tally;
-use waits::keep_living;
-use waits::living;
 use waits::offer_all;
 ghost use mathlib.Core.Path.{_≡_};
 ghost use Prim.Native.Nat.{_-_, _*_, _≤_, _<_};
@@ -53,7 +53,7 @@ pub fn turn(pairs: &mut [Pair], work: &mut [u32], t: MergeTables, s: Progress) -
         merges: s.merges,
         size: s.size,
     };
-    if living(work, t, p) {
+    if marked(work, t.place, p) {
         let joined = join(work, t, left, p);
         let before = Tally {
             waiting: left.waiting,
@@ -87,7 +87,7 @@ pub fn tidy(pairs: &mut [Pair], work: &[u32], t: MergeTables, s: Progress) -> Pr
     ensures { λ r. ⌜ Tidied t (s .waiting) (s .weighed) (s .merges) (s .size) (r .waiting) (r .weighed) (r .merges) (r .size) (now (work .entry)) (now (pairs .entry)) (now (pairs .exit)) ⌝ }
 {
     if crowded(t, s) {
-        let waiting = keep_living(pairs, work, t, s.waiting);
+        let waiting = keep_marked(pairs, work, t.place, s.waiting);
         return Progress {
             waiting,
             weighed: s.weighed,

@@ -7,13 +7,15 @@ use Prim.Native.Nat.{ℕ, zero, suc, _+_, _-_, _≤_, _<_}
 use native.Mathlib.Nat.{not-suc-le-zero}
 use native.Mathlib.Omega.{arith}
 use lib.Dec.{eqb}
+use lib.ListN.{getD}
 use borrow.Author.Tests.{eq-eqb, eqb-true}
 use Rattle.pairs.specs.declared.Pair.{Pair}
 use Rattle.laws.specs.Bag.{sum}
 use Rattle.laws.specs.Pick.{pick}
 use Rattle.laws.proofs.Cases.{same-or-not}
-use Rattle.pairs.specs.LentQueue.{pairAt, AtLeast, Weight, weightOf, Has, Pushed, Popped}
+use Rattle.pairs.specs.LentQueue.{pairAt, AtLeast, Weight, weightOf, Has, Pushed, Popped, bothMarked, ifMarked, KeptMarked}
 use Rattle.pairs.proofs.Order.{carry}
+use Rattle.pairs.proofs.Marks.{both-marked}
 
 -- ---- the weight that counts one pair
 
@@ -108,3 +110,21 @@ module _ {w w′ : List Pair} {n : ℕ} {p : Pair} (s : Popped w n p w′) where
   -- what was taken is the best of what was there
   pub take-best : {q : Pair} → Has w n q → AtLeast p q
   take-best h = carry refl (sym (h .here)) (s .best (h .place) (h .below))
+
+-- ---- what dropping keeps
+
+module _ {m : List ℕ} {place : ℕ} {w w′ : List Pair} {n r : ℕ} (s : KeptMarked m place w n r w′) where
+  -- a pair with two marks is there
+  pub kept-has : {q : Pair} → Has w n q → 0 < getD m (place + q .first) 0 → 0 < getD m (place + q .second) 0 → Has w′ r q
+  unfolding weightOf ifMarked
+  kept-has {q} h a b =
+      let some = sum-at (λ k. ifMarked m place (is q) (pairAt w k)) n (h .place) (h .below) in
+      let one : ifMarked m place (is q) (pairAt w (h .place)) ≡ 1 = ap (ifMarked m place (is q)) (h .here) ∙ rw (both-marked m place q a b) (is-self q) in
+      counted-has w′ r q (omega (arith, s .content (is q)))
+
+  -- and nothing else is
+  pub kept-only : {q : Pair} → Has w′ r q → Has w n q
+  unfolding weightOf ifMarked
+  kept-only {q} h =
+      let k = sum-where (λ k. ifMarked m place (is q) (pairAt w k)) n (let some = has-counted h in omega (arith, s .content (is q))) in
+      record { place = k .0; below = k .1; here = sym (is-same q (pairAt w (k .0)) (picked (bothMarked m place (pairAt w (k .0))) (is q (pairAt w (k .0))) (k .2) .1)) }

@@ -1,10 +1,11 @@
--- The queue: its order, its content, what a moved hole, a push and a take do; clearing.
+-- The queue: its order, its content, what a moved hole, a push and a take do; which pairs have two marks; clearing.
 pub mod Order
 pub mod Sets
 pub mod Bag
 pub mod Heap
 pub mod Holes
 pub mod Zeros
+pub mod Marks
 pub mod Content
 -- For walks: what a call is lent, several clauses, and the calls.
 pub mod Again

@@ -1,3 +1,4 @@
 pub mod StoreLaws
+pub mod MarkLaws
 pub mod ColumnLaws
 pub mod Worked

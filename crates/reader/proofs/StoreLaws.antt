@@ -1,5 +1,5 @@
 -- Laws of the reader: what its tests say, its columns, and signed numbers as an i32 computes them. Assumes nothing.
-use mathlib.Core.Path.{_≡_, refl, sym, _∙_, ap}
+use mathlib.Core.Path.{_≡_, refl, _∙_, ap}
 use mathlib.Core.Bool.{Bool, true, false, _&&_}
 use mathlib.Core.List.{List, [], _∷_}
 use Prim.Native.Nat.{ℕ, zero, suc, _+_, _-_, _*_, _^_, _≤_, _<_}
@@ -7,12 +7,10 @@ use native.Mathlib.Nat.{zero-add, add-zero}
 use native.Mathlib.Omega.{arith}
 use lib.Dec.{ltb, eqb}
 use lib.IntN.{pos, negsuc, _-ℤ_}
-use lib.ListN.{length, getD, set, replicate, length-set, length-replicate}
-use lib.Seq.{getD-set-same, getD-set-other}
+use lib.ListN.{length, getD, replicate}
 use mir.Syntax.{w32}
 use mir.Val.{toZ, ofZ, SFits}
 use mir.ValLaws.{toZ-pos, toZ-ofZ}
-use borrow.Author.Count.{below-more}
 use borrow.Author.Tests.{leb-true, eqb-true, eqb-false, ne-eqb, not-true, lt-ltb, ltb-true}
 use Rattle.laws.specs.Pick.{pick}
 use Rattle.laws.specs.Bytes.{be}
@@ -173,91 +171,8 @@ ok-intro r (x ∷ l) f g =
       ok-intro r l (λ k h. f (suc k) (omega arith)) (λ i j p q. g (suc i) (suc j) (omega arith) (omega arith)),
     )
 
--- the marks say which of the first j indexes were seen; they are below the count, and none was named twice
-pub record Seen (l : List ℕ) (regions : ℕ) (marks : List ℕ) (j : ℕ) : Type 0 where
-  pub within : j ≤ length l
-  pub room : length marks ≡ 65536
-  pub below : (k : ℕ) → k < j → getD l k 0 < regions
-  pub once : (k : ℕ) → k < j → (i : ℕ) → i < k → getD l k 0 ≡ getD l i 0 → ⊥
-  pub marked : (k : ℕ) → k < j → getD marks (getD l k 0) 0 ≡ 1
-  pub only : (v : ℕ) → (getD marks v 0 ≡ 0 → ⊥) → (k : ℕ) × (k < j) × (getD l k 0 ≡ v)
-
+-- words of zeros
 pub zeros-at : (n v : ℕ) → getD {A = ℕ} (replicate n 0) v 0 ≡ 0
 zeros-at zero v = refl
 zeros-at (suc n) zero = refl
 zeros-at (suc n) (suc v) = zeros-at n v
-
-module _ (l : List ℕ) (regions : ℕ) where
-  pub seen-start : (n : ℕ) → n ≡ 65536 → Seen l regions (replicate n 0) 0
-  seen-start n e = record {
-    within = omega arith;
-    room = length-replicate n 0 ∙ e;
-    below = λ k h. absurd (omega arith);
-    once = λ k h. absurd (omega arith);
-    marked = λ k h. absurd (omega arith);
-    only = λ v h. absurd (h (zeros-at n v));
-  }
-
-  -- an index that is too large, or that has its mark
-  pub seen-large : (marks : List ℕ) (j : ℕ) → Seen l regions marks j → j < length l → regions ≤ getD l j 0 → false ≡ columnsOk regions l
-  seen-large marks j s h b = go (which (columnsOk regions l))
-    where
-      go : Which (columnsOk regions l) → false ≡ columnsOk regions l
-      go (holds t) = absurd (omega (arith, ok-below regions l t j h))
-      go (fails t) = sym t
-
-  pub seen-twice : (marks : List ℕ) (j : ℕ) → Seen l regions marks j → j < length l → (getD marks (getD l j 0) 0 ≡ 0 → ⊥) → false ≡ columnsOk regions l
-  seen-twice marks j s h b = go (which (columnsOk regions l))
-    where
-      go : Which (columnsOk regions l) → false ≡ columnsOk regions l
-      go (holds t) = let o = s .only (getD l j 0) b in absurd (ok-once regions l t (o .0) j (o .1) h (sym (o .2)))
-      go (fails t) = sym t
-
-  pub seen-more : (marks : List ℕ) (j : ℕ) → Seen l regions marks j → j < length l → getD l j 0 < 65536 → getD l j 0 < regions → getD marks (getD l j 0) 0 ≡ 0
-      → Seen l regions (set marks (getD l j 0) 1) (j + 1)
-  seen-more marks j s h f b z =
-      let x = getD l j 0 in
-      let new : (i : ℕ) → i < j → x ≡ getD l i 0 → ⊥ = (λ i p e. let m = s .marked i p in let y : _≡_ {A = ℕ} 1 0 = cc in omega arith) in
-      record {
-        within = omega arith;
-        room = length-set marks x 1 ∙ s .room;
-        below = below-more _ _ (s .below) b;
-        once = below-more _ _ (s .once) new;
-        marked = below-more _ _
-            (λ k p. getD-set-other marks x (getD l k 0) 1 0 (λ e. new k p (cc)) ∙ s .marked k p)
-            (getD-set-same marks x 1 0 (omega (arith, s .room)));
-        only = λ v n. go v n (which (eqb v x));
-      }
-    where
-      go : (v : ℕ) → (getD (set marks (getD l j 0) 1) v 0 ≡ 0 → ⊥) → Which (eqb v (getD l j 0)) → (k : ℕ) × (k < j + 1) × (getD l k 0 ≡ v)
-      go v n (holds t) = (j, omega arith, sym (eqb-true v (getD l j 0) t))
-      go v n (fails t) =
-          let o = s .only v (λ e. n (getD-set-other marks (getD l j 0) v 1 0 (eqb-false v (getD l j 0) t) ∙ e)) in
-          (o .0, omega (arith, o .1), o .2)
-
-  pub seen-done : (marks : List ℕ) (j : ℕ) → Seen l regions marks j → length l ≤ j → true ≡ columnsOk regions l
-  seen-done marks j s h = sym (ok-intro regions l (λ k p. s .below k (omega arith)) (λ i k p q. s .once k (omega arith) i p))
-
--- the same, of the indexes that stand in a store from at on, x the one that was read last
-module _ (s : List ℕ) (at n regions : ℕ) where
-  index-is : (j x : ℕ) → j < n → x ≡ be 2 s (at + 2 * j) → getD (words s at n) j 0 ≡ x
-  index-is j x h e = words-at s at n j h ∙ sym e
-
-  pub index-large : (marks : List ℕ) (j x : ℕ) → Seen (words s at n) regions marks j → j < n → x ≡ be 2 s (at + 2 * j) → regions ≤ x → false ≡ columnsOk regions (words s at n)
-  index-large marks j x v h e b =
-      let i = index-is j x h e in
-      seen-large (words s at n) regions marks j v (omega (arith, words-length s at n)) (omega arith)
-
-  pub index-twice : (marks : List ℕ) (j x : ℕ) → Seen (words s at n) regions marks j → j < n → x ≡ be 2 s (at + 2 * j) → (getD marks x 0 ≡ 0 → ⊥) → false ≡ columnsOk regions (words s at n)
-  index-twice marks j x v h e b =
-      let i = index-is j x h e in
-      seen-twice (words s at n) regions marks j v (omega (arith, words-length s at n)) (rw i b)
-
-  pub index-more : (marks : List ℕ) (j x : ℕ) → Seen (words s at n) regions marks j → j < n → x ≡ be 2 s (at + 2 * j) → x < 65536 → x < regions → getD marks x 0 ≡ 0
-      → Seen (words s at n) regions (set marks x 1) (j + 1)
-  index-more marks j x v h e f b z =
-      let i = index-is j x h e in
-      rw i at (seen-more (words s at n) regions marks j v (omega (arith, words-length s at n)) (omega arith) (omega arith) (rw i z))
-
-  pub index-done : (marks : List ℕ) (j : ℕ) → Seen (words s at n) regions marks j → n ≤ j → true ≡ columnsOk regions (words s at n)
-  index-done marks j v h = seen-done (words s at n) regions marks j v (omega (arith, words-length s at n))

@@ -1,6 +1,7 @@
 // The reader of an item variation store: one value, whatever the bytes are. Where columns lie serves the writer too.
 mod bytes;
 mod column;
+mod marks;
 mod reader;
 
 pub use bytes::be;

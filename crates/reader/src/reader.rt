@@ -3,12 +3,13 @@ use crate::bytes::be;
 use crate::column::Column;
 use crate::column::column_at;
 use crate::column::column_bytes;
+use crate::marks::columns_ok;
 ghost use mathlib.Core.Path.{_≡_};
 ghost use mathlib.Core.Bool.{true};
 ghost use Prim.Native.Nat.{_+_, _*_, _≤_, _<_, _^_};
 ghost use lib.ListN.{length};
 ghost use Rattle.laws.specs.Signed.{signed};
-ghost use Rattle.reader.specs.Store.{words, headerOk, find, columnsOk, subtableOk, readSubtable, readStore};
+ghost use Rattle.reader.specs.Store.{words, headerOk, find, subtableOk, readSubtable, readStore};
 
 pub enum Reading {
     Written(i32),
@@ -67,28 +68,6 @@ fn find(s: &[u8], at: usize, n: usize, x: usize) -> Column
         j += 1;
     }
     Column::Missing
-}
-
-// Each of the n region indexes from at on is below the count, and none is named twice: one pass, with a mark for each index seen.
-fn columns_ok(s: &[u8], at: usize, n: usize, regions: usize) -> bool
-    requires { ⌜ n < 65536 ⌝ }
-    requires { ⌜ at + 2 * n ≤ length (now s) ⌝ }
-    ensures { λ r. ⌜ r ≡ columnsOk regions (words (now (s .entry)) at n) ⌝ }
-{
-    let mut seen = [0u8; 65536];
-    let mut j: usize = 0;
-    while j < n {
-        let x = be(s, at + 2 * j, 2);
-        if regions <= x {
-            return false;
-        }
-        if seen[x] != 0 {
-            return false;
-        }
-        seen[x] = 1;
-        j += 1;
-    }
-    true
 }
 
 pub fn subtable_ok(s: &[u8], at: usize, regions: usize) -> bool

@@ -1,7 +1,7 @@
 -- What weighing does to the pairs that wait. Assumes nothing.
 use mathlib.Core.Path.{_≡_, refl, sym, ap, ap₂, subst, _∙_}
-use mathlib.Core.Bool.{Bool, true, false, not}
-use mathlib.Core.Logic.{_⊎_, ⊎-elim}
+use mathlib.Core.Bool.{Bool, not}
+use mathlib.Core.Logic.{⊎-elim}
 use mathlib.Core.List.{List}
 use Prim.Native.Nat.{ℕ, zero, suc, _+_, _-_, _*_, _≤_, _<_}
 use native.Mathlib.Omega.{arith}
@@ -15,11 +15,11 @@ use Rattle.laws.proofs.BagLaws.{sum-next}
 use Rattle.laws.proofs.Products.{product}
 use Rattle.shapes.specs.Group.{gain}
 use Rattle.pairs.specs.declared.Pair.{Pair}
-use Rattle.pairs.specs.LentQueue.{pairAt, HeapOrdered, Has, SameFrom, Pushed}
-use Rattle.pairs.proofs.Content.{push-has, push-keeps, push-only}
+use Rattle.pairs.specs.LentQueue.{pairAt, Has, SameFrom, Pushed, Numbered, KeptMarked}
+use Rattle.pairs.proofs.Content.{push-has, push-keeps, push-only, kept-has, kept-only}
 use Rattle.slots.specs.declared.tables.MergeTables.{MergeTables}
 use Rattle.slots.specs.Lent.{Laid, groupIn}
-use Rattle.waits.specs.LentWaits.{room, placeOf, groupOf, alive, pairOf, Reached, Fair, Waits, Considered, Asked, Offered, OfferedAll, Opening, Opened, BothLive, Numbered, KeptLiving}
+use Rattle.waits.specs.LentWaits.{room, placeOf, groupOf, alive, pairOf, Reached, Fair, Waits, Considered, Asked, Offered, OfferedAll, Opening, Opened}
 use Rattle.slots.proofs.SlotLaws.{shape-kept, group-is}
 
 -- ---- how many pairs can wait
@@ -40,17 +40,6 @@ room-most n h = product 1023 1023 {a = n - 1} {b = n - 1} (omega arith) (omega a
 
 pub not-zero : (n : ℕ) → T (not (eqb n 0)) → n ≡ 0 → ⊥
 not-zero n h e = subst (λ (b : Bool). T (not b)) (eq-eqb n 0 e) h
-
-holds : (b : Bool) → T b → b ≡ true
-holds true _ = refl
-holds false a = absurd a
-
-module _ {t : MergeTables} {p : Pair} {w : List ℕ} {b : Bool} (l : BothLive t p b w) (h : T b) where
-  pub first-lives : 0 < placeOf t w (p .first)
-  first-lives = l .yes-live (holds b h) .0
-
-  pub second-lives : 0 < placeOf t w (p .second)
-  second-lives = l .yes-live (holds b h) .1
 
 -- ---- living or dead
 
@@ -294,96 +283,19 @@ module _ {t : MergeTables} {w : List ℕ} (h : Opening t w) (ps₀ : List Pair) 
         let e : k ≡ t .groups = omega (arith, o .within) in
         record { waits = rw e at (o .waits); weighed = rw e at (o .weighed); few = o .few; rest = o .rest }
 
--- ---- only the pairs whose two live are kept
-
-pub record Keeping (t : MergeTables) (n : ℕ) (w : List ℕ) (ps₀ ps : List Pair) (kept i : ℕ) : Type 0 where
-  pub within : i ≤ n
-  pub few : kept ≤ i
-  pub ordered : HeapOrdered ps kept
-  pub keeps : (j : ℕ) → j < i → 0 < placeOf t w (pairAt ps₀ j .first) → 0 < placeOf t w (pairAt ps₀ j .second) → Has ps kept (pairAt ps₀ j)
-  pub only : (q : Pair) → Has ps kept q → Has ps₀ i q
-  pub rest : SameFrom ps₀ i ps
-
-pub keeping-start : (t : MergeTables) (n : ℕ) (w : List ℕ) (ps : List Pair) → Keeping t n w ps ps 0 0
-keeping-start t n w ps = record {
-  within = omega arith;
-  few = omega arith;
-  ordered = λ k l m. absurd (omega arith);
-  keeps = λ j l. absurd (omega arith);
-  only = λ q h. absurd (omega (arith, h .below));
-  rest = λ k l. refl;
-}
-
-has-more : {ps : List Pair} {i : ℕ} {q : Pair} → Has ps i q → Has ps (i + 1) q
-has-more h = record { place = h .place; below = omega (arith, h .below); here = h .here }
-
-module _ {t : MergeTables} {n : ℕ} {w : List ℕ} {ps₀ ps : List Pair} {kept i : ℕ} (s : Keeping t n w ps₀ ps kept i) where
-  module _ {p : Pair} (l : i < n) (e : p ≡ pairAt ps i) where
-    is : pairAt ps₀ i ≡ p
-    is = sym (s .rest i (omega arith)) ∙ sym e
-
-    pub keeping-known : Numbered t n ps₀ → (p .first < 2 * t .groups) × (p .second < 2 * t .groups)
-    keeping-known f = subst (λ (q : Pair). (q .first < 2 * t .groups) × (q .second < 2 * t .groups)) is (f i l)
-
-    pub keeping-dead : (placeOf t w (p .first) ≡ 0) ⊎ (placeOf t w (p .second) ≡ 0) → Keeping t n w ps₀ ps kept (i + 1)
-    keeping-dead d = record {
-      within = omega arith;
-      few = omega (arith, s .few);
-      ordered = s .ordered;
-      keeps = λ j m x y. ⊎-elim
-          (λ (q : j ≡ i).
-          let same : pairAt ps₀ j ≡ p = ap (pairAt ps₀) q ∙ is in
-          let a = ap (λ (v : Pair). placeOf t w (v .first)) same in
-          let b = ap (λ (v : Pair). placeOf t w (v .second)) same in
-          absurd (⊎-elim (λ z. omega arith) (λ z. omega arith) d))
-          (λ q. s .keeps j (omega arith) x y)
-          (same-or-not j i);
-      only = λ q h. has-more (s .only q h);
-      rest = λ k m. s .rest k (omega arith);
-    }
-
-    module _ {ps′ : List Pair} {r : ℕ} (c : r ≡ kept + 1) (u : Pushed ps kept p ps′) where
-      pub keeping-live : Keeping t n w ps₀ ps′ r (i + 1)
-      keeping-live = rw c (record {
-        within = omega arith;
-        few = omega (arith, s .few);
-        ordered = u .ordered;
-        keeps = λ j m x y. ⊎-elim
-            (λ (q : j ≡ i). subst (Has ps′ (kept + 1)) (sym (ap (pairAt ps₀) q ∙ is)) (push-has u))
-            (λ q. push-keeps u (s .keeps j (omega arith) x y))
-            (same-or-not j i);
-        only = λ q h. ⊎-elim
-            (λ (v : q ≡ p). record { place = i; below = omega arith; here = is ∙ sym v })
-            (λ v. has-more (s .only q v))
-            (push-only u h);
-        rest = λ k m. u .rest k (omega (arith, s .few)) ∙ s .rest k (omega arith);
-      })
-
-  pub keeping-done : n ≤ i → KeptLiving t n kept w ps₀ ps
-  keeping-done l =
-      let e : i ≡ n = omega (arith, s .within) in
-      record {
-        fewer = omega (arith, s .few);
-        ordered = s .ordered;
-        keeps = λ q h x y.
-            let a = ap (λ (v : Pair). placeOf t w (v .first)) (h .here) in
-            let b = ap (λ (v : Pair). placeOf t w (v .second)) (h .here) in
-            subst (Has ps kept) (h .here) (s .keeps (h .place) (omega (arith, h .below)) (omega arith) (omega arith));
-        only = λ q h. subst (λ (m : ℕ). Has ps₀ m q) e (s .only q h);
-        rest = λ k m. s .rest k (omega arith);
-      }
+-- ---- the pairs of dead groups dropped: a living number's place is its mark
 
 -- what waits is still all there
-pub waits-kept : {t : MergeTables} {k n r : ℕ} {w : List ℕ} {ps ps′ : List Pair} → Waits t k 0 n w ps → KeptLiving t n r w ps ps′ → Waits t k 0 r w ps′
+pub waits-kept : {t : MergeTables} {k n r : ℕ} {w : List ℕ} {ps ps′ : List Pair} → Waits t k 0 n w ps → KeptMarked w (t .place) ps n r ps′ → Waits t k 0 r w ps′
 waits-kept h u = record {
   ordered = u .ordered;
-  all = λ a b r x y z. u .keeps _ (h .all a b r x y z) x y;
-  fair = λ q v. h .fair q (u .only q v);
+  all = λ a b r x y z. kept-has u (h .all a b r x y z) x y;
+  fair = λ q v. h .fair q (kept-only u v);
 }
 
 -- the numbers of what waits are known
-pub waits-numbered : {t : MergeTables} {k n : ℕ} {w : List ℕ} {ps : List Pair} → k ≤ 2 * t .groups → Waits t k 0 n w ps → Numbered t n ps
-waits-numbered {t} {k} {n} {w} {ps} f h i l =
+pub waits-numbered : {t : MergeTables} {k n : ℕ} {w : List ℕ} {ps : List Pair} → Laid t (length w) → k ≤ 2 * t .groups → Waits t k 0 n w ps → Numbered w (t .place) ps n
+waits-numbered {t} {k} {n} {w} {ps} d f h i l =
     let r = h .fair (pairAt ps i) (record { place = i; below = l; here = refl }) .reached in
     let b : pairAt ps i .second < k = ⊎-elim (λ (e : pairAt ps i .second ≡ k). absurd (omega (arith, r .last e))) (λ d. omega (arith, r .below)) (same-or-not (pairAt ps i .second) k) in
-    (omega (arith, r .order), omega arith)
+    (omega (arith, r .order, d), omega (arith, d))

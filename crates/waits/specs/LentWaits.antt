@@ -1,7 +1,5 @@
 -- What waits to be joined: pairs of numbers of groups in lent words, in a lent slice of pair records. Assumes nothing.
 use mathlib.Core.Path.{_≡_}
-use mathlib.Core.Bool.{Bool, true, false}
-use mathlib.Core.Logic.{_⊎_}
 use mathlib.Core.List.{List}
 use Prim.Native.Nat.{ℕ, _+_, _-_, _*_, _≤_, _<_}
 use lib.Dec.{eqb}
@@ -10,7 +8,7 @@ use Rattle.laws.specs.Pick.{pick}
 use Rattle.laws.specs.Bag.{sum}
 use Rattle.shapes.specs.Group.{Group, gain}
 use Rattle.pairs.specs.declared.Pair.{Pair}
-use Rattle.pairs.specs.LentQueue.{pairAt, HeapOrdered, Has, SameFrom}
+use Rattle.pairs.specs.LentQueue.{HeapOrdered, Has, SameFrom}
 use Rattle.slots.specs.declared.tables.MergeTables.{MergeTables}
 use Rattle.slots.specs.Lent.{groupIn, Sound}
 
@@ -98,20 +96,3 @@ pub record Opened (t : MergeTables) (n m : ℕ) (w : List ℕ) (ps ps′ : List 
   pub weighed : 2 * m + t .groups ≡ t .groups * t .groups
   pub few : n ≤ m
   pub rest : SameFrom ps (room (t .groups)) ps′
-
--- whether the two of p live
-pub record BothLive (t : MergeTables) (p : Pair) (r : Bool) (w : List ℕ) : Type 0 where
-  pub yes-live : r ≡ true → (0 < placeOf t w (p .first)) × (0 < placeOf t w (p .second))
-  pub one-dead : r ≡ false → (placeOf t w (p .first) ≡ 0) ⊎ (placeOf t w (p .second) ≡ 0)
-
--- the numbers of the first n pairs are known
-abbrev pub Numbered : MergeTables → ℕ → List Pair → Type 0
-Numbered t n ps = (i : ℕ) → i < n → (pairAt ps i .first < 2 * t .groups) × (pairAt ps i .second < 2 * t .groups)
-
--- of the first n pairs r are kept, and none whose two live is lost
-pub record KeptLiving (t : MergeTables) (n r : ℕ) (w : List ℕ) (ps ps′ : List Pair) : Type 0 where
-  pub fewer : r ≤ n
-  pub ordered : HeapOrdered ps′ r
-  pub keeps : (q : Pair) → Has ps n q → 0 < placeOf t w (q .first) → 0 < placeOf t w (q .second) → Has ps′ r q
-  pub only : (q : Pair) → Has ps′ r q → Has ps n q
-  pub rest : SameFrom ps n ps′

@@ -1,14 +1,12 @@
 // The pairs that wait: each pair of living groups that was weighed and gains, in a lent slice of records. What weighs is covered by the prover; what
 // holds the slice takes no decision of its own, and is walked (docs/PROVING.md).
 use pairs::Pair;
-use pairs::get;
 use pairs::push;
 use slots::MergeTables;
-ghost use Prim.Native.Nat.{_+_, _*_, _≤_, _<_};
+ghost use Prim.Native.Nat.{_+_, _≤_, _<_};
 ghost use lib.ListN.{length};
 ghost use Rattle.laws.specs.Bag.{sum};
-ghost use Rattle.waits.specs.LentWaits.{room, alive, Weighable, Considered, Asked, Offered, OfferedAll, Opening, Opened, BothLive, Numbered, KeptLiving};
-ghost use Rattle.slots.specs.Lent.{Laid};
+ghost use Rattle.waits.specs.LentWaits.{room, alive, Weighable, Considered, Asked, Offered, OfferedAll, Opening, Opened};
 
 // How many pairs wait, and how many were weighed.
 pub struct Tally {
@@ -110,42 +108,4 @@ pub fn weigh_each(pairs: &mut [Pair], work: &[u32], t: MergeTables) -> Tally
         k += 1;
     }
     now
-}
-
-// Whether both groups of the pair p live.
-pub fn living(work: &[u32], t: MergeTables, p: Pair) -> bool
-    requires { ⌜ Laid t (length (now work)) ⌝ }
-    requires { ⌜ p .first < 2 * t .groups ⌝ }
-    requires { ⌜ p .second < 2 * t .groups ⌝ }
-    ensures { λ r. ⌜ BothLive t p r (now (work .entry)) ⌝ }
-{
-    let place = t.place;
-    let first = p.first as usize;
-    let second = p.second as usize;
-    if work[place + first] == 0 {
-        return false;
-    }
-    if work[place + second] == 0 {
-        return false;
-    }
-    true
-}
-
-// Of the first n pairs those whose two groups live, in front and in heap order; returns how many. A record is pushed no further than it was read.
-pub fn keep_living(pairs: &mut [Pair], work: &[u32], t: MergeTables, n: usize) -> usize
-    requires { ⌜ Laid t (length (now work)) ⌝ }
-    requires { ⌜ n ≤ length (now pairs) ⌝ }
-    requires { ⌜ Numbered t n (now pairs) ⌝ }
-    ensures { λ r. ⌜ KeptLiving t n r (now (work .entry)) (now (pairs .entry)) (now (pairs .exit)) ⌝ }
-{
-    let mut kept = 0;
-    let mut i = 0;
-    while i < n {
-        let p = get(pairs, i);
-        i += 1;
-        if living(work, t, p) {
-            kept = push(pairs, kept, p);
-        }
-    }
-    kept
 }

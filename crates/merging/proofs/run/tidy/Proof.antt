@@ -49,13 +49,13 @@ use Rattle.merging.proofs.run.Progress as Z
 use Rattle.merging.proofs.run.Progress.Laws as Z′
 use Rattle.pairs.proofs.Slices.{ref, Has, Sees}
 use Rattle.pairs.proofs.Clauses.{needs-more}
-use Rattle.merging.proofs.Calls.{mach-tables, mach-progress, Crowded-of, KeepLiving-of, crowded-call, keep-living-mut-see, After-crowded-call, After-keep-living-mut-see}
+use Rattle.merging.proofs.Calls.{mach-tables, mach-progress, Crowded-of, KeepMarked-of, crowded-call, keep-marked-mut-see, After-crowded-call, After-keep-marked-mut-see}
 use Rattle.merging.proofs.run.crowded.Symbol as crowded-def
 use Rattle.merging.proofs.run.crowded.Symbol.{name as #merging·crowded}
 use Rattle.merging.proofs.run.crowded.Met as crowded-thm
-use Rattle.waits.proofs.keep_living.Symbol as keep-living-def
-use Rattle.waits.proofs.keep_living.Symbol.{name as #waits·keep-living}
-use Rattle.waits.proofs.keep_living.Met as keep-living-thm
+use Rattle.pairs.proofs.keep_marked.Symbol as keep-marked-def
+use Rattle.pairs.proofs.keep_marked.Symbol.{name as #pairs·keep-marked}
+use Rattle.pairs.proofs.keep_marked.Met as keep-marked-thm
 use Rattle.merging.proofs.run.tidy.Key.{name as #merging·tidy}
 use Rattle.merging.proofs.run.tidy as tidy
 use Rattle.merging.proofs.run.tidy.Statement as stated
@@ -95,7 +95,7 @@ module _ {M : Type 1} (𝓤 : URA M) (H : Heap 𝓤) (A : Atoms 𝓤) (W : Given
       qed W (Slice pairs′ ∷ Slice₂ work ∷ []) ∵ suffices ! _ (ends-at 𝓤 H A tidy.ended stayed (tidy.clauses 𝓤 H A mem run) W bound (mach-progress r) r (pairs′, (tt, (tt, (tt, tt)))) (long, (tt, (tt, (tt, tt))))) $
       split ! $ move ! (2 ∷ []) $ split ! $ nothing ! $ move ! (2 ∷ 0 ∷ []) $ join ! $ move ! (3 ∷ 0 ∷ []) $ join ! $ owned ! Z.the-row (Is Z.the-row) (LL.makes Z.the-type Z′.the-plain 𝓤 H A) r _ g $ nothing ! $ owned ! Z.the-row (Is Z.the-row) (LL.makes Z.the-type Z′.the-plain 𝓤 H A) s _ g-s $ fjoin ! $ owned ! L.the-row (Is L.the-row) (LL.makes L.the-type L′.the-plain 𝓤 H A) tb _ g-tb $ fjoin ! $ move ! (3 ∷ 0 ∷ []) $ fjoin ! $ move ! (3 ∷ 0 ∷ []) $ fjoin ! $ join ! $ move ! (1 ∷ 0 ∷ []) $ join ! $ frame ! $ use0 W (raw (fact 𝓤 (Tidied tb (s .waiting) (s .weighed) (s .merges) (s .size) (r .waiting) (r .weighed) (r .merges) (r .size) work pairs pairs′))) (factI 𝓤 (Tidied tb (s .waiting) (s .weighed) (s .merges) (s .size) (r .waiting) (r .weighed) (r .merges) (r .size) work pairs pairs′) (emp 𝓤) e) $ done !
 
-  module _ (𝓣 : AllCalls 𝓤 H) (known-crowded : Triple 𝓤 (𝓣 .C #merging·crowded) (Crowded-of 𝓤 H A mem run)) (known-keep-living : Triple 𝓤 (𝓣 .C #waits·keep-living) (KeepLiving-of 𝓤 H A mem run)) (sized : Room T.the-row ν) (sized₂ : Room u32 ν₂) (some : SomeStanding tb (s .waiting) (s .weighed) (s .merges) (s .size) work pairs) (enough : room (tb .groups) ≤ length pairs) where
+  module _ (𝓣 : AllCalls 𝓤 H) (known-crowded : Triple 𝓤 (𝓣 .C #merging·crowded) (Crowded-of 𝓤 H A mem run)) (known-keep-marked : Triple 𝓤 (𝓣 .C #pairs·keep-marked) (KeepMarked-of 𝓤 H A mem run)) (sized : Room T.the-row ν) (sized₂ : Room u32 ν₂) (some : SomeStanding tb (s .waiting) (s .weighed) (s .merges) (s .size) work pairs) (enough : room (tb .groups) ≤ length pairs) where
     abbrev C : Calls 𝓤 H
     C = 𝓣 .C
 
@@ -126,8 +126,8 @@ module _ {M : Type 1} (𝓤 : URA M) (H : Heap 𝓤) (A : Atoms 𝓤) (W : Given
           assigns ! (addr ! (from ! (fld ! refl (hop ! (look-in ! 16 (sub ! 0 refl (whole !))) (stop !))))) (from ! (stop !)) (init ! 4 refl (tt, tt)) $
           assigns ! (agg ! (and-then ! (load ! (from ! (stop !)) (look ! 4 refl)) (and-then ! (load ! (from ! (fld ! refl (stop !))) (look-in ! 16 (sub ! 1 refl (whole !)))) (no-more !)))) (from ! (stop !)) (init ! 2 refl (tt, (tt, (record { fits = sized .0 }, tt)))) $
           join ! $
-          use1 W (later (raw (C #waits·keep-living (σ ∷ σ₂ ∷ mach-tables tb ∷ vint w64 (s .waiting) ∷ []) (λ w. mean 𝓤 H A (After-keep-living-mut-see 𝓤 H A W mem run C fm known-keep-living κ θ γ β ι ν pairs κ₂ θ₂ γ₂ β₂ ι₂ ν₂ work tb (s .waiting) w))))) (keep-living-mut-see 𝓤 H A W mem run C fm known-keep-living κ θ γ β ι ν pairs κ₂ θ₂ γ₂ β₂ ι₂ ν₂ work tb (s .waiting) refl sized g-tb (LL.owed Z.the-type Z′.the-laws s _ g-s .0 .1) ((turn-laid some, omega (arith, turn-room some), tidy-numbered some))) $ await ! tt $
-          calls ! fm (After-keep-living-mut-see 𝓤 H A W mem run C fm known-keep-living κ θ γ β ι ν pairs κ₂ θ₂ γ₂ β₂ ι₂ ν₂ work tb (s .waiting)) (and-then ! (load ! (from ! (stop !)) (look ! 1 refl)) (and-then ! (load ! (from ! (stop !)) (look ! 13 refl)) (and-then ! (load ! (from ! (stop !)) (look ! 11 refl)) (and-then ! (load ! (from ! (fld ! refl (stop !))) (look-in ! 9 (sub ! 0 refl (whole !)))) (no-more !))))) (λ r-n. await ! tt $ pick ! (λ n. pick ! (λ x-n. learn ! (λ e-n. split ! $ move ! (1 ∷ []) $ facts ! usize (Is usize) (shows 𝓤 H A usize) n (r-n ∷ []) (λ g-n.
+          use1 W (later (raw (C #pairs·keep-marked (σ ∷ σ₂ ∷ vint w64 (tb .place) ∷ vint w64 (s .waiting) ∷ []) (λ w. mean 𝓤 H A (After-keep-marked-mut-see 𝓤 H A W mem run C fm known-keep-marked κ θ γ β ι ν pairs κ₂ θ₂ γ₂ β₂ ι₂ ν₂ work (tb .place) (s .waiting) w))))) (keep-marked-mut-see 𝓤 H A W mem run C fm known-keep-marked κ θ γ β ι ν pairs κ₂ θ₂ γ₂ β₂ ι₂ ν₂ work (tb .place) (s .waiting) refl sized (LL.owed L.the-type L′.the-laws tb _ g-tb .1 .1 .1 .1 .1 .0 .1) (LL.owed Z.the-type Z′.the-laws s _ g-s .0 .1) ((omega (arith, turn-room some), tidy-numbered some))) $ await ! tt $
+          calls ! fm (After-keep-marked-mut-see 𝓤 H A W mem run C fm known-keep-marked κ θ γ β ι ν pairs κ₂ θ₂ γ₂ β₂ ι₂ ν₂ work (tb .place) (s .waiting)) (and-then ! (load ! (from ! (stop !)) (look ! 1 refl)) (and-then ! (load ! (from ! (stop !)) (look ! 13 refl)) (and-then ! (load ! (from ! (fld ! refl (stop !))) (look-in ! 11 (sub ! 5 refl (whole !)))) (and-then ! (load ! (from ! (fld ! refl (stop !))) (look-in ! 9 (sub ! 0 refl (whole !)))) (no-more !))))) (λ r-n. await ! tt $ pick ! (λ n. pick ! (λ x-n. learn ! (λ e-n. split ! $ move ! (1 ∷ []) $ facts ! usize (Is usize) (shows 𝓤 H A usize) n (r-n ∷ []) (λ g-n.
           land ! (from ! (stop !)) (init ! 7 refl (uint-lawful 𝓤 H A W w64 .typed n _ g-n .0)) $
           rewrite ! 7 (λ (u : Val). ‵ (fat fullShare (tyInt w64) l₅ 0 u)) (ap only (g-n .0)) refl $
           split ! $
@@ -181,16 +181,16 @@ module _ {M : Type 1} (𝓤 : URA M) (H : Heap 𝓤) (A : Atoms 𝓤) (W : Given
   abbrev Entry : SProp 𝓤
   Entry = onEntry 𝓤 H A tidy.signature (κ, (κ₂, tt)) (θ, (θ₂, tt)) (bound .0 .3) (bound .0 .4)
 
-  starts : (𝓣 : AllCalls 𝓤 H) → Triple 𝓤 (𝓣 .C #merging·crowded) (Crowded-of 𝓤 H A mem run) → Triple 𝓤 (𝓣 .C #waits·keep-living) (KeepLiving-of 𝓤 H A mem run) → Room T.the-row ν → Room u32 ν₂ → ent 𝓤 (sep 𝓤 Entry (sep 𝓤 (fact 𝓤 (SomeStanding tb (s .waiting) (s .weighed) (s .merges) (s .size) work pairs)) (fact 𝓤 (room (tb .groups) ≤ length pairs)))) (WpFn 𝓤 H (𝓣 .C) (𝓣 .Λ) code.function (σ ∷ σ₂ ∷ mach-tables tb ∷ mach-progress s ∷ []) Post)
-  starts 𝓣 k-crowded k-keep-living sized sized₂ = needs-more 𝓤 (SomeStanding tb (s .waiting) (s .weighed) (s .merges) (s .size) work pairs) Entry (fact 𝓤 (room (tb .groups) ≤ length pairs)) (λ l₀. needs 𝓤 (room (tb .groups) ≤ length pairs) Entry (λ l₁. walk 𝓣 k-crowded k-keep-living sized sized₂ l₀ l₁))
+  starts : (𝓣 : AllCalls 𝓤 H) → Triple 𝓤 (𝓣 .C #merging·crowded) (Crowded-of 𝓤 H A mem run) → Triple 𝓤 (𝓣 .C #pairs·keep-marked) (KeepMarked-of 𝓤 H A mem run) → Room T.the-row ν → Room u32 ν₂ → ent 𝓤 (sep 𝓤 Entry (sep 𝓤 (fact 𝓤 (SomeStanding tb (s .waiting) (s .weighed) (s .merges) (s .size) work pairs)) (fact 𝓤 (room (tb .groups) ≤ length pairs)))) (WpFn 𝓤 H (𝓣 .C) (𝓣 .Λ) code.function (σ ∷ σ₂ ∷ mach-tables tb ∷ mach-progress s ∷ []) Post)
+  starts 𝓣 k-crowded k-keep-marked sized sized₂ = needs-more 𝓤 (SomeStanding tb (s .waiting) (s .weighed) (s .merges) (s .size) work pairs) Entry (fact 𝓤 (room (tb .groups) ≤ length pairs)) (λ l₀. needs 𝓤 (room (tb .groups) ≤ length pairs) Entry (λ l₁. walk 𝓣 k-crowded k-keep-marked sized sized₂ l₀ l₁))
 
 module _ {M : Type 1} (𝓤 : URA M) (H : Heap 𝓤) (A : Atoms 𝓤) (W : Given 𝓤 H A) (mem : Memory → SProp 𝓤) (run : Routine → Fun 𝓤) (𝓣 : AllCalls 𝓤 H) where
-  tidy-walks : Triple 𝓤 (𝓣 .C #merging·crowded) (Crowded-of 𝓤 H A mem run) → Triple 𝓤 (𝓣 .C #waits·keep-living) (KeepLiving-of 𝓤 H A mem run) → Walks 𝓤 H A tidy.ended stayed (WpFn 𝓤 H (𝓣 .C) (𝓣 .Λ) code.function) (tidy.clauses 𝓤 H A mem run)
-  tidy-walks k-crowded k-keep-living = walked 𝓤 H A tidy.ended stayed (tidy.clauses 𝓤 H A mem run) (WpFn 𝓤 H (𝓣 .C) (𝓣 .Λ) code.function) (λ κs. (slice-vals, (slice-vals, (LL.vals L.the-type L′.the-laws, (LL.vals Z.the-type Z′.the-laws, tt))))) (λ κs. (mut-slice-tells (named 0) (κs .0) T.the-row, (shr-slice-tells (named 1) (κs .1 .0) u32, (LL.tells L.the-type L′.the-laws, (LL.tells Z.the-type Z′.the-laws, tt)))))
-      (λ κs qs bounds a g are. starts 𝓤 H A W mem run (κs .0) (qs .0) (a .0 .name) (a .0 .ptr .0) (a .0 .ptr .1) (a .0 .now) (κs .1 .0) (qs .1 .0) (a .1 .0 .name) (a .1 .0 .ptr .0) (a .1 .0 .ptr .1) (a .1 .0 .now) (a .1 .1 .0) (a .1 .1 .1 .0) (are .1 .1 .0) (are .1 .1 .1 .0) 𝓣 k-crowded k-keep-living (are .0 .0 .1) (are .1 .0 .0 .1))
+  tidy-walks : Triple 𝓤 (𝓣 .C #merging·crowded) (Crowded-of 𝓤 H A mem run) → Triple 𝓤 (𝓣 .C #pairs·keep-marked) (KeepMarked-of 𝓤 H A mem run) → Walks 𝓤 H A tidy.ended stayed (WpFn 𝓤 H (𝓣 .C) (𝓣 .Λ) code.function) (tidy.clauses 𝓤 H A mem run)
+  tidy-walks k-crowded k-keep-marked = walked 𝓤 H A tidy.ended stayed (tidy.clauses 𝓤 H A mem run) (WpFn 𝓤 H (𝓣 .C) (𝓣 .Λ) code.function) (λ κs. (slice-vals, (slice-vals, (LL.vals L.the-type L′.the-laws, (LL.vals Z.the-type Z′.the-laws, tt))))) (λ κs. (mut-slice-tells (named 0) (κs .0) T.the-row, (shr-slice-tells (named 1) (κs .1 .0) u32, (LL.tells L.the-type L′.the-laws, (LL.tells Z.the-type Z′.the-laws, tt)))))
+      (λ κs qs bounds a g are. starts 𝓤 H A W mem run (κs .0) (qs .0) (a .0 .name) (a .0 .ptr .0) (a .0 .ptr .1) (a .0 .now) (κs .1 .0) (qs .1 .0) (a .1 .0 .name) (a .1 .0 .ptr .0) (a .1 .0 .ptr .1) (a .1 .0 .now) (a .1 .1 .0) (a .1 .1 .1 .0) (are .1 .1 .0) (are .1 .1 .1 .0) 𝓣 k-crowded k-keep-marked (are .0 .0 .1) (are .1 .0 .0 .1))
 
-  tidy-meets : Triple 𝓤 (𝓣 .C #merging·crowded) (Crowded-of 𝓤 H A mem run) → Triple 𝓤 (𝓣 .C #waits·keep-living) (KeepLiving-of 𝓤 H A mem run) → Meets 𝓤 H A tidy.signature (WpFn 𝓤 H (𝓣 .C) (𝓣 .Λ) code.function) (tidy.spec 𝓤 H A mem run)
-  tidy-meets k-crowded k-keep-living = walk-meets 𝓤 H A tidy.ended stayed W (goes-slice 𝓤 H A W 2 0 tt (plain (λ _. T.the-row)), (goes-none-slice 𝓤 H A W 2 (1 ∷ []) tt (plain (λ _. u32)) yes, (goes-none 𝓤 H A W 2 (λ _. L.the-row) yes (λ κs x f. refl), (goes-none 𝓤 H A W 2 (λ _. Z.the-row) yes (λ κs x f. refl), tt)))) (tidy.clauses 𝓤 H A mem run) (WpFn 𝓤 H (𝓣 .C) (𝓣 .Λ) code.function) (WpFn-mono 𝓤 H (W .laws) 𝓣 code.function) (tidy-walks k-crowded k-keep-living)
+  tidy-meets : Triple 𝓤 (𝓣 .C #merging·crowded) (Crowded-of 𝓤 H A mem run) → Triple 𝓤 (𝓣 .C #pairs·keep-marked) (KeepMarked-of 𝓤 H A mem run) → Meets 𝓤 H A tidy.signature (WpFn 𝓤 H (𝓣 .C) (𝓣 .Λ) code.function) (tidy.spec 𝓤 H A mem run)
+  tidy-meets k-crowded k-keep-marked = walk-meets 𝓤 H A tidy.ended stayed W (goes-slice 𝓤 H A W 2 0 tt (plain (λ _. T.the-row)), (goes-none-slice 𝓤 H A W 2 (1 ∷ []) tt (plain (λ _. u32)) yes, (goes-none 𝓤 H A W 2 (λ _. L.the-row) yes (λ κs x f. refl), (goes-none 𝓤 H A W 2 (λ _. Z.the-row) yes (λ κs x f. refl), tt)))) (tidy.clauses 𝓤 H A mem run) (WpFn 𝓤 H (𝓣 .C) (𝓣 .Λ) code.function) (WpFn-mono 𝓤 H (W .laws) 𝓣 code.function) (tidy-walks k-crowded k-keep-marked)
 
 pub tidy-spec : {M : Type 1} → stated.statement M
 unfolding code.routine tablesOf
@@ -199,4 +199,4 @@ tidy-spec 𝓤 H 𝓜 𝓖 𝓡 =
     (tables 𝓤 H 𝓜 𝓡 code.env .C) (tables 𝓤 H 𝓜 𝓡 code.env .Λ) #merging·tidy code.function (code.unfolded 𝓤 H 𝓜 𝓡)
     (tidy-meets 𝓤 H (𝓖 .A) (givenOf 𝓤 H 𝓜 𝓖) (𝓜 .mem) (𝓡 .run) (tablesOf 𝓤 H 𝓜 (tables 𝓤 H 𝓜 𝓡 code.env))
     (cited 𝓤 H (Crowded-of 𝓤 H (𝓖 .A) (𝓜 .mem) (𝓡 .run)) 𝓜 𝓡 code.env #merging·crowded crowded-def.routine code.calls-merging·run·crowded (crowded-thm.met 𝓤 H 𝓜 𝓖 𝓡))
-    (cited 𝓤 H (KeepLiving-of 𝓤 H (𝓖 .A) (𝓜 .mem) (𝓡 .run)) 𝓜 𝓡 code.env #waits·keep-living keep-living-def.routine code.calls-waits·keep-living (keep-living-thm.met 𝓤 H 𝓜 𝓖 𝓡)))
+    (cited 𝓤 H (KeepMarked-of 𝓤 H (𝓖 .A) (𝓜 .mem) (𝓡 .run)) 𝓜 𝓡 code.env #pairs·keep-marked keep-marked-def.routine code.calls-pairs·keep-marked (keep-marked-thm.met 𝓤 H 𝓜 𝓖 𝓡)))

@@ -9,7 +9,7 @@ use Rattle.reader.proofs.reader.subtable_ok.Reads as reads
 use Rattle.reader.proofs.reader.subtable_ok.Lts as lts
 use Rattle.reader.proofs.bytes.be.Reads as be-reads
 use Rattle.reader.proofs.column.column_at.Reads as column-at-reads
-use Rattle.reader.proofs.reader.columns_ok.Reads as columns-ok-reads
+use Rattle.reader.proofs.marks.columns_ok.Reads as columns-ok-reads
 
 add-if1 : tie.Need-add-if1
 add-if1 c = search needs
