@@ -6,9 +6,10 @@ pub mod StepLaws
 pub mod WalkRows
 pub mod OutcomeRows
 pub mod TellLaws
-pub mod Calls
 pub mod EarlyRows
 pub mod LateRows
+pub mod ForetoldLaws
+pub mod Calls
 pub mod Buffers
 pub mod StateLaws
 pub mod ZeroLaws
@@ -24,8 +25,10 @@ pub mod Demand3
 pub mod BytesBack
 pub mod SizesBack
 pub mod Examples
+pub mod CutForecast
 pub mod GlyphLaws
 pub mod PastBack
 pub mod ReportLaws
+pub mod FollowedLaws
 pub mod PlainRows
 pub mod Demand1

@@ -12,6 +12,7 @@ pub mod Sized
 pub mod Past
 pub mod Reported
 pub mod Plain
+pub mod Foretold
 pub mod Demand1
 pub mod Demand2
 pub mod Demand3

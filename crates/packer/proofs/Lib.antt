@@ -15,5 +15,6 @@ pub mod RowsBack
 pub mod ListBack
 pub mod ReadBack
 pub mod Accepted
+pub mod ForetoldLaws
 pub mod PastLaws
 pub mod PlainBack
