@@ -1,6 +1,6 @@
 -- From packed sets in work to the answer of the definition: what writing asks for is there, what it leaves is what is to be left, and the tests of
 -- what is lent are the definition's. Assumes nothing.
-use mathlib.Core.Path.{_≡_, sym, ap, ap₂, _∙_}
+use mathlib.Core.Path.{_≡_, refl, sym, ap, ap₂, subst, _∙_}
 use mathlib.Core.Bool.{true, false}
 use mathlib.Core.List.{List, [], _∷_, map}
 use Prim.Native.Nat.{ℕ, zero, suc, _+_, _-_, _*_, _≤_, _<_}
@@ -12,7 +12,7 @@ use Rattle.laws.specs.Bytes.{over}
 use Rattle.laws.specs.Every.{All}
 use Rattle.laws.specs.Bounded.{tabulate, upTo}
 use Rattle.laws.specs.LentRange.{seg}
-use Rattle.laws.proofs.EveryLaws.{all}
+use Rattle.laws.proofs.EveryLaws.{all, all-map}
 use Rattle.laws.proofs.BoundedLaws.{length-tabulate}
 use Rattle.laws.proofs.RangeLaws.{length-seg}
 use Rattle.laws.proofs.SortLaws.{keep-same}
@@ -23,7 +23,8 @@ use Rattle.store.specs.Placing.{Final, allRuns, idWords, names, keptOf, storeOf
 use Rattle.rows.specs.Lent.{setAt}
 use Rattle.store.specs.Lent.{Drafted, Planned, Ready, coordsAt, coordsIn, finalAt, finalsAt, markedIn, sizesAt}
 use Rattle.store.proofs.RegionLaws.{kept-most}
-use Rattle.store.proofs.PlacedLaws.{planned, draft-exact, tables-count}
+use Rattle.store.proofs.PlacedLaws.{coords-length, planned, draft-exact, tables-count}
+use Rattle.store.proofs.ForecastLaws.{Short, forecast-exact}
 use Rattle.said.specs.Refusals.{firstFailed, shapesFull, idsShort, mapShort, logShort, outShort}
 use Rattle.encoder.specs.declared.places.Places.{Places}
 use Rattle.encoder.specs.declared.encoded.Encoded.{Encoded}
@@ -31,13 +32,14 @@ use Rattle.encoder.specs.Packed.{Packed}
 use Rattle.encoder.specs.Lent.{relabel, PackedAt}
 use Rattle.limits.specs.Limits.{maxRegions}
 use Rattle.finishing.specs.declared.answers.Report.{Report}
+use Rattle.finishing.specs.declared.measuring.Packing.{Packing}
 use Rattle.finishing.specs.declared.answers.Built.the-variants.{Refused, Done}
 use Rattle.finishing.specs.Buffers.{Buffers, Lengths, lengths}
 use Rattle.finishing.specs.Late.{storeFor, regionsKept, lateNo, reportOf, lateAnswer, written, buffersLeft}
-use Rattle.finishing.specs.Lent.{FinishFit, Finished, RoomFor, WordsFit, WordsWritten, reportIn, shortNo, storeIn}
+use Rattle.finishing.specs.Lent.{FinishFit, Finished, MeasuredAs, RoomFor, WordsFit, WordsWritten, reportIn, shortNo, storeIn}
 use Rattle.finishing.proofs.LoopLaws.{room-for}
 use Rattle.finishing.proofs.WordsLaws.{groups-to, handed, small}
-use Rattle.finishing.proofs.StoreLaws.{set-same, runs-count, kept-relabel, forecast-relabel, store-relabel, store-small}
+use Rattle.finishing.proofs.StoreLaws.{set-same, runs-count, kept-relabel, store-relabel, store-small}
 
 all-tabulate : {A : Type 0} (P : A → Type 0) (a n : ℕ) (f : ℕ → A) → ((k : ℕ) → a ≤ k → k < a + n → P (f k)) → All P (tabulate a n f)
 unfolding tabulate
@@ -50,6 +52,19 @@ late-same : (sets distinct groups bytes out ids map log : ℕ) → groups ≤ ma
     ≡ firstFailed ((leb groups maxShapes, shapesFull) ∷ (leb sets ids, idsShort) ∷ (leb distinct map, mapShort) ∷ (leb (3 * (groups - 1)) log, logShort) ∷ (leb bytes out, outShort) ∷ [])
 unfolding shortNo firstFailed
 late-same sets distinct groups bytes out ids map log h = rw (le-leb groups maxShapes h)
+
+-- ---- what is measured
+
+pub report-made : (e : Encoded) (bytes runs kept : ℕ)
+    → record { bytes = bytes; subtables = runs; regions = kept; ids = e .distinct; groups = e .groups; merges = e .merges; weighed = e .weighed; before = e .before; after = e .after; forecast = bytes }
+    ≡ reportIn e bytes runs kept
+unfolding reportIn
+report-made e bytes runs kept = refl
+
+pub measured-as : (k : Packing) (w marks numbers : List ℕ) (bytes runs kept : ℕ) (r : Report) → r ≡ reportIn (k .encoded) bytes runs kept
+    → Drafted (k .axes) w (k .places .regions) (k .places .finals) (k .encoded .count) marks numbers bytes runs kept → MeasuredAs k w marks numbers r
+unfolding reportIn
+measured-as k w marks numbers bytes runs kept r e d = subst (λ (x : Report). MeasuredAs k w marks numbers x) (sym e) (record { drafted = d; report-is = refl })
 
 -- ---- what writing asks for
 
@@ -154,12 +169,30 @@ module _ {axes starts : ℕ} {job : List ℕ} {p : Places} {e : Encoded} {w : Li
           ∙ ap (λ (gs : List Final). length (keptOf (p .regions) gs)) (at .finals-are)
           ∙ ap (λ (n : ℕ). length (keptOf n (k .finals))) (sym (length-tabulate 0 (p .regions) (λ r. coordsAt job axes (getD w (starts + r) 0))))
 
-      forecast-are : forecastOf axes kept groups ≡ forecastOf axes (regionsKept coords k) (k .finals)
-      forecast-are = sym (forecast-relabel axes kept id-of groups) ∙ ap₂ (forecastOf axes) kept-are (at .finals-are)
+      -- coordinates and shapes of the groups are as long as the forecast asks
+      coords-whole : All (λ (c : List ℕ). length c ≡ 6 * axes) coords
+      unfolding coordsIn
+      coords-whole =
+          all-tabulate (λ (c : List ℕ). length c ≡ 6 * axes) 0 (p .regions) (λ r. coordsAt job axes (getD w (starts + r) 0))
+          (λ r l h. coords-length job axes (getD w (starts + r) 0) (fit .sourced r (omega arith)))
+
+      finals-short : All Short (k .finals)
+      unfolding finalsAt relabel
+      finals-short =
+          subst (λ (gs : List Final). All Short gs) (at .finals-are)
+          (all-map Short (λ (g : Final). record { shape = g .shape; ids = map id-of (g .ids) }) groups
+          (all-tabulate Short 0 (e .count) (λ g. finalAt (p .regions) w (p .finals + 3 * g)) (λ g l h. shapes-few g (omega arith))))
+
+      forecast-are : bytes ≡ forecastOf axes (regionsKept coords k) (k .finals)
+      unfolding regionsKept storeFor
+      forecast-are =
+          bytes-are
+          ∙ ap length store-is
+          ∙ sym (forecast-exact axes coords (λ x. getD (k .sets) x []) (k .finals) coords-whole finals-short)
 
       -- ---- the answers
 
-      report-is : reportIn axes p e w bytes runs kept ≡ reportOf axes coords k
+      pub report-is : reportIn e bytes runs kept ≡ reportOf axes coords k
       unfolding reportIn reportOf
       report-is =
           let b : bytes ≡ length (storeFor axes coords k) = bytes-are ∙ ap length store-is in
@@ -188,7 +221,7 @@ module _ {axes starts : ℕ} {job : List ℕ} {p : Places} {e : Encoded} {w : Li
           record { answer = rw (t, n); left = rw t }
 
       pub done-as : (code : ℕ) (r : Report) (old new : Buffers) → code ≡ short old → code ≡ 0
-          → new .out ≡ over (old .out) 0 (length (storeIn axes starts job p e w)) (storeIn axes starts job p e w) → r ≡ reportIn axes p e w bytes runs kept
+          → new .out ≡ over (old .out) 0 (length (storeIn axes starts job p e w)) (storeIn axes starts job p e w) → r ≡ reportIn e bytes runs kept
           → WordsWritten p e w (old .ids) (old .map) (old .log) (new .ids) (new .map) (new .log)
           → Finished axes coords k (Done r) old new
       unfolding lateAnswer buffersLeft written

@@ -22,20 +22,20 @@ use Rattle.laws.specs.Joining.{joinAll}
 use Rattle.laws.proofs.ListLaws.{map-append, getD-map-in, map-same}
 use Rattle.laws.proofs.JoinLaws.{join-snoc}
 use Rattle.laws.proofs.BoundedLaws.{tabulate-same, tabulate-snoc, length-tabulate, map-tabulate}
-use Rattle.laws.proofs.BagLaws.{weigh-append}
+use Rattle.laws.proofs.BagLaws.{weigh-append, weigh-map, weigh-same}
 use Rattle.laws.proofs.SortLaws.{keep-same}
 use Rattle.laws.proofs.Cases.{same-or-not}
 use Rattle.laws.proofs.Products.{product}
 use Rattle.laws.proofs.RangeLaws.{length-seg, getD-seg, only-seg, seg-all}
 use Rattle.shapes.specs.Shape.{Shape}
-use Rattle.shapes.specs.Group.{maxItems, groupCost}
+use Rattle.shapes.specs.Group.{maxItems}
 use Rattle.sets.specs.Lent.{entries, setOf}
 use Rattle.reader.specs.Store.{columnAt}
 use Rattle.stores.specs.Stores.{Table, place}
 use Rattle.rows.specs.Columns.{columnsOf, wordCount}
 use Rattle.rows.specs.Row.{Set, rowOf}
 use Rattle.rows.specs.Subtable.{runCount}
-use Rattle.store.specs.Placing.{Final, runsOf, allRuns, names, keptOf, newIndex, slotOf, madeOf, storeOf, modelOf, modelled, forecastOf}
+use Rattle.store.specs.Placing.{Final, runsOf, allRuns, names, keptOf, newIndex, slotOf, madeOf, storeOf, rowBytes, runBytes, forecastOf}
 use Rattle.rows.specs.Lent.{entriesAt, setAt}
 use Rattle.store.specs.Lent.{chain, finalAt, finalsAt, groupSizes, runSizes, sizesAt, tableSize, sumOf}
 use Rattle.rows.proofs.CollectLaws.{columns-count, columns-most}
@@ -104,18 +104,17 @@ names-relabel r f (g ∷ gs) = ap (λ (b : Bool). not (eqb (getD (g .shape) r 0)
 pub kept-relabel : (n : ℕ) (f : ℕ → ℕ) (gs : List Final) → keptOf n (relabel f gs) ≡ keptOf n gs
 kept-relabel n f gs = keep-same (λ r. names r (relabel f gs)) (λ r. names r gs) (upTo n) (all (λ r. names-relabel r f gs) (upTo n))
 
-model-relabel : (f : ℕ → ℕ) (g : Final) → modelOf (labelled f g) ≡ modelOf g
-unfolding modelOf
-model-relabel f g = ap (λ (n : ℕ). pick (eqb n 0) 4 (groupCost (record { shape = g .shape; sets = n }))) (length-map (g .ids) f)
-
-modelled-relabel : (f : ℕ → ℕ) (gs : List Final) → modelled (relabel f gs) ≡ modelled gs
-unfolding modelled relabel
-modelled-relabel f [] = refl
-modelled-relabel f (g ∷ gs) = ap₂ _+_ (model-relabel f g) (modelled-relabel f gs)
+run-relabel : (f : ℕ → ℕ) (g : Final) → runBytes (labelled f g) ≡ runBytes g
+unfolding runBytes
+run-relabel f g =
+    ap (λ (n : ℕ). pick (eqb n 0) 4 (10 + 2 * length (columnsOf (g .shape)) + n * rowBytes (g .shape))) (length-map (g .ids) f)
 
 pub forecast-relabel : (axes kept : ℕ) (f : ℕ → ℕ) (gs : List Final) → forecastOf axes kept (relabel f gs) ≡ forecastOf axes kept gs
-unfolding forecastOf
-forecast-relabel axes kept f gs = ap (λ (m : ℕ). 12 + 6 * axes * kept + m) (modelled-relabel f gs)
+unfolding forecastOf relabel
+forecast-relabel axes kept f gs = ap (λ (m : ℕ). 12 + 6 * axes * kept + m)
+    (ap (weigh runBytes) (runs-relabel f gs)
+    ∙ weigh-map runBytes (labelled f) (allRuns gs)
+    ∙ weigh-same (λ (g : Final). runBytes (labelled f g)) runBytes (allRuns gs) (all (run-relabel f) (allRuns gs)))
 
 -- ---- the store
 

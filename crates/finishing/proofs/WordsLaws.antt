@@ -9,14 +9,13 @@ use Rattle.laws.specs.Every.{All}
 use Rattle.laws.specs.LentRange.{seg}
 use Rattle.laws.proofs.EveryLaws.{all-imp}
 use Rattle.laws.proofs.RangeLaws.{all-seg, seg-all}
-use Rattle.shapes.specs.Lent.{Narrow}
-use Rattle.store.specs.Placing.{Final, allRuns, idWords, forecastOf, stored}
+use Rattle.store.specs.Placing.{Final, allRuns, idWords, stored}
 use Rattle.rows.specs.Lent.{Stored}
-use Rattle.store.specs.Lent.{Handed, IdsBelow, Small, finalAt, finalsAt}
+use Rattle.store.specs.Lent.{Handed, IdsBelow, Small, finalsAt}
 use Rattle.encoder.specs.declared.places.Places.{Places}
 use Rattle.encoder.specs.declared.encoded.Encoded.{Encoded}
 use Rattle.encoder.specs.Lent.{relabel}
-use Rattle.finishing.specs.Lent.{RowsNamed, WordsFit, WordsWritten, reportIn}
+use Rattle.finishing.specs.Lent.{RowsNamed, WordsFit, WordsWritten}
 use Rattle.finishing.proofs.StoreLaws.{finals-named}
 
 module _ {p : Places} {e : Encoded} {w : List ℕ} (fit : WordsFit p e w) where
@@ -42,9 +41,6 @@ module _ {p : Places} {e : Encoded} {w : List ℕ} (fit : WordsFit p e w) where
         let k = fit .packed in
         let f = k .finals-in g h in
         record { few = omega (arith, f .rows-from, f .rows-to, k .sets-few) }
-
-    pub narrow : Narrow (finalAt (p .regions) w (p .finals + 3 * g) .shape)
-    narrow = fit .packed .finals-in g h .narrow
 
   pub groups-to : p .finals + 3 * e .count ≤ length w
   groups-to = omega (arith, fit .packed .finals-to, fit .packed .rows-to)
@@ -119,21 +115,3 @@ module _ {p : Places} {e : Encoded} {w : List ℕ} (fit : WordsFit p e w) where
         → map′ ≡ stored (idWords 0 (allRuns (finalsAt (p .regions) (p .finals) (e .count) u))) map
         → WordsWritten p e w ids map log ids′ map′ log′
     words-done {map = map} {map′ = map′} i l m = record { ids-is = i; log-is = l; map-is = map-named map map′ m }
-
--- the report, once the forecast is worked out
-pub report-done : (axes : ℕ) (p : Places) (e : Encoded) (w : List ℕ) (bytes runs kept model : ℕ) → model ≡ forecastOf axes kept (finalsAt (p .regions) (p .finals) (e .count) w)
-    → record { bytes = bytes; subtables = runs; regions = kept; ids = e .distinct; groups = e .groups; merges = e .merges; weighed = e .weighed; before = e .before; after = e .after; forecast = model }
-    ≡ reportIn axes p e w bytes runs kept
-unfolding reportIn
-report-done axes p e w bytes runs kept model m = (λ i. record {
-  bytes = bytes;
-  subtables = runs;
-  regions = kept;
-  ids = e .distinct;
-  groups = e .groups;
-  merges = e .merges;
-  weighed = e .weighed;
-  before = e .before;
-  after = e .after;
-  forecast = m i;
-})

@@ -57,6 +57,10 @@ reportOf axes coords k = record {
 unfoldable pub lateAnswer : ℕ → List (List ℕ) → Packed → Lengths → Built
 lateAnswer axes coords k l = pick (eqb (lateNo axes coords k l) 0) (Done (reportOf axes coords k)) (Refused (lateNo axes coords k l) 0)
 
+-- the forecast of a build: R10, or the report of one that is done. Nothing is lent to write to, so R11 to R14 are not given
+unfoldable pub lateForecast : ℕ → List (List ℕ) → Packed → Built
+lateForecast axes coords k = pick (leb (k .groups) maxShapes) (Done (reportOf axes coords k)) (Refused shapesFull 0)
+
 -- ---- what is left in the buffers
 
 -- the store; of each set its id; of each id its word; of each merge its two numbers and its gain. Past what is written all is as it was

@@ -6,9 +6,9 @@ use lib.Dec.{leb}
 use lib.ListN.{length, getD}
 use Rattle.laws.specs.Bytes.{over}
 use Rattle.laws.specs.LentRange.{Only, seg}
-use Rattle.store.specs.Placing.{storeOf, allRuns, idWords, forecastOf, stored}
+use Rattle.store.specs.Placing.{storeOf, allRuns, idWords, stored}
 use Rattle.rows.specs.Lent.{setAt}
-use Rattle.store.specs.Lent.{Sourced, coordsIn, finalsAt}
+use Rattle.store.specs.Lent.{Drafted, Sourced, coordsIn, finalsAt}
 use Rattle.said.specs.Refusals.{firstFailed, idsShort, mapShort, logShort, outShort}
 use Rattle.encoder.specs.Packed.{Packed}
 use Rattle.encoder.specs.Lent.{PackedAt, relabel}
@@ -16,6 +16,7 @@ use Rattle.encoder.specs.declared.places.Places.{Places}
 use Rattle.encoder.specs.declared.encoded.Encoded.{Encoded}
 use Rattle.limits.specs.Limits.{mostAxes}
 use Rattle.finishing.specs.declared.answers.Report.{Report}
+use Rattle.finishing.specs.declared.measuring.Packing.{Packing}
 use Rattle.finishing.specs.declared.answers.Built.{Built}
 use Rattle.finishing.specs.Buffers.{Buffers, lengths}
 use Rattle.finishing.specs.Late.{lateAnswer, buffersLeft}
@@ -75,9 +76,9 @@ pub record WordsWritten (p : Places) (e : Encoded) (w ids map log ids′ map′ 
   pub log-is : log′ ≡ over log 0 (3 * e .merges) (seg (p .log) (3 * e .merges) w)
   pub map-is : map′ ≡ stored (idWords 0 (allRuns (relabel (λ x. getD (seg (p .ids) (p .sets) w) x 0) (finalsAt (p .regions) (p .finals) (e .count) w)))) map
 
--- the report of what is packed in work, of so many bytes, subtables and regions
-unfoldable pub reportIn : ℕ → Places → Encoded → List ℕ → ℕ → ℕ → ℕ → Report
-reportIn axes p e w bytes runs kept = record {
+-- the report of what was made of sets, of so many bytes, subtables and regions
+unfoldable pub reportIn : Encoded → ℕ → ℕ → ℕ → Report
+reportIn e bytes runs kept = record {
   bytes = bytes;
   subtables = runs;
   regions = kept;
@@ -87,5 +88,10 @@ reportIn axes p e w bytes runs kept = record {
   weighed = e .weighed;
   before = e .before;
   after = e .after;
-  forecast = forecastOf axes kept (finalsAt (p .regions) (p .finals) (e .count) w);
+  forecast = bytes;
 }
+
+-- that report of the draft of what is packed
+pub record MeasuredAs (k : Packing) (w marks numbers : List ℕ) (r : Report) : Type 0 where
+  pub drafted : Drafted (k .axes) w (k .places .regions) (k .places .finals) (k .encoded .count) marks numbers (r .bytes) (r .subtables) (r .regions)
+  pub report-is : r ≡ reportIn (k .encoded) (r .bytes) (r .subtables) (r .regions)

@@ -1,13 +1,13 @@
 // The last part of a build: sizes, refusals 11 to 14, and only then the first word and byte written.
 use crate::answers::Built;
 use crate::answers::Report;
+use crate::measuring::Packing;
+use crate::measuring::measure;
 use encoder::Encoded;
 use encoder::Places;
 use encoder::log_words;
 use limits::Limits;
 use planning::Plan;
-use planning::draft;
-use planning::forecast;
 use said::Refusal;
 use store::Coords;
 use store::Finals;
@@ -22,8 +22,8 @@ ghost use Rattle.store.specs.Lent.{Planned, coordsIn};
 ghost use Rattle.encoder.specs.Packed.{Packed};
 ghost use Rattle.encoder.specs.Lent.{PackedAt};
 ghost use Rattle.finishing.specs.Buffers.{buffers};
-ghost use Rattle.finishing.specs.Lent.{FinishFit, Finished, RowsNamed, WordsFit, WordsWritten, reportIn, shortNo, storeIn};
-ghost use Rattle.limits.specs.Limits.{mostAxes, maxRegions, maxShapes};
+ghost use Rattle.finishing.specs.Lent.{FinishFit, Finished, RowsNamed, WordsFit, WordsWritten, shortNo, storeIn};
+ghost use Rattle.limits.specs.Limits.{maxShapes};
 
 // Rows are numbers of sets until now: each becomes the id of its set. Words that are no set's number belong to no row, and stay.
 fn name_rows(work: &mut [u32], rows: usize, n: usize, ids: usize)
@@ -84,30 +84,37 @@ fn short_no(
     0
 }
 
-// Writes the store of what is packed, as it was planned.
+// Writes the store of what is packed, as it was measured.
 fn write_out(
     out: &mut [u8],
     job: &[u8],
-    axes: usize,
-    starts: usize,
     work: &[u32],
-    p: Places,
-    e: Encoded,
+    k: Packing,
     marks: &[u32],
     numbers: &[u32],
-    plan: Plan,
+    done: Report,
 )
-    requires { ⌜ FinishFit axes starts (now job) p e (now work) ⌝ }
-    requires { ⌜ Planned axes (now work) (p .regions) (p .finals) (e .count) (now marks) (now numbers) (plan .runs) (plan .kept) ⌝ }
-    requires { ⌜ length (storeIn axes starts (now job) p e (now work)) ≤ length (now out) ⌝ }
-    ensures { λ _. ⌜ now (out .exit) ≡ over (now (out .entry)) 0 (length (storeIn axes starts (now (job .entry)) p e (now (work .entry)))) (storeIn axes starts (now (job .entry)) p e (now (work .entry))) ⌝ }
+    requires { ⌜ FinishFit (k .axes) (k .starts) (now job) (k .places) (k .encoded) (now work) ⌝ }
+    requires { ⌜ Planned (k .axes) (now work) (k .places .regions) (k .places .finals) (k .encoded .count) (now marks) (now numbers) (done .subtables) (done .regions) ⌝ }
+    requires { ⌜ length (storeIn (k .axes) (k .starts) (now job) (k .places) (k .encoded) (now work)) ≤ length (now out) ⌝ }
+    ensures { λ _. ⌜ now (out .exit) ≡ over (now (out .entry)) 0 (length (storeIn (k .axes) (k .starts) (now (job .entry)) (k .places) (k .encoded) (now (work .entry)))) (storeIn (k .axes) (k .starts) (now (job .entry)) (k .places) (k .encoded) (now (work .entry))) ⌝ }
 {
-    let c = Coords { axes, starts };
+    let p = k.places;
+    let e = k.encoded;
+    let c = Coords {
+        axes: k.axes,
+        starts: k.starts,
+    };
     let t = Finals {
         regions: p.regions,
         groups: p.finals,
         count: e.count,
         index: 0,
+    };
+    let plan = Plan {
+        bytes: done.bytes,
+        runs: done.subtables,
+        kept: done.regions,
     };
     write_store(out, job, c, work, t, marks, numbers, plan);
 }
@@ -139,60 +146,30 @@ fn write_words(
     write_map(work, t, map);
 }
 
-// What a done build answers: the counts as they were packed and planned, and the forecast.
-fn report(axes: usize, work: &[u32], p: Places, e: Encoded, plan: Plan) -> Report
-    requires { ⌜ axes ≤ mostAxes ⌝ }
-    requires { ⌜ plan .kept ≤ maxRegions ⌝ }
-    requires { ⌜ WordsFit p e (now work) ⌝ }
-    ensures { λ r. ⌜ r ≡ reportIn axes p e (now (work .entry)) (plan .bytes) (plan .runs) (plan .kept) ⌝ }
-{
-    let model = forecast(axes, plan.kept, work, p.regions, p.finals, e.count, 0);
-    Report {
-        bytes: plan.bytes,
-        subtables: plan.runs,
-        regions: plan.kept,
-        ids: e.distinct,
-        groups: e.groups,
-        merges: e.merges,
-        weighed: e.weighed,
-        before: e.before,
-        after: e.after,
-        forecast: model,
-    }
-}
-
 // Finishes a build whose sets are packed in work. All is measured before anything is written, so that a refusal leaves what is lent as it
-// was; and the store and the report come before the words, which rename the rows in work.
+// was; and the store comes before the words, which rename the rows in work.
 pub fn finish(
-    axes: usize,
     job: &[u8],
     work: &mut [u32],
-    starts: usize,
-    p: Places,
-    e: Encoded,
+    k: Packing,
     out: &mut [u8],
     ids: &mut [u32],
     map: &mut [u32],
     log: &mut [u32],
 ) -> Built
-    requires { ⌜ FinishFit axes starts (now job) p e (now work) ⌝ }
-    ensures { λ r. ⌜ ((k : Packed) → PackedAt k p e (now (work .entry)) → Finished axes (coordsIn (now (job .entry)) axes (now (work .entry)) starts (p .regions)) k r (buffers (now (out .entry)) (now (ids .entry)) (now (map .entry)) (now (log .entry))) (buffers (now (out .exit)) (now (ids .exit)) (now (map .exit)) (now (log .exit)))) ⌝ }
+    requires { ⌜ FinishFit (k .axes) (k .starts) (now job) (k .places) (k .encoded) (now work) ⌝ }
+    ensures { λ r. ⌜ ((x : Packed) → PackedAt x (k .places) (k .encoded) (now (work .entry)) → Finished (k .axes) (coordsIn (now (job .entry)) (k .axes) (now (work .entry)) (k .starts) (k .places .regions)) x r (buffers (now (out .entry)) (now (ids .entry)) (now (map .entry)) (now (log .entry))) (buffers (now (out .exit)) (now (ids .exit)) (now (map .exit)) (now (log .exit)))) ⌝ }
 {
     let mut marks = [0u32; Limits::REGIONS];
     let mut numbers = [0u32; Limits::REGIONS];
-    let t = Finals {
-        regions: p.regions,
-        groups: p.finals,
-        count: e.count,
-        index: 0,
-    };
-    let plan = draft(axes, work, t, &mut marks, &mut numbers);
-    let no = short_no(p, e, plan.bytes, out.len(), ids.len(), map.len(), log.len());
+    let done = measure(work, k, &mut marks, &mut numbers);
+    let p = k.places;
+    let e = k.encoded;
+    let no = short_no(p, e, done.bytes, out.len(), ids.len(), map.len(), log.len());
     if no != 0 {
         return Built::Refused(no, 0);
     }
-    write_out(out, job, axes, starts, work, p, e, &marks, &numbers, plan);
-    let done = report(axes, work, p, e, plan);
+    write_out(out, job, work, k, &marks, &numbers, done);
     write_words(work, p, e, ids, map, log);
     Built::Done(done)
 }

@@ -1,7 +1,10 @@
-// The end of a build: what it answers, refusals 11 to 14, and the writing of store, ids, map and log.
+// The end of a build: what it answers, refusals 11 to 14, and the writing of store, ids, map and log; and the answer alone, for a forecast.
 mod answers;
 mod finishing;
+mod measuring;
 
 pub use answers::Built;
 pub use answers::Report;
 pub use finishing::finish;
+pub use measuring::Packing;
+pub use measuring::foretell;

@@ -23,6 +23,7 @@ use Rattle.groups.specs.Groups as groups
 use Rattle.groups.specs.Cover.{coverFrom}
 use Rattle.rule.specs.Model as rule
 use Rattle.rule.specs.Told.{words}
+use Rattle.reader.specs.Store.{columnAt}
 use Rattle.rows.specs.Columns.{addIf, ofWidth, columnsOf, wordCount, bytesFor}
 use Rattle.rows.specs.Row.{wordIn, cellsOf, rowOf}
 use Rattle.rows.specs.Subtable as rows
@@ -252,7 +253,7 @@ pub examples : answers ≡
     ∷ x ∷ x ∷ [])
     (0 ∷ x ∷ []) (0 ∷ x ∷ []) (x ∷ []) 81
     -- P7: word count 0x8001; row 00011170 0064
-    ∷ left (counts 44 1 2 1 1 0 0 19 19 43)
+    ∷ left (counts 44 1 2 1 1 0 0 19 19 44)
     (0 ∷ 1 ∷ 0 ∷ 0 ∷ 0 ∷ 0x0C ∷ 0 ∷ 1 ∷ 0 ∷ 0 ∷ 0 ∷ 0x1C
     ∷ 0 ∷ 1 ∷ 0 ∷ 2 ∷ 0 ∷ 0 ∷ 0x40 ∷ 0 ∷ 0x40 ∷ 0 ∷ 0xC0 ∷ 0 ∷ 0xC0 ∷ 0 ∷ 0 ∷ 0
     ∷ 0 ∷ 1 ∷ 0x80 ∷ 1 ∷ 0 ∷ 2 ∷ 0 ∷ 1 ∷ 0 ∷ 0 ∷ 0 ∷ 1 ∷ 0x11 ∷ 0x70 ∷ 0 ∷ 0x64
@@ -295,5 +296,5 @@ pub examples : answers ≡
     ∷ x ∷ x ∷ [])
     (0 ∷ 1 ∷ x ∷ []) (0 ∷ 1 ∷ x ∷ []) (0 ∷ 1 ∷ 9 ∷ x ∷ []) 106
     ∷ []
-unfolding answers setRecords setsRecords jobOf weigh allBelow tabulate be bytesOf compared thenBy isMost fits isZero signed twos word value insert sorted keep widthOf costOf rowCost columns overhead join shapes.widthsOrder shapes.order groupCost joined gain wordOf sameSet sets.byWords sets.partNone sets.partHead sets.parting sets.orderOf sets.order place withSet idsFrom distinctFrom groups.shapeOf groups.putShape groups.withShape groups.groupsFrom groups.groupsOf coverFrom rule.keepOut rule.outs rule.pairWith rule.keepPair rule.pairs rule.better rule.lead rule.best rule.worth rule.ifWorth rule.choice rule.entry rule.merge rule.follow rule.step rule.run rule.number rule.start rule.merged rule.total words addIf ofWidth columnsOf wordCount bytesFor wordIn cellsOf rowOf joinAll rows.runCount store.runsOf store.allRuns store.inRun store.idWords store.names store.slotOf store.madeOf stores.tableBytes stores.slotBytes stores.offsets stores.listBytes stores.place store.storeOf store.modelOf store.modelled store.forecastOf stored mustBeZero firstNotZero wrongByte valueWord firstFailed publishedWork earlyNo inTurn formNo valueNo endNo said.coordinates said.regionList said.sameRegion said.like said.firstLike said.has said.withUse said.indexIn said.withEntry said.withValue job.unless job.afterValue job.afterEnd job.valueStep job.endStep job.regionsOnly job.saidAt job.axesBefore job.isLate job.kindStep job.step job.endedSets job.ended job.follow job.recordsFrom job.outcomeFrom job.outcome workLeft packed.noLater packed.dense packed.sameShape packed.numberOf packed.isAmong packed.belongs packed.finalOf packed.isAhead packed.finalsOf packed.shared packed.oneCost packed.own storeFor regionsKept lateNo reportOf lateAnswer written buffersLeft regionBytes coordsInUse packedOf answerFrom leftFrom
+unfolding answers setRecords setsRecords jobOf weigh allBelow tabulate be bytesOf compared thenBy isMost fits isZero signed twos word value insert sorted keep widthOf costOf rowCost columns overhead join shapes.widthsOrder shapes.order groupCost joined gain wordOf sameSet sets.byWords sets.partNone sets.partHead sets.parting sets.orderOf sets.order place withSet idsFrom distinctFrom groups.shapeOf groups.putShape groups.withShape groups.groupsFrom groups.groupsOf coverFrom rule.keepOut rule.outs rule.pairWith rule.keepPair rule.pairs rule.better rule.lead rule.best rule.worth rule.ifWorth rule.choice rule.entry rule.merge rule.follow rule.step rule.run rule.number rule.start rule.merged rule.total words addIf ofWidth columnsOf wordCount bytesFor wordIn cellsOf rowOf joinAll rows.runCount store.runsOf store.allRuns store.inRun store.idWords store.names store.slotOf store.madeOf stores.tableBytes stores.slotBytes stores.offsets stores.listBytes stores.place store.storeOf columnAt store.runBytes store.forecastOf stored mustBeZero firstNotZero wrongByte valueWord firstFailed publishedWork earlyNo inTurn formNo valueNo endNo said.coordinates said.regionList said.sameRegion said.like said.firstLike said.has said.withUse said.indexIn said.withEntry said.withValue job.unless job.afterValue job.afterEnd job.valueStep job.endStep job.regionsOnly job.saidAt job.axesBefore job.isLate job.kindStep job.step job.endedSets job.ended job.follow job.recordsFrom job.outcomeFrom job.outcome workLeft packed.noLater packed.dense packed.sameShape packed.numberOf packed.isAmong packed.belongs packed.finalOf packed.isAhead packed.finalsOf packed.shared packed.oneCost packed.own storeFor regionsKept lateNo reportOf lateAnswer written buffersLeft regionBytes coordsInUse packedOf answerFrom leftFrom
 examples = refl

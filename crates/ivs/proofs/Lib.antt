@@ -3,9 +3,10 @@ pub mod Unique
 pub mod OutcomeRows
 pub mod TellLaws
 pub mod PartTells
-pub mod Calls
 pub mod EarlyRows
 pub mod LateRows
+pub mod ForetoldLaws
+pub mod Calls
 pub mod Buffers
 pub mod RecordRows
 pub mod EndRow
@@ -15,10 +16,12 @@ pub mod Demand3
 pub mod BytesBack
 pub mod SizesBack
 pub mod Examples
+pub mod CutForecast
 pub mod GlyphLaws
 pub mod WidthLaws
 pub mod PastBack
 pub mod ReportLaws
+pub mod FollowedLaws
 pub mod PlainRows
 pub mod WidthsBack
 pub mod Demand1

@@ -13,6 +13,7 @@ pub mod Past
 pub mod Reported
 pub mod Plain
 pub mod WidthsRead
+pub mod Foretold
 pub mod Demand1
 pub mod Demand2
 pub mod Demand3

@@ -1,9 +1,11 @@
 // The library's entry points: what a host links (libivs.a). They turn answers into numbers, and do nothing else.
+mod foretelling;
 mod glyph_map;
 mod part;
 mod report;
 mod width_table;
 
+pub use crate::foretelling::ivs_forecast;
 pub use crate::glyph_map::ivs_read_glyph;
 pub use crate::glyph_map::ivs_write_glyphs;
 pub use crate::part::ivs_part;

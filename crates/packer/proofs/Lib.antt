@@ -15,6 +15,7 @@ pub mod RowsBack
 pub mod ListBack
 pub mod ReadBack
 pub mod Accepted
+pub mod ForetoldLaws
 pub mod PastLaws
 pub mod WholeBack
 pub mod PlainBack

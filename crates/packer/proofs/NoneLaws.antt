@@ -13,16 +13,16 @@ use Rattle.groups.specs.Cover.{coverFrom}
 use Rattle.rule.specs.Told.{words}
 use Rattle.store.specs.Lent.{coordsIn, finalAt, finalsAt}
 use Rattle.encoder.specs.declared.places.Places.{Places}
-use Rattle.encoder.specs.declared.encoded.Encoded.{Encoded}
 use Rattle.encoder.specs.Packed.{Packed, own, oneCost}
 use Rattle.encoder.specs.Lent.{relabel, groupAt, FinalIn, PackedAt}
 use Rattle.finishing.specs.declared.answers.Built.{Built}
 use Rattle.finishing.specs.Buffers.{Buffers}
-use Rattle.finishing.specs.Lent.{FinishFit, Finished}
-use Rattle.packer.specs.LentOpened.{noPlaces}
-
-abbrev one-null : Encoded
-one-null = record { distinct = 0; count = 1; groups = 0; merges = 0; weighed = 0; before = 0; after = 0 }
+use Rattle.finishing.specs.declared.answers.Report.{Report}
+use Rattle.finishing.specs.declared.measuring.Packing.{Packing}
+use Rattle.finishing.specs.Late.{reportOf}
+use Rattle.finishing.specs.Lent.{FinishFit, Finished, WordsFit}
+use Rattle.limits.specs.Limits.{mostAxes}
+use Rattle.packer.specs.LentOpened.{noPlaces, oneNull, nullPacking}
 
 abbrev three : List ℕ
 three = 0 ∷ 3 ∷ 0 ∷ []
@@ -35,7 +35,7 @@ null-in : FinalIn noPlaces three 0
 unfolding seg
 null-in = record { shape-to = omega arith; rows-from = omega arith; rows-to = omega arith; numbers = tt; narrow = null-narrow }
 
-none-packed : PackedAt (own 0 []) noPlaces one-null three
+none-packed : PackedAt (own 0 []) noPlaces oneNull three
 unfolding own oneCost tabulate seg relabel finalsAt finalAt coverFrom sum words
 none-packed = record {
   held = record { room = omega arith; rows = omega arith; body = λ x h. absurd (omega arith); ascending = λ x h. absurd (omega arith); proper = λ x h. absurd (omega arith) };
@@ -63,22 +63,43 @@ none-packed = record {
   after-is = refl;
 }
 
-module _ (axes : ℕ) (job : List ℕ) (p : Places) (e : p ≡ noPlaces) where
-  pub none-fit : axes ≤ 64 → FinishFit axes 0 job p one-null three
-  none-fit a = subst (λ (x : Places). FinishFit axes 0 job x one-null three) (sym e) (record {
-    axes-few = a;
-    packed-as = own 0 [];
-    packed = none-packed;
-    starts-to = omega arith;
-    sourced = λ r h. absurd (omega arith);
-    merges-few = omega arith;
-    ids-below = λ x h. absurd (omega arith);
-  })
+none-words : WordsFit noPlaces oneNull three
+none-words = record { packed-as = own 0 []; packed = none-packed; merges-few = omega arith; ids-below = λ x h. absurd (omega arith) }
+
+null-fit : (axes : ℕ) (job : List ℕ) → axes ≤ mostAxes → FinishFit axes 0 job noPlaces oneNull three
+null-fit axes job a = record {
+  axes-few = a;
+  packed-as = own 0 [];
+  packed = none-packed;
+  starts-to = omega arith;
+  sourced = λ r h. absurd (omega arith);
+  merges-few = omega arith;
+  ids-below = λ x h. absurd (omega arith);
+}
+
+pub null-is : (axes : ℕ) (p : Places) → p ≡ noPlaces → _≡_ {A = Packing} (record { axes = axes; starts = 0; places = p; encoded = oneNull }) (nullPacking axes)
+null-is axes p e = ap (λ (x : Places). record { axes = axes; starts = 0; places = x; encoded = oneNull }) e
+
+module _ (axes : ℕ) (k : Packing) (e : k ≡ nullPacking axes) where
+  pub none-fit : (job : List ℕ) → axes ≤ mostAxes → FinishFit (k .axes) (k .starts) job (k .places) (k .encoded) three
+  none-fit job a = subst (λ (x : Packing). FinishFit (x .axes) (x .starts) job (x .places) (x .encoded) three) (sym e) (null-fit axes job a)
+
+  pub none-fits : axes ≤ mostAxes → (k .axes ≤ mostAxes) × WordsFit (k .places) (k .encoded) three
+  none-fits a = subst (λ (x : Packing). (x .axes ≤ mostAxes) × WordsFit (x .places) (x .encoded) three) (sym e) (a, none-words)
 
   -- no region has coordinates
-  pub none-done : (r : Built) (old new : Buffers)
-      → ((k : Packed) → PackedAt k p one-null three → Finished axes (coordsIn job axes three 0 (p .regions)) k r old new)
+  pub none-done : (job : List ℕ) (r : Built) (old new : Buffers)
+      → ((x : Packed) → PackedAt x (k .places) (k .encoded) three → Finished (k .axes) (coordsIn job (k .axes) three (k .starts) (k .places .regions)) x r old new)
       → Finished axes [] (own 0 []) r old new
   unfolding coordsIn tabulate
-  none-done r old new f =
-      subst (λ (x : Places). ((k : Packed) → PackedAt k x one-null three → Finished axes (coordsIn job axes three 0 (x .regions)) k r old new)) e f (own 0 []) none-packed
+  none-done job r old new f =
+      subst (λ (y : Packing). ((x : Packed) → PackedAt x (y .places) (y .encoded) three → Finished (y .axes) (coordsIn job (y .axes) three (y .starts) (y .places .regions)) x r old new)) e f (own 0 []) none-packed
+
+  pub none-foretold : axes ≤ mostAxes → (r : Report)
+      → ((job : List ℕ) (x : Packed) → FinishFit (k .axes) (k .starts) job (k .places) (k .encoded) three → PackedAt x (k .places) (k .encoded) three
+      → r ≡ reportOf (k .axes) (coordsIn job (k .axes) three (k .starts) (k .places .regions)) x)
+      → r ≡ reportOf axes [] (own 0 [])
+  unfolding coordsIn tabulate
+  none-foretold a r f =
+      subst (λ (y : Packing). ((job : List ℕ) (x : Packed) → FinishFit (y .axes) (y .starts) job (y .places) (y .encoded) three → PackedAt x (y .places) (y .encoded) three → r ≡ reportOf (y .axes) (coordsIn job (y .axes) three (y .starts) (y .places .regions)) x)) e f
+      [] (own 0 []) (null-fit axes [] a) none-packed

@@ -47,12 +47,12 @@ read-refused axes mode job o n i some e s q w =
     (record { not-early = refl; is = (refl, refl, some); ready = nowhere-ready w }))
 
 module _ {axes mode starts : ℕ} {job w : List ℕ} {p : Places} {x : Said} (c : Collected axes starts job p x w) (o : Outcome) (e : o ≡ fine x) where
-  pub read-alone : (mode ≡ 0 → ⊥) → ReadAt axes mode job o (record { early = false; no = 0; at = 0; starts = starts; places = p; groups = 0; distinct = 0 }) w
+  pub read-alone : (mode ≡ 0 → ⊥) → ReadAt axes mode job o (record { early = false; no = 0; at = 0; axes = axes; mode = mode; starts = starts; places = p; groups = 0; distinct = 0 }) w
   read-alone z =
-      subst (λ (y : Outcome). ReadAt axes mode job y (record { early = false; no = 0; at = 0; starts = starts; places = p; groups = 0; distinct = 0 }) w) (sym e)
+      subst (λ (y : Outcome). ReadAt axes mode job y (record { early = false; no = 0; at = 0; axes = axes; mode = mode; starts = starts; places = p; groups = 0; distinct = 0 }) w) (sym e)
       (record {
         not-early = refl;
-        is = record { full = λ h. absurd (h refl); collected = λ q. c; joins = λ q y. absurd (z y); alone = λ y. refl };
+        is = record { axes-is = λ q. refl; mode-is = λ q. refl; full = λ h. absurd (h refl); collected = λ q. c; joins = λ q y. absurd (z y); alone = λ y. refl };
         ready = ready-none p w (tables-laid (c .fit .laid) (omega arith));
       })
 
@@ -67,16 +67,16 @@ module _ {axes mode starts : ℕ} {job w : List ℕ} {p : Places} {x : Said} (c 
         (subst (λ (y : Outcome). ReadAt axes mode job y (refusedAt false shapesFull 0) w′) (sym e)
         (record {
           not-early = refl;
-          is = record { full = λ y. (z, refl, refl, many); collected = λ y. absurd (omega arith); joins = λ y. absurd (omega arith); alone = λ y. refl };
+          is = record { axes-is = λ y. absurd (omega arith); mode-is = λ y. absurd (omega arith); full = λ y. (z, refl, refl, many); collected = λ y. absurd (omega arith); joins = λ y. absurd (omega arith); alone = λ y. refl };
           ready = nowhere-ready w′;
         }))
 
-    pub read-groups : (groups ids : ℕ) → r ≡ Groups groups ids → ReadAt axes mode job o (record { early = false; no = 0; at = 0; starts = starts; places = p; groups = groups; distinct = ids }) w′
+    pub read-groups : (groups ids : ℕ) → r ≡ Groups groups ids → ReadAt axes mode job o (record { early = false; no = 0; at = 0; axes = axes; mode = mode; starts = starts; places = p; groups = groups; distinct = ids }) w′
     read-groups groups ids q =
-        subst (λ (y : Outcome). ReadAt axes mode job y (record { early = false; no = 0; at = 0; starts = starts; places = p; groups = groups; distinct = ids }) w′) (sym e)
+        subst (λ (y : Outcome). ReadAt axes mode job y (record { early = false; no = 0; at = 0; axes = axes; mode = mode; starts = starts; places = p; groups = groups; distinct = ids }) w′) (sym e)
         (record {
           not-early = refl;
-          is = record { full = λ h. absurd (h refl); collected = λ y. collected-kept c (g .only); joins = λ y v. result (Groups groups ids) q; alone = λ h. absurd (h z) };
+          is = record { axes-is = λ y. refl; mode-is = λ y. refl; full = λ h. absurd (h refl); collected = λ y. collected-kept c (g .only); joins = λ y v. result (Groups groups ids) q; alone = λ h. absurd (h z) };
           ready = ready (result (Groups groups ids) q);
         })
 
@@ -104,5 +104,5 @@ module _ (axes mode : ℕ) (job w : List ℕ) (pairs n : ℕ) (e : n ≡ earlyNo
         ready = g .ready;
       }
 
-pub refuse-is : (early : Bool) (n i : ℕ) (p : Places) → p ≡ noPlaces → _≡_ {A = Stage} (record { early = early; no = n; at = i; starts = 0; places = p; groups = 0; distinct = 0 }) (refusedAt early n i)
-refuse-is early n i p e = ap (λ (x : Places). record { early = early; no = n; at = i; starts = 0; places = x; groups = 0; distinct = 0 }) e
+pub refuse-is : (early : Bool) (n i : ℕ) (p : Places) → p ≡ noPlaces → _≡_ {A = Stage} (record { early = early; no = n; at = i; axes = 0; mode = 0; starts = 0; places = p; groups = 0; distinct = 0 }) (refusedAt early n i)
+refuse-is early n i p e = ap (λ (x : Places). record { early = early; no = n; at = i; axes = 0; mode = 0; starts = 0; places = x; groups = 0; distinct = 0 }) e

@@ -1,4 +1,4 @@
--- Sets packed by either mode are what the last part of a build asks for, and what that leaves is what the definitions say. Assumes nothing.
+-- Sets packed by either mode are what the last part of a build asks for. Assumes nothing.
 use mathlib.Core.Path.{_≡_, refl, sym, ap, ap₂, subst, _∙_}
 use mathlib.Core.Logic.{⊎-elim}
 use mathlib.Core.Bool.{Bool, true, false}
@@ -27,7 +27,7 @@ use Rattle.rule.specs.Model.{merged}
 use Rattle.rule.proofs.Theorems.{fewer, none-of-none}
 use Rattle.store.specs.Lent as store
 use Rattle.said.specs.Refusals.{shapesFull, firstFailed}
-use Rattle.said.specs.Job.{Said}
+use Rattle.said.specs.Job.{Said, Outcome, fine}
 use Rattle.encoder.specs.declared.places.Places.{Places}
 use Rattle.encoder.specs.declared.encoded.Encoded.{Encoded}
 use Rattle.encoder.specs.Packed.{Packed, shared, own}
@@ -35,13 +35,13 @@ use Rattle.encoder.specs.LentPlaces.{Laid}
 use Rattle.encoder.specs.Lent.{Fit, PackedAt, OwnAt}
 use Rattle.encoder.specs.LentArranged.{JoinedGroups}
 use Rattle.encoder.proofs.DenseIds.{ids-length, ids-below}
-use Rattle.finishing.specs.declared.answers.Built.{Built}
 use Rattle.finishing.specs.declared.answers.Built.the-variants.{Refused}
 use Rattle.finishing.specs.Buffers.{Buffers, Lengths, lengths}
 use Rattle.finishing.specs.Late.{lateNo, lateAnswer, buffersLeft}
 use Rattle.packer.specs.Build.{coordsInUse, packedOf}
 use Rattle.finishing.specs.Lent.{FinishFit, Finished}
 use Rattle.packer.specs.LentCollected.{Collected}
+use Rattle.packer.specs.LentOpened.{ArrangedAs}
 
 -- ---- fewer merges than groups, and ids below their count
 
@@ -77,7 +77,7 @@ refused-late axes coords k n old e =
     let z : eqb (lateNo axes coords k (lengths old)) 0 ≡ false = ap (λ (x : ℕ). eqb x 0) e ∙ ne-eqb (suc n) 0 (λ x. omega arith) in
     record { answer = rw (z, e); left = rw z }
 
-too-many : (axes : ℕ) (coords : List (List ℕ)) (k : Packed) (l : Lengths) → maxShapes < k .groups → lateNo axes coords k l ≡ shapesFull
+pub too-many : (axes : ℕ) (coords : List (List ℕ)) (k : Packed) (l : Lengths) → maxShapes < k .groups → lateNo axes coords k l ≡ shapesFull
 unfolding lateNo firstFailed
 too-many axes coords k l h = rw (lt-leb (k .groups) maxShapes h)
 
@@ -147,45 +147,38 @@ module _ {axes starts : ℕ} {job w : List ℕ} {p : Places} {s : Said} (c : Col
             omega (arith, packed .distinct-is);
       }
 
-    finished : (k k′ : Packed) (r : Built) (old new : Buffers) → k ≡ k′
-        → Finished axes (store.coordsIn job axes w′ starts (p .regions)) k r old new → Finished axes (coordsInUse s) k′ r old new
-    finished k k′ r old new e f =
-        subst (λ (x : Packed). Finished axes (coordsInUse s) x r old new) e
-        (subst (λ (z : List (List ℕ)). Finished axes z k r old new) coords-kept f)
+      -- the sets of a job that says s, arranged for a axes
+      arranged : (mode : ℕ) → k ≡ packedOf mode s → (o : Outcome) → o ≡ fine s → (a : ℕ) → a ≡ axes
+          → ArrangedAs axes mode job o (record { axes = a; starts = starts; places = p; encoded = e }) w′
+      arranged mode same o f a q =
+          subst (λ (x : ℕ). ArrangedAs axes mode job o (record { axes = x; starts = starts; places = p; encoded = e }) w′) (sym q) (record {
+            said = s;
+            said-is = f;
+            axes-is = refl;
+            fit = finish-fit;
+            packed = subst (λ (x : Packed). PackedAt x p e w′) same packed;
+            coords-are = coords-kept;
+          })
 
-  -- ---- mode 0
+  -- mode 0
+  pub shared-arranged : {w′ : List ℕ} {e : Encoded} → JoinedGroups p w w′ e → (mode : ℕ) → mode ≡ 0 → (o : Outcome) → o ≡ fine s → (a : ℕ) → a ≡ axes
+      → ArrangedAs axes mode job o (record { axes = a; starts = starts; places = p; encoded = e }) w′
+  shared-arranged {w′} {e} h mode z o f a q =
+      arranged (h .only) (shared (p .regions) all) e (h .packed) (shared-merges (p .regions) all) (shared-ids (p .regions) all) mode (shared-is mode z) o f a q
 
-  module _ {w′ : List ℕ} {e : Encoded} (h : JoinedGroups p w w′ e) where
-    pub shared-fit : FinishFit axes starts job p e w′
-    shared-fit = finish-fit (h .only) (shared (p .regions) all) e (h .packed) (shared-merges (p .regions) all) (shared-ids (p .regions) all)
-
-    pub shared-done : (mode : ℕ) → mode ≡ 0 → (b : Built) (old new : Buffers)
-        → ((k : Packed) → PackedAt k p e w′ → Finished axes (store.coordsIn job axes w′ starts (p .regions)) k b old new)
-        → Finished axes (coordsInUse s) (packedOf mode s) b old new
-    shared-done mode z b old new f =
-        finished (h .only) (shared (p .regions) all) (packedOf mode s) b old new (shared-is mode z) (f (shared (p .regions) all) (h .packed))
-
-  -- ---- mode 1
-
-  module _ {w′ : List ℕ} {e : Encoded} (h : OwnAt p w w′ e) where
-    pub own-fit : FinishFit axes starts job p e w′
-    own-fit = finish-fit (h .only) (own (p .regions) all) e (h .result) (own-merges (p .regions) all) (own-ids (p .regions) all)
-
-    pub own-done : (mode : ℕ) → (mode ≡ 0 → ⊥) → (b : Built) (old new : Buffers)
-        → ((k : Packed) → PackedAt k p e w′ → Finished axes (store.coordsIn job axes w′ starts (p .regions)) k b old new)
-        → Finished axes (coordsInUse s) (packedOf mode s) b old new
-    own-done mode z b old new f =
-        finished (h .only) (own (p .regions) all) (packedOf mode s) b old new (own-is mode z) (f (own (p .regions) all) (h .result))
+  -- mode 1
+  pub own-arranged : {w′ : List ℕ} {e : Encoded} → OwnAt p w w′ e → (mode : ℕ) → (mode ≡ 0 → ⊥) → (o : Outcome) → o ≡ fine s → (a : ℕ) → a ≡ axes
+      → ArrangedAs axes mode job o (record { axes = a; starts = starts; places = p; encoded = e }) w′
+  own-arranged {w′} {e} h mode z o f a q =
+      arranged (h .only) (own (p .regions) all) e (h .result) (own-merges (p .regions) all) (own-ids (p .regions) all) mode (own-is mode z) o f a q
 
   -- without sets
-  pub none-own : (mode : ℕ) → (mode ≡ 0 → ⊥) → p .sets ≡ 0 → (b : Built) (old new : Buffers)
-      → Finished axes [] (own 0 []) b old new → Finished axes (coordsInUse s) (packedOf mode s) b old new
-  none-own mode z n b old new f =
+  pub none-own : (mode : ℕ) → (mode ≡ 0 → ⊥) → p .sets ≡ 0 → (packedOf mode s ≡ own 0 []) × (coordsInUse s ≡ [])
+  none-own mode z n =
       let long : length (s .sets) ≡ 0 = ap length (sym (c .sets-are)) ∙ sets-length 0 (p .sets) w ∙ n in
       let none : s .sets ≡ [] = empty (s .sets) long in
       let idle : s .used ≡ [] = empty (s .used) (c .no-use long) in
-      subst (λ (x : Packed). Finished axes (coordsInUse s) x b old new) (sym (own-none mode z none idle))
-      (subst (λ (x : List (List ℕ)). Finished axes x (own 0 []) b old new) (sym (coords-none idle)) f)
+      (own-none none idle, coords-none idle)
     where
       empty : {A : Type 0} (l : List A) → length l ≡ 0 → l ≡ []
       empty [] e = refl
@@ -194,5 +187,5 @@ module _ {axes starts : ℕ} {job w : List ℕ} {p : Places} {s : Said} (c : Col
       coords-none : s .used ≡ [] → coordsInUse s ≡ []
       coords-none e = unfold coordsInUse in rw e
 
-      own-none : (mode : ℕ) → (mode ≡ 0 → ⊥) → s .sets ≡ [] → s .used ≡ [] → packedOf mode s ≡ own 0 []
-      own-none mode z a b = unfold packedOf in rw (ne-eqb mode 0 z, a, b)
+      own-none : s .sets ≡ [] → s .used ≡ [] → packedOf mode s ≡ own 0 []
+      own-none a b = unfold packedOf in rw (ne-eqb mode 0 z, a, b)

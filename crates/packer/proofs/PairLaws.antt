@@ -20,7 +20,7 @@ use Rattle.packer.specs.declared.opening.Stage.{Stage}
 use Rattle.packer.specs.Build.{pairsLeft}
 use Rattle.packer.specs.LentOpened.{OpenedAt, PairsUsed}
 
-true-false : {A : Type 0} → _≡_ {A = Bool} true false → A
+pub true-false : {A : Type 0} → _≡_ {A = Bool} true false → A
 true-false z = absurd (let one : _≡_ {A = ℕ} 0 1 = cc in omega arith)
 
 pub used-none : (s : Stage) (pairs : ℕ) → s .early ≡ true → PairsUsed s pairs 0

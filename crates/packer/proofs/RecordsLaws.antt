@@ -154,15 +154,11 @@ records-built axes mode o s r old new e f = rw e (record { answer = f .answer; l
 -- ---- the whole
 
 module _ (axes mode : ℕ) (job : List ℕ) (work pairs n : ℕ) (e : n ≡ earlyNo axes mode (length job) work pairs) where
-  pub built-early : (n ≡ 0 → ⊥) → (old : Buffers) → RecordsBuilt axes mode (outcome axes mode job work pairs) (Refused n 0) old old
+  pub outcome-early : (n ≡ 0 → ⊥) → outcome axes mode job work pairs ≡ refused n 0
   unfolding outcome
-  built-early h old = records-refused axes mode (outcome axes mode job work pairs) n 0 old
-      (ap (λ (k : ℕ). outcomeFrom k (recordsFrom axes mode job job (recordCount job) 0 inAxes)) (sym e) ∙ early-first n (recordsFrom axes mode job job (recordCount job) 0 inAxes) h)
+  outcome-early h =
+      ap (λ (k : ℕ). outcomeFrom k (recordsFrom axes mode job job (recordCount job) 0 inAxes)) (sym e) ∙ early-first n (recordsFrom axes mode job job (recordCount job) 0 inAxes) h
 
-  pub built-late : n ≡ 0 → (a : ℕ) → a ≡ axes → (r : Built) (old new : Buffers)
-      → RecordsBuilt a mode (recordsFrom a mode job job (recordCount job) 0 inAxes) r old new → RecordsBuilt axes mode (outcome axes mode job work pairs) r old new
+  pub outcome-late : n ≡ 0 → outcome axes mode job work pairs ≡ recordsFrom axes mode job job (recordCount job) 0 inAxes
   unfolding outcome
-  built-late z a q r old new f =
-      subst (λ (o : Outcome). RecordsBuilt axes mode o r old new)
-      (sym (none-early (earlyNo axes mode (length job) work pairs) (recordsFrom axes mode job job (recordCount job) 0 inAxes) (sym e ∙ z)))
-      (subst (λ (x : ℕ). RecordsBuilt x mode (recordsFrom x mode job job (recordCount job) 0 inAxes) r old new) q f)
+  outcome-late z = none-early (earlyNo axes mode (length job) work pairs) (recordsFrom axes mode job job (recordCount job) 0 inAxes) (sym e ∙ z)

@@ -1,5 +1,5 @@
 -- One build call: all that is said and lent, and what is left of it. Assumes nothing.
-use mathlib.Core.List.{List}
+use mathlib.Core.List.{List, []}
 use Prim.Native.Nat.{ℕ}
 use Rattle.pairs.specs.declared.Pair.{Pair}
 use Rattle.finishing.specs.Buffers.{Buffers, buffers}
@@ -15,6 +15,10 @@ pub record Lending : Type 0 where
 
 abbrev pub lending : ℕ → ℕ → List ℕ → List ℕ → List Pair → Buffers → Lending
 lending axes mode job work pairs lent = record { axes = axes; mode = mode; job = job; work = work; pairs = pairs; lent = lent }
+
+-- a forecast is lent nothing to write to
+abbrev pub noBuffers : Buffers
+noBuffers = buffers [] [] [] []
 
 -- what work, pair records and buffers hold after the call
 pub record Left : Type 0 where

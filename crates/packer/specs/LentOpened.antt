@@ -13,7 +13,14 @@ use Rattle.said.specs.Records.{recordCount}
 use Rattle.job.specs.Check.{workLeft}
 use Rattle.encoder.specs.declared.places.Places.{Places}
 use Rattle.encoder.specs.LentArranged.{tablesOf, JoinFit}
+use Rattle.encoder.specs.declared.encoded.Encoded.{Encoded}
+use Rattle.encoder.specs.Lent.{PackedAt}
+use Rattle.store.specs.Lent as store
 use Rattle.finishing.specs.declared.answers.Built.{Built}
+use Rattle.finishing.specs.declared.measuring.Packing.{Packing}
+use Rattle.finishing.specs.Lent.{FinishFit}
+use Rattle.packer.specs.Build.{coordsInUse, packedOf}
+use Rattle.packer.specs.Foretold.{foretoldFrom}
 use Rattle.packer.specs.declared.opening.Stage.{Stage}
 use Rattle.finishing.specs.Buffers.{Buffers}
 use Rattle.packer.specs.LentCollected.{Collected, RecordsBuilt}
@@ -23,10 +30,12 @@ abbrev pub noPlaces : Places
 noPlaces = record { sets = 0; regions = 0; room = 0; line = 0; first = 0; ids = 0; kinds = 0; slots = 0; order = 0; counts = 0; homes = 0; place = 0; costs = 0; living = 0; columns = 0; spots = 0; finals = 0; into = 0; log = 0; rows = 3 }
 
 abbrev pub refusedAt : Bool → ℕ → ℕ → Stage
-refusedAt early n i = record { early = early; no = n; at = i; starts = 0; places = noPlaces; groups = 0; distinct = 0 }
+refusedAt early n i = record { early = early; no = n; at = i; axes = 0; mode = 0; starts = 0; places = noPlaces; groups = 0; distinct = 0 }
 
 -- a job that says x is read: there are too many shapes, or its sets are held in work, and grouped in mode 0
 pub record Grouped (axes mode : ℕ) (job : List ℕ) (x : Said) (s : Stage) (w : List ℕ) : Type 0 where
+  pub axes-is : s .no ≡ 0 → s .axes ≡ axes
+  pub mode-is : s .no ≡ 0 → s .mode ≡ mode
   pub full : (s .no ≡ 0 → ⊥) → (mode ≡ 0) × (s .no ≡ shapesFull) × (s .at ≡ 0) × (maxShapes < length (groupsOf (length (x .used)) (x .sets)))
   pub collected : s .no ≡ 0 → Collected axes (s .starts) job (s .places) x w
   pub joins : s .no ≡ 0 → mode ≡ 0 → JoinFit (s .places) (s .groups) (s .distinct) w
@@ -57,23 +66,69 @@ PairsUsed s pairs r = (s .early ≡ true → r ≡ 0) × (s .early ≡ false →
 abbrev pub Joined : Stage → Merged → List ℕ → List ℕ → Type 0
 Joined s m mid w = Optimized (tablesOf (s .places) (s .groups)) (m .merges) (m .weighed) (m .before) (m .after) mid w
 
+-- ---- what is left of the groups, arranged
+
+-- whether it is mode 1 without sets
+abbrev pub NullStage : Stage → Bool → Type 0
+NullStage s b = (b ≡ true → (s .mode ≡ 0 → ⊥) × (s .places .sets ≡ 0)) × (b ≡ false → (s .mode ≡ 0 → ⊥) → 0 < s .places .sets)
+
+-- which is one group of no rows
+abbrev pub oneNull : Encoded
+oneNull = record { distinct = 0; count = 1; groups = 0; merges = 0; weighed = 0; before = 0; after = 0 }
+
+abbrev pub nullPacking : ℕ → Packing
+nullPacking axes = record { axes = axes; starts = 0; places = noPlaces; encoded = oneNull }
+
+-- what the sets of a job are packed as by their mode stands in work
+pub record ArrangedAs (axes mode : ℕ) (job : List ℕ) (o : Outcome) (k : Packing) (w : List ℕ) : Type 0 where
+  pub said : Said
+  pub said-is : o ≡ fine said
+  pub axes-is : k .axes ≡ axes
+  pub fit : FinishFit (k .axes) (k .starts) job (k .places) (k .encoded) w
+  pub packed : PackedAt (packedOf mode said) (k .places) (k .encoded) w
+  pub coords-are : store.coordsIn job (k .axes) w (k .starts) (k .places .regions) ≡ coordsInUse said
+
 -- ---- what the last part asks: such a build
 
-pub record PackFit (axes mode : ℕ) (job : List ℕ) (s : Stage) (m : Merged) (w : List ℕ) : Type 0 where
+pub record PackFit (job : List ℕ) (s : Stage) (m : Merged) (w : List ℕ) : Type 0 where
+  pub axes : ℕ
+  pub mode : ℕ
   pub outcome : Outcome
   pub mid : List ℕ
   pub read : Read axes mode job outcome s mid
   pub joined : Joined s m mid w
 
-pub record CloseFit (axes mode : ℕ) (job : List ℕ) (s : Stage) (m : Merged) (w : List ℕ) : Type 0 where
+-- of some job
+pub record ForetellFit (s : Stage) (m : Merged) (w : List ℕ) : Type 0 where
+  pub job : List ℕ
+  pub fits : PackFit job s m w
+
+-- which is not refused, and has sets to arrange
+pub record ArrangeFit (s : Stage) (m : Merged) (w : List ℕ) : Type 0 where
+  pub job : List ℕ
+  pub fits : PackFit job s m w
+  pub taken : s .no ≡ 0
+  pub some : (s .mode ≡ 0 → ⊥) → 0 < s .places .sets
+
+pub record CloseFit (job : List ℕ) (s : Stage) (m : Merged) (w : List ℕ) : Type 0 where
+  pub axes : ℕ
+  pub mode : ℕ
   pub old : List ℕ
   pub pairs : ℕ
   pub mid : List ℕ
   pub opened : OpenedAt axes mode job old pairs mid s
   pub joined : Joined s m mid w
 
+pub record ForeseeFit (s : Stage) (m : Merged) (w : List ℕ) : Type 0 where
+  pub job : List ℕ
+  pub fits : CloseFit job s m w
+
 -- ---- and what it leaves: what the build answers, the buffers and work
 
 pub record Closed (axes mode : ℕ) (job work : List ℕ) (pairs : ℕ) (r : Built) (old new : Buffers) (work′ : List ℕ) : Type 0 where
   pub built : RecordsBuilt axes mode (outcome axes mode job (length work) pairs) r old new
+  pub work-is : work′ ≡ workLeft axes mode (length job) pairs work
+
+pub record Foreseen (axes mode : ℕ) (job work : List ℕ) (pairs : ℕ) (r : Built) (work′ : List ℕ) : Type 0 where
+  pub answer : r ≡ foretoldFrom axes mode (outcome axes mode job (length work) pairs)
   pub work-is : work′ ≡ workLeft axes mode (length job) pairs work

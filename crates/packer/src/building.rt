@@ -26,7 +26,7 @@ pub fn build(
 {
     let s = open(axes, mode, job, work, pairs.len());
     let m = optimize(pairs, work, tables(s.places, s.groups));
-    let r = close(axes, mode, job, work, s, m, out, ids, map, log);
+    let r = close(job, work, s, m, out, ids, map, log);
     pairs::clear_pairs(pairs, pairs_used(s, pairs.len()));
     r
 }

@@ -21,11 +21,13 @@ ghost use Rattle.packer.specs.LentCollected.{StartsAt};
 ghost use Rattle.packer.specs.LentOpened.{noPlaces, refusedAt, ReadAt, OpenedAt};
 
 // Where a build stands before merging: refused by number and place, `early` if nothing was written yet; or, where the number is 0, with its sets
-// held in work, in so many groups of so many distinct sets.
+// held in work, for so many axes and by a mode, in so many groups of so many distinct sets.
 pub struct Stage {
     pub early: bool,
     pub no: usize,
     pub at: usize,
+    pub axes: usize,
+    pub mode: u32,
     pub starts: usize,
     pub places: Places,
     pub groups: usize,
@@ -68,6 +70,8 @@ fn refuse(early: bool, no: usize, at: usize) -> Stage
         early,
         no,
         at,
+        axes: 0,
+        mode: 0,
         starts: 0,
         places: nowhere(),
         groups: 0,
@@ -107,6 +111,8 @@ fn open_records(axes: usize, mode: u32, job: &[u8], records: usize, work: &mut [
             early: false,
             no: 0,
             at: 0,
+            axes,
+            mode,
             starts,
             places,
             groups: 0,
@@ -120,6 +126,8 @@ fn open_records(axes: usize, mode: u32, job: &[u8], records: usize, work: &mut [
         early: false,
         no: 0,
         at: 0,
+        axes,
+        mode,
         starts,
         places,
         groups,

@@ -4,18 +4,19 @@ use mathlib.Core.Path.{_≡_, refl}
 use mathlib.Core.List.{List, [], _∷_, _++_, map}
 use Prim.Native.Nat.{ℕ, _+_, _-_}
 use lib.ListN.{length}
+use Rattle.laws.specs.Bag.{weigh}
 use Rattle.laws.specs.Bytes.{bytesOf}
 use Rattle.laws.specs.Signed.{twos, value}
 use Rattle.laws.specs.Bounded.{tabulate}
 use Rattle.laws.specs.Sorting.{keep}
 use Rattle.laws.specs.Joining.{joinAll}
-use Rattle.shapes.specs.Shape.{Shape, rowCost, columns, overhead}
-use Rattle.shapes.specs.Group.{groupCost}
+use Rattle.shapes.specs.Shape.{Shape}
+use Rattle.reader.specs.Store.{columnAt}
 use Rattle.stores.specs.Stores.{tableBytes, slotBytes, offsets, listBytes, place}
 use Rattle.rows.specs.Columns.{addIf, ofWidth, columnsOf, wordCount, bytesFor}
 use Rattle.rows.specs.Row.{Set, wordIn, cellsOf, rowOf}
 use Rattle.rows.specs.Subtable.{runCount}
-use Rattle.store.specs.Placing.{Final, runsOf, allRuns, inRun, idWords, names, keptOf, slotOf, madeOf, storeOf, modelOf, modelled, forecastOf}
+use Rattle.store.specs.Placing.{Final, runsOf, allRuns, inRun, idWords, names, keptOf, slotOf, madeOf, storeOf, runBytes, forecastOf}
 
 -- R0 and R1
 abbrev r0 : List ℕ
@@ -93,9 +94,9 @@ answers =
     ∷ answer
     (0 ∷ 1 ∷ 0 ∷ 0 ∷ 0 ∷ 0x0C ∷ 0 ∷ 1 ∷ 0 ∷ 0 ∷ 0 ∷ 0x1C
     ∷ 0 ∷ 1 ∷ 0 ∷ 2 ∷ 0 ∷ 0 ∷ 0x40 ∷ 0 ∷ 0x40 ∷ 0 ∷ 0xC0 ∷ 0 ∷ 0xC0 ∷ 0 ∷ 0 ∷ 0
-    ∷ 0 ∷ 1 ∷ 0x80 ∷ 1 ∷ 0 ∷ 2 ∷ 0 ∷ 1 ∷ 0 ∷ 0 ∷ 0x00 ∷ 0x01 ∷ 0x11 ∷ 0x70 ∷ 0x00 ∷ 0x64 ∷ []) 43
+    ∷ 0 ∷ 1 ∷ 0x80 ∷ 1 ∷ 0 ∷ 2 ∷ 0 ∷ 1 ∷ 0 ∷ 0 ∷ 0x00 ∷ 0x01 ∷ 0x11 ∷ 0x70 ∷ 0x00 ∷ 0x64 ∷ []) 44
     ∷ []
 
 pub p1-to-p5-p7 : map built jobs ≡ answers
-unfolding bytesOf twos value tabulate keep rowCost columns overhead groupCost addIf ofWidth columnsOf wordCount bytesFor wordIn cellsOf rowOf joinAll runCount runsOf allRuns inRun idWords names slotOf madeOf tableBytes slotBytes offsets listBytes place storeOf modelOf modelled forecastOf
+unfolding weigh bytesOf twos value tabulate keep columnAt addIf ofWidth columnsOf wordCount bytesFor wordIn cellsOf rowOf joinAll runCount runsOf allRuns inRun idWords names slotOf madeOf tableBytes slotBytes offsets listBytes place storeOf runBytes forecastOf
 p1-to-p5-p7 = refl

@@ -27,22 +27,13 @@ use Rattle.groups.proofs.GroupLaws.{shape-length, groups-long, groups-unlike, g
 use Rattle.rule.specs.Model.{Living, merged, total}
 use Rattle.rule.proofs.Theorems as theorems
 use Rattle.rule.proofs.Origins.{times, homes, one-home, no-home, setsOf, Made, made}
-use Rattle.store.specs.Placing.{Final, modelOf, modelled}
+use Rattle.store.specs.Placing.{Final}
 use Rattle.readback.proofs.PlainLaws.{runs-one}
 use Rattle.encoder.specs.Packed.{dense, noLater, numberOf, isAmong, belongs, finalOf, isAhead, finalsOf, shared}
 use Rattle.encoder.proofs.NumberLaws.{number-at}
 use Rattle.sizes.specs.Sizes.{costOf, groupAt, Sizes}
 use Rattle.sizes.proofs.Shares.{isShape, groups-share}
 use Rattle.sizes.proofs.CountLaws.{times-each, among-times, homes-each, times-below, unlike-zero, share-at}
-
-model-some : (f : Final) → 0 < length (f .ids) → modelOf f ≡ costOf f
-unfolding modelOf
-model-some f h = rw (ne-eqb (length (f .ids)) 0 (λ e. omega arith))
-
-modelled-weighs : (l : List Final) → All (λ f. 0 < length (f .ids)) l → modelled l ≡ weigh costOf l
-unfolding modelled weigh
-modelled-weighs [] h = refl
-modelled-weighs (f ∷ l) h = omega (arith, model-some f (h .0), modelled-weighs l (h .1))
 
 module _ (regions : ℕ) (jobs : List Set) where
   abbrev groups : List Group
@@ -173,6 +164,5 @@ module _ (regions : ℕ) (jobs : List Set) where
     living-count = counts;
     finals-some = finals-filled;
     after-is = sym finals-cost;
-    forecast-has = modelled-weighs (map final (sorted isAhead living)) finals-filled ∙ finals-cost;
     one-run = λ f h. runs-one (f .shape) (f .ids) h;
   }

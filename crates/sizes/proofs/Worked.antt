@@ -18,7 +18,7 @@ use Rattle.sets.specs.Order as sets
 use Rattle.sets.specs.Ids.{place, withSet, distinctFrom, distinct}
 use Rattle.groups.specs.Groups.{shapeOf, putShape, withShape, groupsFrom, groupsOf}
 use Rattle.rule.specs.Model as rule
-use Rattle.store.specs.Placing.{Final, modelOf, modelled}
+use Rattle.store.specs.Placing.{Final}
 use Rattle.encoder.specs.Packed.{noLater, dense, sameShape, numberOf, isAmong, belongs, finalOf, isAhead, finalsOf, shared}
 use Rattle.sizes.specs.Sizes.{costOf, startingOf, Sizes}
 use Rattle.sizes.proofs.Counted.{sizes}
@@ -33,8 +33,8 @@ group s n = record { shape = s; sets = n }
 abbrev final : Shape → List ℕ → Final
 final s l = record { shape = s; ids = l }
 
--- of the sets of a job with two regions: the starting groups, the number of each id's, the final groups, the sizes before and after merging, what the
--- final groups cost by their own ids, and what the forecast takes of it
+-- of the sets of a job with two regions: the starting groups, the number of each id's, the final groups, the sizes before and after merging, and what
+-- the final groups cost by their own ids
 pub record Worked : Type 0 where
   pub groups : List Group
   pub starts : List ℕ
@@ -42,7 +42,6 @@ pub record Worked : Type 0 where
   pub before : ℕ
   pub after : ℕ
   pub cost : ℕ
-  pub forecast : ℕ
 
 abbrev worked : List Set → Worked
 worked l = record {
@@ -52,7 +51,6 @@ worked l = record {
   before = shared 2 l .before;
   after = shared 2 l .after;
   cost = weigh costOf (shared 2 l .finals);
-  forecast = modelled (shared 2 l .finals);
 }
 
 -- P8, and its first set once more: {R0:1}, {R1:1}, {R0:1}
@@ -74,7 +72,6 @@ both : map worked (p8 ∷ p9 ∷ []) ≡
       before = 26;
       after = 18;
       cost = 18;
-      forecast = 18;
     }
     ∷ record {
       groups = group (1 ∷ 0 ∷ []) 5 ∷ group (0 ∷ 1 ∷ []) 5 ∷ [];
@@ -83,10 +80,9 @@ both : map worked (p8 ∷ p9 ∷ []) ≡
       before = 34;
       after = 34;
       cost = 34;
-      forecast = 34;
     }
     ∷ []
-unfolding weigh tabulate compared thenBy isMost fits isZero signed twos value insert sorted keep width.widthOf width.costOf rowCost columns overhead join shapes.widthsOrder shapes.order groupCost joined gain wordOf sameSet sets.byWords sets.partNone sets.partHead sets.parting sets.orderOf sets.order place withSet distinctFrom shapeOf putShape withShape groupsFrom groupsOf rule.keepOut rule.outs rule.pairWith rule.keepPair rule.pairs rule.better rule.lead rule.best rule.worth rule.ifWorth rule.choice rule.entry rule.merge rule.follow rule.step rule.run rule.number rule.start rule.merged rule.total modelOf modelled noLater dense sameShape numberOf isAmong belongs finalOf isAhead finalsOf shared
+unfolding weigh tabulate compared thenBy isMost fits isZero signed twos value insert sorted keep width.widthOf width.costOf rowCost columns overhead join shapes.widthsOrder shapes.order groupCost joined gain wordOf sameSet sets.byWords sets.partNone sets.partHead sets.parting sets.orderOf sets.order place withSet distinctFrom shapeOf putShape withShape groupsFrom groupsOf rule.keepOut rule.outs rule.pairWith rule.keepPair rule.pairs rule.better rule.lead rule.best rule.worth rule.ifWorth rule.choice rule.entry rule.merge rule.follow rule.step rule.run rule.number rule.start rule.merged rule.total noLater dense sameShape numberOf isAmong belongs finalOf isAhead finalsOf shared
 both = refl
 
 pub p8-sizes : Sizes 2 p8

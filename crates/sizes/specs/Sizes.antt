@@ -14,7 +14,7 @@ use Rattle.sets.specs.Set.{Set}
 use Rattle.sets.specs.Ids.{distinct}
 use Rattle.groups.specs.Groups.{shapeOf, groupsOf}
 use Rattle.rule.specs.Model.{merged}
-use Rattle.store.specs.Placing.{Final, runsOf, modelled}
+use Rattle.store.specs.Placing.{Final, runsOf}
 use Rattle.encoder.specs.Packed.{numberOf, finalOf, shared}
 
 -- what a final group costs by its own ids
@@ -44,7 +44,5 @@ pub record Sizes (regions : ℕ) (jobs : List Set) : Type 0 where
   pub finals-some : All (λ f. 0 < length (f .ids)) (shared regions jobs .finals)
   -- the modelled size after merging is what the final groups cost, each by its own ids
   pub after-is : shared regions jobs .after ≡ weigh costOf (shared regions jobs .finals)
-  -- and is what the forecast takes for them
-  pub forecast-has : modelled (shared regions jobs .finals) ≡ shared regions jobs .after
   -- a final group that one subtable holds is not cut
   pub one-run : (f : Final) → length (f .ids) ≤ maxItems → runsOf f ≡ f ∷ []

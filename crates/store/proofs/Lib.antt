@@ -6,5 +6,6 @@ pub mod ListLaws
 pub mod SizeLaws
 pub mod SpotLaws
 pub mod Pieces
+pub mod ForecastLaws
 pub mod PlacedLaws
 pub mod MapLaws

@@ -141,7 +141,7 @@ pieces-length src from (suc n) k h =
     length-append (seg (axisCoords from k) coordsLong src) (joinAll (tabulate (suc k) n (λ a. seg (axisCoords from a) coordsLong src)))
     ∙ omega (arith, length-seg (axisCoords from k) coordsLong src (h k (omega arith) (omega arith)), pieces-length src from n (suc k) (λ a p q. h a (omega arith) (omega arith)))
 
-coords-length : (src : List ℕ) (axes from : ℕ) → Sourced axes src from → length (coordsAt src axes from) ≡ 6 * axes
+pub coords-length : (src : List ℕ) (axes from : ℕ) → Sourced axes src from → length (coordsAt src axes from) ≡ 6 * axes
 unfolding coordsAt chain
 coords-length src axes from s = pieces-length src from axes 0 (λ a p q. s .inside a (omega arith))
 

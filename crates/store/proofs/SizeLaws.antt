@@ -20,16 +20,11 @@ use Rattle.laws.proofs.BoundedLaws.{length-tabulate}
 use Rattle.laws.proofs.RangeLaws.{length-seg}
 use Rattle.laws.proofs.Cases.{lt-or-ge}
 use Rattle.shapes.specs.Shape.{Shape}
-use Rattle.shapes.specs.Group.{maxItems, groupCost}
+use Rattle.shapes.specs.Group.{maxItems}
 use Rattle.reader.specs.Store.{columnAt}
 use Rattle.rows.specs.Columns.{columnsOf, wordCount}
-use Rattle.shapes.specs.Lent.{Narrow, Measured, costOf}
-use Rattle.shapes.proofs.GroupLaws.{cost-measured}
-use Rattle.shapes.proofs.LentLaws.{narrow-small}
-use Rattle.laws.proofs.Products.{product}
 use Rattle.rows.specs.Subtable.{runCount}
 use Rattle.limits.specs.Limits.{mostRecords, maxRegions}
-use Rattle.store.specs.Placing.{Final, modelOf, modelled, forecastOf}
 use Rattle.rows.specs.Lent.{Formed}
 use Rattle.store.specs.Lent.{FormOf, Handed, Summed, chain, finalAt, finalsAt, groupSizes, runSizes, tableSize, sumOf}
 use Rattle.rows.proofs.RunLaws.{run-none, run-some}
@@ -146,34 +141,3 @@ module _ (f : ℕ → List ℕ) (n : ℕ) where
       let x : sumOf (left f n k) ≡ 0 = rw e in
       let y : length (left f n k) ≡ 0 = rw e in
       record { bytes-is = omega (arith, t .bytes-rest); runs-is = omega (arith, t .runs-rest) }
-
--- ---- the forecast
-
-module _ (regions : ℕ) (w : List ℕ) (group : ℕ) (inside : getD w (group + 1) 0 + getD w (group + 2) 0 ≤ length w) where
-  sets-are : length (finalAt regions w group .ids) ≡ getD w (group + 2) 0
-  unfolding finalAt
-  sets-are = length-seg (getD w (group + 1) 0) (getD w (group + 2) 0) w inside
-
-  pub model-none : getD w (group + 2) 0 ≡ 0 → 4 ≡ modelOf (finalAt regions w group)
-  unfolding modelOf
-  model-none e = rw (eq-eqb (length (finalAt regions w group .ids)) 0 (sets-are ∙ e))
-
-  pub model-some : (row cols : ℕ) → (getD w (group + 2) 0 ≡ 0 → ⊥) → Measured (finalAt regions w group .shape) row cols
-      → costOf row cols (getD w (group + 2) 0) ≡ modelOf (finalAt regions w group)
-  unfolding modelOf
-  model-some row cols d m =
-      let g = finalAt regions w group in
-      rw (ne-eqb (length (g .ids)) 0 (λ e. d (sym sets-are ∙ e)), sets-are) (sym (cost-measured (g .shape) row cols (getD w (group + 2) 0) m))
-
-pub cost-most : (row cols sets : ℕ) → row ≤ 262144 → cols ≤ 65536 → sets ≤ mostRecords → costOf row cols sets ≤ 549755813888
-cost-most row cols sets r c s = omega (arith, product 262144 mostRecords {a = row} {b = sets} r s)
-
-modelled-is : (f : ℕ → Final) (a n : ℕ) → modelled (tabulate a n f) ≡ sumOf (tabulate a n (λ g. modelOf (f g)))
-unfolding modelled tabulate weigh
-modelled-is f a zero = refl
-modelled-is f a (suc n) = rw (modelled-is f (suc a) n)
-
-pub forecast-is : (axes kept regions groups count : ℕ) (w : List ℕ) (sum : ℕ) → sum ≡ sumOf (tabulate 0 count (λ g. modelOf (finalAt regions w (groups + 3 * g))))
-    → 12 + 6 * axes * kept + sum ≡ forecastOf axes kept (finalsAt regions groups count w)
-unfolding forecastOf finalsAt
-forecast-is axes kept regions groups count w sum e = rw (modelled-is (λ g. finalAt regions w (groups + 3 * g)) 0 count, e)

@@ -7,11 +7,13 @@ use Prim.Native.Nat.{ℕ, suc, _+_, _*_}
 use lib.Dec.{eqb}
 use lib.ListN.{length, getD, take, drop, set}
 use Rattle.laws.specs.Pick.{pick}
+use Rattle.laws.specs.Bag.{weigh}
 use Rattle.laws.specs.Bounded.{tabulate, upTo}
 use Rattle.laws.specs.Sorting.{keep}
 use Rattle.laws.specs.Joining.{joinAll}
 use Rattle.shapes.specs.Shape.{Shape}
-use Rattle.shapes.specs.Group.{groupCost, maxItems}
+use Rattle.shapes.specs.Group.{maxItems}
+use Rattle.reader.specs.Store.{columnAt}
 use Rattle.rows.specs.Columns.{columnsOf, wordCount}
 use Rattle.rows.specs.Row.{Set, rowOf}
 use Rattle.rows.specs.Subtable.{runCount}
@@ -75,14 +77,16 @@ madeOf axes coords set gs = record {
 unfoldable pub storeOf : ℕ → List (List ℕ) → (ℕ → Set) → List Final → List ℕ
 storeOf axes coords set gs = place (madeOf axes coords set gs)
 
--- ---- the forecast (A3)
+-- ---- the forecast (A3): the bytes of the store, worked out without its rows
 
-unfoldable pub modelOf : Final → ℕ
-modelOf g = pick (eqb (length (g .ids)) 0) 4 (groupCost (record { shape = g .shape; sets = length (g .ids) }))
+-- a row has the bytes of its columns, by the word count (C2, V8)
+abbrev pub rowBytes : Shape → ℕ
+rowBytes s = columnAt (wordCount s) (length (columnsOf s))
 
-unfoldable pub modelled : List Final → ℕ
-modelled [] = 0
-modelled (g ∷ gs) = modelOf g + modelled gs
+-- a run has an offset and, unless it is null, a head, the region number of each column and its rows
+unfoldable pub runBytes : Final → ℕ
+runBytes r = pick (eqb (length (r .ids)) 0) 4 (10 + 2 * length (columnsOf (r .shape)) + length (r .ids) * rowBytes (r .shape))
 
+-- header, region list, runs
 unfoldable pub forecastOf : ℕ → ℕ → List Final → ℕ
-forecastOf axes kept gs = 12 + 6 * axes * kept + modelled gs
+forecastOf axes kept gs = 12 + 6 * axes * kept + weigh runBytes (allRuns gs)

@@ -225,8 +225,8 @@ module _ {M : Type 1} (𝓤 : URA M) (H : Heap 𝓤) (A : Atoms 𝓤) (W : Given
           assigns ! (agg ! (and-then ! (load ! (from ! (stop !)) (look ! 43 refl)) (and-then ! (load ! (from ! (fld ! refl (stop !))) (look-in ! 65 (sub ! 1 refl (whole !)))) (no-more !)))) (from ! (stop !)) (init ! 41 refl (tt, (tt, (record { fits = sized₃ .0 }, tt)))) $
           assigns ! (addr ! (from ! (fld ! refl (hop ! (look-in ! 67 (sub ! 0 refl (whole !))) (stop !))))) (from ! (stop !)) (init ! 39 refl (tt, tt)) $
           assigns ! (agg ! (and-then ! (load ! (from ! (stop !)) (look ! 39 refl)) (and-then ! (load ! (from ! (fld ! refl (stop !))) (look-in ! 67 (sub ! 1 refl (whole !)))) (no-more !)))) (from ! (stop !)) (init ! 37 refl (tt, (tt, (record { fits = sized₂ .0 }, tt)))) $
-          use0 W (raw (C #encoder·lays (places-mach (s .places) ∷ vint w64 (s .groups) ∷ []) (λ w. mean 𝓤 H A (After-lays-call 𝓤 H A W mem run C fm known-lays (s .places) (s .groups) w)))) (lays-call 𝓤 H A W mem run C fm known-lays (s .places) (s .groups) (LL.owed S.the-type S′.the-laws s _ (at-S s r-s g-s) .1 .1 .1 .1 .0) (LL.owed S.the-type S′.the-laws s _ (at-S s r-s g-s) .1 .1 .1 .1 .1 .0 .1)) $
-          calls ! fm (After-lays-call 𝓤 H A W mem run C fm known-lays (s .places) (s .groups)) (and-then ! (load ! (from ! (fld ! refl (stop !))) (look-in ! 56 (sub ! 4 refl (whole !)))) (and-then ! (load ! (from ! (fld ! refl (stop !))) (look-in ! 56 (sub ! 5 refl (whole !)))) (no-more !))) (λ r-tb. await ! tt $ pick ! (λ tb. learn ! (λ e-tb. facts ! L.the-row (Is L.the-row) (shows 𝓤 H A L.the-row) tb (r-tb ∷ []) (λ g-tb.
+          use0 W (raw (C #encoder·lays (places-mach (s .places) ∷ vint w64 (s .groups) ∷ []) (λ w. mean 𝓤 H A (After-lays-call 𝓤 H A W mem run C fm known-lays (s .places) (s .groups) w)))) (lays-call 𝓤 H A W mem run C fm known-lays (s .places) (s .groups) (LL.owed S.the-type S′.the-laws s _ (at-S s r-s g-s) .1 .1 .1 .1 .1 .1 .0) (LL.owed S.the-type S′.the-laws s _ (at-S s r-s g-s) .1 .1 .1 .1 .1 .1 .1 .0 .1)) $
+          calls ! fm (After-lays-call 𝓤 H A W mem run C fm known-lays (s .places) (s .groups)) (and-then ! (load ! (from ! (fld ! refl (stop !))) (look-in ! 56 (sub ! 6 refl (whole !)))) (and-then ! (load ! (from ! (fld ! refl (stop !))) (look-in ! 56 (sub ! 7 refl (whole !)))) (no-more !))) (λ r-tb. await ! tt $ pick ! (λ tb. learn ! (λ e-tb. facts ! L.the-row (Is L.the-row) (shows 𝓤 H A L.the-row) tb (r-tb ∷ []) (λ g-tb.
           land ! (from ! (stop !)) (init ! 35 refl (LL.lawful L.the-type L′.the-laws 𝓤 H A W .typed tb _ g-tb .0)) $
           rewrite ! 35 (λ (u : Val). ‵ (fat fullShare (L′.mir) l₂₀ 0 u)) (spelt-L tb r-tb g-tb) refl $
           move ! (2 ∷ 1 ∷ []) $
@@ -256,8 +256,8 @@ module _ {M : Type 1} (𝓤 : URA M) (H : Heap 𝓤) (A : Atoms 𝓤) (W : Given
           join ! $
           move ! (2 ∷ 0 ∷ []) $
           join ! $
-          use1 W (later (raw (C #packer·close (vint w32 axes ∷ vint w32 mode ∷ σ ∷ σ₂ ∷ stage-mach s ∷ mach-merged m ∷ σ₄ ∷ σ₅ ∷ σ₆ ∷ σ₇ ∷ []) (λ w. mean 𝓤 H A (After-close-see-mut-mut-mut-mut-mut 𝓤 H A W mem run C fm known-close κ θ γ β ι ν job κ₂ θ₂ γ₂ β₂ ι₂ ν₂ (x-m .1) κ₄ θ₄ γ₄ β₄ ι₄ ν₄ out κ₅ θ₅ γ₅ β₅ ι₅ ν₅ ids κ₆ θ₆ γ₆ β₆ ι₆ ν₆ map κ₇ θ₇ γ₇ β₇ ι₇ ν₇ log axes mode s m w))))) (close-see-mut-mut-mut-mut-mut 𝓤 H A W mem run C fm known-close κ θ γ β ι ν job κ₂ θ₂ γ₂ β₂ ι₂ ν₂ (x-m .1) κ₄ θ₄ γ₄ β₄ ι₄ ν₄ out κ₅ θ₅ γ₅ β₅ ι₅ ν₅ ids κ₆ θ₆ γ₆ β₆ ι₆ ν₆ map κ₇ θ₇ γ₇ β₇ ι₇ ν₇ log axes mode s m (e-m .0 .1) refl refl refl refl sized₂ sized₄ sized₅ sized₆ sized₇ g-axes g-mode (at-S s r-s g-s) (at-D m r-m g-m) (record { old = work; pairs = length pairs; mid = x-s .1; opened = e-s .1; joined = joined-at tb s e-tb (e-m .1 .0) })) $ await ! tt $
-          calls ! fm (After-close-see-mut-mut-mut-mut-mut 𝓤 H A W mem run C fm known-close κ θ γ β ι ν job κ₂ θ₂ γ₂ β₂ ι₂ ν₂ (x-m .1) κ₄ θ₄ γ₄ β₄ ι₄ ν₄ out κ₅ θ₅ γ₅ β₅ ι₅ ν₅ ids κ₆ θ₆ γ₆ β₆ ι₆ ν₆ map κ₇ θ₇ γ₇ β₇ ι₇ ν₇ log axes mode s m) (and-then ! (load ! (from ! (stop !)) (look ! 68 refl)) (and-then ! (load ! (from ! (stop !)) (look ! 66 refl)) (and-then ! (load ! (from ! (stop !)) (look ! 64 refl)) (and-then ! (load ! (from ! (stop !)) (look ! 26 refl)) (and-then ! (load ! (from ! (stop !)) (look ! 50 refl)) (and-then ! (load ! (from ! (stop !)) (look ! 48 refl)) (and-then ! (load ! (from ! (stop !)) (look ! 22 refl)) (and-then ! (load ! (from ! (stop !)) (look ! 18 refl)) (and-then ! (load ! (from ! (stop !)) (look ! 14 refl)) (and-then ! (load ! (from ! (stop !)) (look ! 10 refl)) (no-more !))))))))))) (λ r-b. await ! tt $ pick ! (λ b. pick ! (λ x-b. learn ! (λ e-b. split ! $ move ! (1 ∷ []) $ facts ! B.the-row (Is B.the-row) (shows 𝓤 H A B.the-row) b (r-b ∷ []) (λ g-b.
+          use1 W (later (raw (C #packer·close (σ ∷ σ₂ ∷ stage-mach s ∷ mach-merged m ∷ σ₄ ∷ σ₅ ∷ σ₆ ∷ σ₇ ∷ []) (λ w. mean 𝓤 H A (After-close-see-mut-mut-mut-mut-mut 𝓤 H A W mem run C fm known-close κ θ γ β ι ν job κ₂ θ₂ γ₂ β₂ ι₂ ν₂ (x-m .1) κ₄ θ₄ γ₄ β₄ ι₄ ν₄ out κ₅ θ₅ γ₅ β₅ ι₅ ν₅ ids κ₆ θ₆ γ₆ β₆ ι₆ ν₆ map κ₇ θ₇ γ₇ β₇ ι₇ ν₇ log s m w))))) (close-see-mut-mut-mut-mut-mut 𝓤 H A W mem run C fm known-close κ θ γ β ι ν job κ₂ θ₂ γ₂ β₂ ι₂ ν₂ (x-m .1) κ₄ θ₄ γ₄ β₄ ι₄ ν₄ out κ₅ θ₅ γ₅ β₅ ι₅ ν₅ ids κ₆ θ₆ γ₆ β₆ ι₆ ν₆ map κ₇ θ₇ γ₇ β₇ ι₇ ν₇ log s m (e-m .0 .1) refl refl refl refl sized₂ sized₄ sized₅ sized₆ sized₇ (at-S s r-s g-s) (at-D m r-m g-m) (record { axes = axes; mode = mode; old = work; pairs = length pairs; mid = x-s .1; opened = e-s .1; joined = joined-at tb s e-tb (e-m .1 .0) })) $ await ! tt $
+          calls ! fm (After-close-see-mut-mut-mut-mut-mut 𝓤 H A W mem run C fm known-close κ θ γ β ι ν job κ₂ θ₂ γ₂ β₂ ι₂ ν₂ (x-m .1) κ₄ θ₄ γ₄ β₄ ι₄ ν₄ out κ₅ θ₅ γ₅ β₅ ι₅ ν₅ ids κ₆ θ₆ γ₆ β₆ ι₆ ν₆ map κ₇ θ₇ γ₇ β₇ ι₇ ν₇ log s m) (and-then ! (load ! (from ! (stop !)) (look ! 64 refl)) (and-then ! (load ! (from ! (stop !)) (look ! 26 refl)) (and-then ! (load ! (from ! (stop !)) (look ! 50 refl)) (and-then ! (load ! (from ! (stop !)) (look ! 48 refl)) (and-then ! (load ! (from ! (stop !)) (look ! 22 refl)) (and-then ! (load ! (from ! (stop !)) (look ! 18 refl)) (and-then ! (load ! (from ! (stop !)) (look ! 14 refl)) (and-then ! (load ! (from ! (stop !)) (look ! 10 refl)) (no-more !))))))))) (λ r-b. await ! tt $ pick ! (λ b. pick ! (λ x-b. learn ! (λ e-b. split ! $ move ! (1 ∷ []) $ facts ! B.the-row (Is B.the-row) (shows 𝓤 H A B.the-row) b (r-b ∷ []) (λ g-b.
           land ! (from ! (stop !)) (init ! 46 refl (EL.lawful B.the-type B′.the-laws 𝓤 H A W tt .typed b _ g-b .0)) $
           rewrite ! 46 (λ (u : Val). ‵ (fat fullShare (B′.mir) l₁₂ 0 u)) (spelt-B b r-b g-b) refl $
           split ! $
@@ -285,7 +285,7 @@ module _ {M : Type 1} (𝓤 : URA M) (H : Heap 𝓤) (A : Atoms 𝓤) (W : Given
           forget ! 75 refl $ forget ! 73 refl $ forget ! 71 refl $ forget ! 69 refl $ forget ! 67 refl $ forget ! 65 refl $ forget ! 63 refl $ forget ! 61 refl $ forget ! 59 refl $ forget ! 57 refl $ forget ! 55 refl $ forget ! 53 refl $ forget ! 51 refl $ forget ! 49 refl $ forget ! 47 refl $ forget ! 45 refl $ forget ! 43 refl $ forget ! 41 refl $ forget ! 39 refl $ forget ! 37 refl $ forget ! 35 refl $ forget ! 33 refl $ forget ! 31 refl $ forget ! 29 refl $ forget ! 27 refl $ forget ! 25 refl $ forget ! 23 refl $ forget ! 21 refl $ forget ! 19 refl $ forget ! 17 refl $ forget ! 15 refl $ forget ! 13 refl $ forget ! 11 refl $ forget ! 9 refl $ forget ! 7 refl $
           move ! (75 ∷ 76 ∷ []) $ free1 ! $ move ! (73 ∷ 74 ∷ []) $ free1 ! $ move ! (71 ∷ 72 ∷ []) $ free1 ! $ move ! (69 ∷ 70 ∷ []) $ free1 ! $ move ! (67 ∷ 68 ∷ []) $ free1 ! $ move ! (65 ∷ 66 ∷ []) $ free1 ! $ move ! (63 ∷ 64 ∷ []) $ free1 ! $ move ! (61 ∷ 62 ∷ []) $ free1 ! $ move ! (59 ∷ 60 ∷ []) $ free1 ! $ move ! (57 ∷ 58 ∷ []) $ free1 ! $ move ! (55 ∷ 56 ∷ []) $ free1 ! $ move ! (53 ∷ 54 ∷ []) $ free1 ! $ move ! (51 ∷ 52 ∷ []) $ free1 ! $ move ! (49 ∷ 50 ∷ []) $ free1 ! $ move ! (47 ∷ 48 ∷ []) $ free1 ! $ move ! (45 ∷ 46 ∷ []) $ free1 ! $ move ! (43 ∷ 44 ∷ []) $ free1 ! $ move ! (41 ∷ 42 ∷ []) $ free1 ! $ move ! (39 ∷ 40 ∷ []) $ free1 ! $ move ! (37 ∷ 38 ∷ []) $ free1 ! $ move ! (35 ∷ 36 ∷ []) $ free1 ! $ move ! (33 ∷ 34 ∷ []) $ free1 ! $ move ! (31 ∷ 32 ∷ []) $ free1 ! $ move ! (29 ∷ 30 ∷ []) $ free1 ! $ move ! (27 ∷ 28 ∷ []) $ free1 ! $ move ! (25 ∷ 26 ∷ []) $ free1 ! $ move ! (23 ∷ 24 ∷ []) $ free1 ! $ move ! (21 ∷ 22 ∷ []) $ free1 ! $ move ! (19 ∷ 20 ∷ []) $ free1 ! $ move ! (17 ∷ 18 ∷ []) $ free1 ! $ move ! (15 ∷ 16 ∷ []) $ free1 ! $ move ! (13 ∷ 14 ∷ []) $ free1 ! $ move ! (11 ∷ 12 ∷ []) $ free1 ! $ move ! (9 ∷ 10 ∷ []) $ free1 ! $ move ! (7 ∷ 8 ∷ []) $ free1 ! $ free0 ! $
           move ! (6 ∷ 5 ∷ 0 ∷ 4 ∷ 3 ∷ 1 ∷ 2 ∷ []) $
-          by ! (exits (x-b .1 .0) (e-b .0 .1 .0) zs (e-zs .0) (x-b .1 .1 .0) (e-b .0 .1 .1 .0) (x-b .1 .1 .1 .0) (e-b .0 .1 .1 .1 .0) (x-b .1 .1 .1 .1 .0) (e-b .0 .1 .1 .1 .1 .0) (x-b .1 .1 .1 .1 .1) (e-b .0 .1 .1 .1 .1 .1) b (at-B b r-b g-b) (obeys axes mode job work pairs b (buffers out ids map log) (buffers _ _ _ _) _ zs (e-b .1 work (length pairs) (x-s .1) (e-s .1) (joined-at tb s e-tb (e-m .1 .0))) (pairs-left pairs (x-m .0) zs (e-s .1) e-n (e-m .0 .0) (pairs-idle tb e-tb (e-s .1) (e-m .0 .0) (e-m .1 .1)) (e-zs .1))))))))))))))))))))))))))))))))
+          by ! (exits (x-b .1 .0) (e-b .0 .1 .0) zs (e-zs .0) (x-b .1 .1 .0) (e-b .0 .1 .1 .0) (x-b .1 .1 .1 .0) (e-b .0 .1 .1 .1 .0) (x-b .1 .1 .1 .1 .0) (e-b .0 .1 .1 .1 .1 .0) (x-b .1 .1 .1 .1 .1) (e-b .0 .1 .1 .1 .1 .1) b (at-B b r-b g-b) (obeys axes mode job work pairs b (buffers out ids map log) (buffers _ _ _ _) _ zs (e-b .1 axes mode work (length pairs) (x-s .1) (e-s .1) (joined-at tb s e-tb (e-m .1 .0))) (pairs-left pairs (x-m .0) zs (e-s .1) e-n (e-m .0 .0) (pairs-idle tb e-tb (e-s .1) (e-m .0 .0) (e-m .1 .1)) (e-zs .1))))))))))))))))))))))))))))))))
 
     walk : ent 𝓤 (onEntry 𝓤 H A build.signature (κ, (κ₂, (κ₃, (κ₄, (κ₅, (κ₆, (κ₇, tt))))))) (θ, (θ₂, (θ₃, (θ₄, (θ₅, (θ₆, (θ₇, tt))))))) (bound .0 .3) (bound .0 .4)) (WpFn 𝓤 H C Λ code.function (vint w32 axes ∷ vint w32 mode ∷ σ ∷ σ₂ ∷ σ₃ ∷ σ₄ ∷ σ₅ ∷ σ₆ ∷ σ₇ ∷ []) Post)
     walk =

@@ -5,18 +5,16 @@ use Rattle.packer.proofs.closing.close.Statement.{statement}
 use Rattle.packer.proofs.closing.close.Tie as tie
 use Rattle.packer.proofs.closing.close.Reads as reads
 use Rattle.packer.proofs.closing.close.Lts as lts
-use Rattle.packer.proofs.closing.pack_sets.Reads as pack-sets-reads
 use Rattle.job.proofs.clear_work.Reads as clear-work-reads
-use Rattle.laws.proofs.wide.Reads as wide-reads
+use Rattle.packer.proofs.closing.pack_sets.Reads as pack-sets-reads
 
 returns : tie.Need-returns
-returns c = λ old pairs mid p j. close-early old pairs mid p j (c .if1 .taken) _
-
-wide-requires : tie.Need-wide-requires
-wide-requires c κs = search needs
+returns c = λ axes mode old pairs mid p j. close-early old pairs mid p j (c .if1 .taken) _
 
 pack-sets-requires : tie.Need-pack-sets-requires
-pack-sets-requires c κs = close-settle (c .before .before .before .before .before .before .before .before .before .before .before .before .before .pre .old) (c .before .before .before .before .before .before .before .before .before .before .before .before .before .pre .pairs) (c .before .before .before .before .before .before .before .before .before .before .before .before .before .pre .mid) (c .before .before .before .before .before .before .before .before .before .before .before .before .before .pre .opened) (c .before .before .before .before .before .before .before .before .before .before .before .before .before .pre .joined) (c .before .before .before .before .before .before .if1 .left) _ (c .before .before .before .before .before .wide .ensures)
+pack-sets-requires c κs =
+    let q = c .before .before .before .before .before .before .before .before .before .before .before .before .pre in
+    close-settle (q .old) (q .pairs) (q .mid) (q .opened) (q .joined) (c .before .before .before .before .before .if1 .left)
 
 clear-work-requires : tie.Need-clear-work-requires
 clear-work-requires c κs = search needs
@@ -37,14 +35,13 @@ same-length-5 : tie.Need-same-length-5
 same-length-5 c = search needs
 
 returns-2 : tie.Need-returns-2
-returns-2 c = λ old pairs mid p j. close-late old pairs mid p j (c .before .before .before .before .before .before .before .before .before .before .before .before .before .before .before .before .before .before .before .before .before .if1 .left) _ (c .before .before .before .before .before .before .before .before .before .before .before .before .before .before .before .before .before .before .before .before .wide .ensures) _ _ _ (c .before .before .before .before .before .before .before .before .before .before .before .before .before .before .pack-sets .ensures) _ (c .before .before .before .before .before .before .before .before .before .before .before .before .before .before .pack-sets .kept .1 .1 .1 .0) _ (c .before .before .clear-work .ensures)
+returns-2 c = λ axes mode old pairs mid p j. close-late old pairs mid p j (c .before .before .before .before .before .before .before .before .before .before .before .before .before .before .before .before .before .before .before .before .if1 .left) _ _ _ (c .before .before .before .before .before .before .before .before .before .before .before .before .before .before .pack-sets .ensures) _ (c .before .before .before .before .before .before .before .before .before .before .before .before .before .before .pack-sets .kept .1 .0) _ (c .before .before .clear-work .ensures)
 
 pub close-spec : {M : Type 1} → statement M
 close-spec =
     tie.close
     (tie.spec
     returns
-    wide-requires
     pack-sets-requires
     clear-work-requires
     same-length

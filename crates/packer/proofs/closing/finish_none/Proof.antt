@@ -6,7 +6,7 @@ use Rattle.packer.proofs.closing.finish_none.Tie as tie
 use Rattle.packer.proofs.closing.finish_none.Reads as reads
 use Rattle.packer.proofs.closing.finish_none.Lts as lts
 use Rattle.finishing.proofs.finish.Reads as finish-reads
-use Rattle.packer.proofs.opening.nowhere.Reads as nowhere-reads
+use Rattle.packer.proofs.arranging.null_packing.Reads as null-packing-reads
 
 array-write-null : tie.Need-array-write-null
 array-write-null c = search needs
@@ -14,11 +14,11 @@ array-write-null c = search needs
 slice-aggregate-finish : tie.Need-slice-aggregate-finish
 slice-aggregate-finish c = search needs
 
-nowhere-requires : tie.Need-nowhere-requires
-nowhere-requires c κs = search needs
+null-packing-requires : tie.Need-null-packing-requires
+null-packing-requires c κs = search needs
 
 finish-requires : tie.Need-finish-requires
-finish-requires c κs = none-fit _ _ _ (c .before .before .before .before .nowhere .ensures) (c .before .before .before .before .before .before .before .before .before .before .before .pre)
+finish-requires c κs = none-fit _ _ (c .before .before .before .before .null-packing .ensures) _ (c .before .before .before .before .before .before .before .before .before .before .before .pre)
 
 same-length : tie.Need-same-length
 same-length c = search needs
@@ -33,7 +33,7 @@ same-length-4 : tie.Need-same-length-4
 same-length-4 c = search needs
 
 returns : tie.Need-returns
-returns c = none-done _ _ _ (c .before .before .before .before .before .before .before .before .before .before .before .before .before .before .nowhere .ensures) _ _ _ (c .before .before .before .before .before .before .before .before .before .finish .ensures)
+returns c = none-done _ _ (c .before .before .before .before .before .before .before .before .before .before .before .before .before .before .null-packing .ensures) _ _ _ _ (c .before .before .before .before .before .before .before .before .before .finish .ensures)
 
 pub finish-none-spec : {M : Type 1} → statement M
 finish-none-spec =
@@ -41,7 +41,7 @@ finish-none-spec =
     (tie.spec
     array-write-null
     slice-aggregate-finish
-    nowhere-requires
+    null-packing-requires
     finish-requires
     same-length
     same-length-2

@@ -1,0 +1,33 @@
+use native.Mathlib.Omega.{arith}
+use Rattle.finishing.proofs.WordsLaws.{groups-to, handed, small}
+use Rattle.finishing.proofs.FinishLaws.{measured-as}
+use borrow.Author.Needs.{needs}
+use Rattle.finishing.proofs.measuring.measure.Statement.{statement}
+use Rattle.finishing.proofs.measuring.measure.Tie as tie
+use Rattle.finishing.proofs.measuring.measure.Reads as reads
+use Rattle.finishing.proofs.measuring.measure.Lts as lts
+use Rattle.finishing.proofs.measuring.report.Reads as report-reads
+use Rattle.planning.proofs.draft.Reads as draft-reads
+
+draft-requires : tie.Need-draft-requires
+draft-requires c κs =
+    let q = c .before .before .before .before .before .before .before .pre in
+    let f = q .1 .0 in
+    let k = f .packed in
+    (q .0, (k .regions-few, (k .finals-few, (groups-to f, (handed f, (small f, (omega (arith, k .regions-few, q .1 .1 .0), omega (arith, k .regions-few, q .1 .1 .1))))))))
+
+report-requires : tie.Need-report-requires
+report-requires c κs = search needs
+
+same-length : tie.Need-same-length
+same-length c = search needs
+
+same-length-2 : tie.Need-same-length-2
+same-length-2 c = search needs
+
+returns : tie.Need-returns
+returns c = measured-as _ _ _ _ _ _ _ _ (c .report .ensures) (c .before .before .before .before .before .draft .ensures)
+
+pub measure-spec : {M : Type 1} → statement M
+measure-spec =
+    tie.close (tie.spec draft-requires report-requires same-length same-length-2 returns)
