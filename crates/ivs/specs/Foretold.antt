@@ -13,7 +13,7 @@ use Rattle.finishing.specs.Late.{storeFor}
 use Rattle.packer.specs.Lending.{Lending, lending}
 use Rattle.packer.specs.Build.{coordsInUse, packedOf, outcomeOf, answerOf}
 use Rattle.packer.specs.Foretold.{foretold}
-use Rattle.ivs.specs.Counts.{endRecords}
+use Rattle.refusing.specs.Counts.{endRecords}
 
 -- ---- the forecast is exact
 

@@ -18,7 +18,7 @@ use Rattle.widths.specs.Reading.{storeAt, readWidth}
 use Rattle.finishing.specs.declared.answers.Report.{Report}
 use Rattle.packer.specs.Lending.{Lending}
 use Rattle.packer.specs.Build.{after}
-use Rattle.ivs.specs.Counts.{endRecords}
+use Rattle.refusing.specs.Counts.{endRecords}
 use Rattle.ivs.specs.SetsRead.{listed, namedBy, valueAt, InStore}
 
 -- the store of a table: what stands from its offset on
