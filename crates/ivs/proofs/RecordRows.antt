@@ -56,13 +56,13 @@ module _ (c : Lending) (i : ℕ) where
 
   -- the records before i pass
   passes : {Why : Type 0} → EarliestBad c i Why → (s : State) × Passed (c .axes) (c .mode) (c .job) i s
-  passes b = fine-passed (c .axes) (c .mode) (c .job) i (b .before-fine)
+  passes b = let l = b .within in fine-passed (c .axes) (c .mode) (c .job) i (λ j h. b .before-fine j (omega arith))
 
   earliest-at : (n : ℕ) (Why : Type 0) (a : Fits c × StopsAt (c .axes) (c .mode) (c .job) records n i) → Why → EarliestBad c i Why
   earliest-at n Why a w = record {
     fits = a .0;
     within = a .1 .within;
-    before-fine = passed-fine (c .axes) (c .mode) (c .job) i (a .1 .state) (a .1 .before-pass);
+    before-fine = λ j h. passed-fine (c .axes) (c .mode) (c .job) i (a .1 .state) (a .1 .before-pass) j (omega arith);
     why = w;
   }
 
