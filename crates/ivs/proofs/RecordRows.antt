@@ -1,7 +1,7 @@
 -- Rows 30 to 34, 6, 7 and 9 of the refusal table, each exactly where it says, at the record's number, 31 with its byte; and the earliest bad record
 -- decides. Assumes nothing.
 use mathlib.Core.Path.{_≡_, refl, sym, ap, subst, _∙_}
-use mathlib.Core.Logic.{_⊎_, inl, inr}
+use mathlib.Core.Logic.{inl, inr}
 use Prim.Native.Nat.{ℕ, _/_, _≤_, _<_}
 use native.Mathlib.Omega.{arith}
 use lib.ListN.{length}
