@@ -1,4 +1,7 @@
 -- D1 (specs/Demand1.antt), of every call. Assumes nothing.
+use mathlib.Core.Logic.{_⊎_, inl, inr, ⊎-elim}
+use Prim.Native.Nat.{_≤_}
+use native.Mathlib.Omega.{arith}
 use Rattle.packer.specs.Lending.{Lending}
 use Rattle.ivs.specs.Demand1.{Table, Kept, Demand1}
 use Rattle.ivs.proofs.Unique.{unique}
@@ -32,7 +35,7 @@ module _ (c : Lending) where
     log-short = log-short c;
     out-short = out-short c;
     is-done = is-done c;
-    numbers = numbers c;
+    numbers = λ n p e. let h = numbers c n p e in (h .0, h .1, ⊎-elim (λ (l : n ≤ 14). inl (omega arith)) inr (h .2));
     byte-elsewhere = λ n p. byte-elsewhere c p n;
     taken = taken c;
     earliest = earliest-bad c;

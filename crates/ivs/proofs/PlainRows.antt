@@ -1,7 +1,7 @@
 -- Mode 1, by the job's bytes and the lent memory (specs/Plain.antt). Assumes nothing.
 use mathlib.Core.Path.{_≡_, sym, subst, _∙_}
 use mathlib.Core.Bool.{true, not, _&&_}
-use mathlib.Core.List.{List, [], _∷_}
+use mathlib.Core.List.{List, []}
 use Prim.Native.Nat.{ℕ, zero, suc, _/_, _≤_}
 use native.Mathlib.Omega.{arith}
 use lib.ListN.{length}

@@ -1,7 +1,7 @@
 -- Rows 30 to 34, 6, 7 and 9 of the refusal table, each exactly where it says, at the record's number, 31 with its byte; and the earliest bad record
 -- decides. Assumes nothing.
 use mathlib.Core.Path.{_≡_, refl, sym, ap, subst, _∙_}
-use mathlib.Core.Logic.{_⊎_, inl, inr}
+use mathlib.Core.Logic.{inl, inr}
 use Prim.Native.Nat.{ℕ, _/_, _≤_, _<_}
 use native.Mathlib.Omega.{arith}
 use lib.ListN.{length}
@@ -56,13 +56,13 @@ module _ (c : Lending) (i : ℕ) where
 
   -- the records before i pass
   passes : {Why : Type 0} → EarliestBad c i Why → (s : State) × Passed (c .axes) (c .mode) (c .job) i s
-  passes b = fine-passed (c .axes) (c .mode) (c .job) i (b .before-fine)
+  passes b = let l = b .within in fine-passed (c .axes) (c .mode) (c .job) i (λ j h. b .before-fine j (omega arith))
 
   earliest-at : (n : ℕ) (Why : Type 0) (a : Fits c × StopsAt (c .axes) (c .mode) (c .job) records n i) → Why → EarliestBad c i Why
   earliest-at n Why a w = record {
     fits = a .0;
     within = a .1 .within;
-    before-fine = passed-fine (c .axes) (c .mode) (c .job) i (a .1 .state) (a .1 .before-pass);
+    before-fine = λ j h. passed-fine (c .axes) (c .mode) (c .job) i (a .1 .state) (a .1 .before-pass) j (omega arith);
     why = w;
   }
 

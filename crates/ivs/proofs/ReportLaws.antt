@@ -3,7 +3,7 @@ use mathlib.Core.Path.{_≡_, refl, sym, ap, _∙_}
 use mathlib.Core.List.{List, [], _∷_, _++_, append-nil}
 use Prim.Native.Nat.{ℕ, suc, _+_, _<_}
 use native.Mathlib.Omega.{arith}
-use lib.ListN.{length, set, take, length-set}
+use lib.ListN.{length, getD, set, take, length-set}
 use lib.Seq.{take-all, take-suc-set, append-snoc}
 use Rattle.said.specs.Records.{mustBeZero, firstNotZero, wrongByte}
 use Rattle.said.specs.Refusals.{notZero, byteOf}
@@ -31,6 +31,12 @@ words-sixteen : (job : List ℕ) (b : Built) → length (reportWords job b) ≡ 
 unfolding reportWords refusedWords doneWords
 words-sixteen job (built.Refused n at) = refl
 words-sixteen job (built.Done d) = refl
+
+-- word 12 is the byte
+pub word-twelve : (job : List ℕ) (b : Built) → getD (reportWords job b) 12 0 ≡ byteTold job b
+unfolding reportWords refusedWords doneWords byteTold
+word-twelve job (built.Refused n at) = refl
+word-twelve job (built.Done d) = refl
 
 -- a value record whose last byte is 1 is refused by 31, and the report says byte 11
 worked : reportWords (2 ∷ 0 ∷ 0 ∷ 0 ∷ 0 ∷ 0 ∷ 0 ∷ 5 ∷ 0 ∷ 0 ∷ 0 ∷ 1 ∷ []) (built.Refused notZero 0) ≡ 31 ∷ 0 ∷ 0 ∷ 0 ∷ 0 ∷ 0 ∷ 0 ∷ 0 ∷ 0 ∷ 0 ∷ 0 ∷ 0 ∷ 11 ∷ 0 ∷ 0 ∷ 0 ∷ []

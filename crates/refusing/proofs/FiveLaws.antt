@@ -1,7 +1,7 @@
 -- R30 to R34 are together what was refused by 5 BAD_RECORD (specs/BadRecord.antt): of any record of any job, by their words; and so the walk stops by
 -- one of the five exactly where it stopped by 5. Assumes nothing.
 use mathlib.Core.Path.{_≡_, refl, sym, ap, subst, _∙_}
-use mathlib.Core.Bool.{true, false, _||_}
+use mathlib.Core.Bool.{true}
 use mathlib.Core.List.{List, [], _∷_, _++_}
 use mathlib.Core.Logic.{_⊎_, inl, inr, ⊎-elim}
 use Prim.Native.Nat.{ℕ, zero, suc, _+_, _-_, _/_, _%_, _≤_, _<_}
@@ -16,7 +16,7 @@ use Rattle.said.specs.Sets.{has}
 use Rattle.said.specs.Job.{State, stop, step}
 use Rattle.told.proofs.WordLaws.{count-most}
 use Rattle.refusing.specs.Exactly.{Exactly}
-use Rattle.refusing.specs.Counts.{axisRecords, MustBeZero, AllZero, UnknownKind, NotZeroAt, InTurn, OutOfTurn, TooLate, InUnfinished}
+use Rattle.refusing.specs.Counts.{axisRecords, MustBeZero, AllZero, InTurn, OutOfTurn}
 use Rattle.refusing.specs.BadRecord.{NotZero, BadRecord, OneOfFive, FineBefore}
 use Rattle.refusing.specs.BadRecord.BadRecord.{unknown-kind, axis-zero, value-zero, end-zero, axis-order, axis-late, in-region}
 use Rattle.refusing.specs.BadRecord.OneOfFive.{by-kind, by-byte, by-turn, by-late, by-region}

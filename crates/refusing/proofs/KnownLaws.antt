@@ -13,7 +13,6 @@ use Rattle.said.specs.Job.{State, saidAt, axesBefore, isLate}
 use Rattle.said.proofs.RecordLaws.{form-passed}
 use Rattle.said.proofs.MeaningLaws.{first-equal, equal-first}
 use Rattle.said.proofs.SaidLaws.{value-known}
-use Rattle.told.specs.Told.{countKind}
 use Rattle.told.proofs.WordLaws.{count-here, count-past, count-most}
 use Rattle.refusing.specs.Exactly.{Exactly}
 use Rattle.refusing.specs.Counts.{knownRegions, NamedBefore, axisRecords}

@@ -8,14 +8,14 @@ use native.Mathlib.Omega.{arith}
 use lib.ListN.{length}
 use Rattle.laws.proofs.Cases.{Which, which, true-false}
 use Rattle.laws.proofs.Cases.Which.{holds, fails}
-use Rattle.said.specs.Records.{kind, regionOf, axisOf, wrongByte, recordAt}
+use Rattle.said.specs.Records.{kind, regionOf, wrongByte, recordAt}
 use Rattle.said.specs.Refusals.{notZero, byteOf, inTurn}
 use Rattle.said.specs.Sets.{Region, firstLike}
 use Rattle.said.specs.Job.{Said, State, stop, saidAt, axesBefore, isLate, valueStep, endStep, step}
 use Rattle.refusing.specs.Exactly.{Exactly}
 use Rattle.refusing.specs.Counts.{axisRecords, knownRegions, AllZero, UnknownKind, NotZeroAt, InTurn, OutOfTurn, TooLate, InUnfinished, ValueHere, UnknownRegion, RegionTwice, SetsFull}
 use Rattle.refusing.proofs.Passing.{Passed}
-use Rattle.refusing.proofs.StepLaws.{Looks, looks, formTold, form-stops, form-only, valueTold, value-only, value-stops, endTold, end-only, end-stops}
+use Rattle.refusing.proofs.StepLaws.{Looks, looks, formTold, form-stops, form-only, value-only, value-stops, end-only, end-stops}
 use Rattle.refusing.proofs.StepLaws.Looks.{bad, axis, value, set-end}
 use Rattle.refusing.proofs.StateLaws.{NamedAt, Means, before-is, late-is}
 use Rattle.refusing.proofs.KnownLaws.{named-before}

@@ -11,7 +11,7 @@ use borrow.Author.Tests.{eq-eqb, ne-eqb, eqb-true}
 use Rattle.laws.proofs.Cases.{lt-or-ge, or-left, or-right, or-cases, true-false}
 use Rattle.said.specs.Records.{kind, regionOf, valueWord, recordAt}
 use Rattle.said.specs.Sets.{Region, regionList, firstLike, has}
-use Rattle.said.specs.Job.{Said, State, inAxes, inSets, Step, stop, on, unless, afterValue, afterEnd, valueStep, endStep, regionsOnly, saidAt, axesBefore, isLate, step}
+use Rattle.said.specs.Job.{Said, State, inAxes, inSets, on, unless, afterValue, afterEnd, valueStep, endStep, regionsOnly, saidAt, axesBefore, isLate, step}
 use Rattle.said.proofs.RecordLaws.{Formed, form-passed}
 use Rattle.said.proofs.StepLaws.{regions-from}
 use Rattle.said.proofs.SaidLaws.{value-known}

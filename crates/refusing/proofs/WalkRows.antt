@@ -8,7 +8,7 @@ use native.Mathlib.Numerals.{add-one}
 use native.Mathlib.Omega.{arith}
 use lib.Seq.{drop-drop}
 use Rattle.said.specs.Records.{recordAt}
-use Rattle.said.specs.Job.{State, inAxes, Step, stop, on, step, Outcome, refused, ended, follow, recordsFrom, Said, inSets, fine, endedSets}
+use Rattle.said.specs.Job.{State, inAxes, Step, stop, on, step, Outcome, refused, ended, follow, recordsFrom}
 use Rattle.refusing.proofs.Passing.{Passed, StopsAt, EndsAs}
 
 module _ (axes mode : ℕ) (job : List ℕ) where

@@ -2,7 +2,7 @@
 use mathlib.Core.List.{List}
 use Prim.Native.Nat.{ℕ, _<_}
 use Rattle.said.specs.Records.{recordAt}
-use Rattle.refusing.specs.Counts.{AllZero, UnknownKind, NotZeroAt, OutOfTurn, TooLate, InUnfinished, UnknownRegion, RegionTwice, SetsFull}
+use Rattle.refusing.specs.Counts.{UnknownKind, NotZeroAt, OutOfTurn, TooLate, InUnfinished, UnknownRegion, RegionTwice, SetsFull}
 
 pub record Fine (axes mode : ℕ) (job : List ℕ) (i : ℕ) : Type 0 where
   pub kind-known : UnknownKind (recordAt job i) → ⊥
