@@ -27,6 +27,11 @@ use Rattle.encoder.specs.Packed.{noLater, dense}
 
 -- ---- ids
 
+-- the ids in the order of rows are ids
+pub dense-below : (all : List Set) → All (λ x. x < length all) (dense all)
+unfolding dense
+dense-below all = sorted-all (noLater all) (λ x. x < length all) (upTo (length all)) (up-all (length all))
+
 -- the set of an id is the set that has it
 pub set-of-id : (all : List Set) (x : ℕ) → x < length all → getD (distinct all) (getD (sharedIds all) x 0) [] ≡ getD all x []
 set-of-id all x h =

@@ -6,7 +6,7 @@ use mathlib.Core.List.{List, [], _∷_, map, List·Memᴰ, List·Memᴰ·head, L
 use Prim.Native.Nat.{ℕ, zero, _+_, _^_, _≤_, _<_}
 use native.Mathlib.Omega.{arith}
 use lib.Dec.{eqb}
-use borrow.Author.Tests.{eq-eqb, ne-eqb}
+use borrow.Author.Tests.{eq-eqb}
 use lib.ListN.{length, getD, replicate, length-map, length-replicate, getD-replicate, List·getD-eq-default}
 use Rattle.laws.specs.Pick.{pick}
 use Rattle.laws.specs.Every.{All, EachTwo}
@@ -32,6 +32,7 @@ use Rattle.shapes.proofs.WidthLaws.{word-none, cost-most}
 use Rattle.shapes.proofs.ShapeLaws.{join-at}
 use Rattle.sets.specs.Set.{Set, Proper, wordOf}
 use Rattle.sets.specs.Ids.{distinct}
+use Rattle.sets.proofs.SetLaws.{word-past}
 use Rattle.sets.proofs.IdLaws.{distinct-all}
 use Rattle.groups.specs.Groups.{shapeOf, groupsOf}
 use Rattle.groups.specs.Cover.{coverFrom, coverOf}
@@ -43,6 +44,7 @@ use Rattle.rule.proofs.Origins.{times, homes, one-home, no-home, joinOf, Made, 
 use Rattle.rows.specs.Row.{wordIn, Widths, Covers}
 use Rattle.store.specs.Placing.{Final}
 use Rattle.encoder.specs.Packed.{Packed, noLater, dense, numberOf, belongs, finalOf, isAhead, finalsOf, shared, own}
+use Rattle.encoder.proofs.DenseIds.{dense-below}
 use Rattle.encoder.proofs.NumberLaws.{number-at, among-mem, among, mem-sorted}
 use Rattle.encoder.proofs.LivingLaws.{sorted-each, two-map}
 use Rattle.limits.specs.Limits.{maxShapes}
@@ -74,11 +76,6 @@ pub word-same : (s : Set) (r : ℕ) → wordIn s r ≡ wordOf s r
 unfolding wordIn wordOf
 word-same [] r = refl
 word-same (e ∷ s) r = ap (pick (eqb (e .0) r) (e .1)) (word-same s r)
-
-word-past : (regions : ℕ) (s : Set) (r : ℕ) → Proper regions s → regions ≤ r → wordOf s r ≡ zeroWord
-unfolding wordOf
-word-past regions [] r p h = refl
-word-past regions (e ∷ s) r p h = let below = p .0 .1 in rw (ne-eqb (e .0) r (omega arith)) (word-past regions s r (p .1) h)
 
 word-low : (s : Set) (r : ℕ) → Words s → wordOf s r < 256 ^ 4
 unfolding wordOf
@@ -131,7 +128,7 @@ covers-of regions s t p low h = record {
   word = λ r. rw (word-same s r) (word-low s r low);
   holds = λ r. rw (word-same s r) (⊎-elim
       (λ (l : r < regions). omega (arith, shape-at regions s r l, h r))
-      (λ l. omega (arith, cost-zero (wordOf s r) (word-past regions s r p l)))
+      (λ l. omega (arith, cost-zero (wordOf s r) (word-past regions r s p l)))
       (lt-or-ge r regions));
 }
 
@@ -290,10 +287,6 @@ module _ (regions : ℕ) (jobs : List Set) (proper : All (Proper regions) jobs) 
 
   -- ---- their sets
 
-  dense-below : All (λ x. x < length sets) (dense sets)
-  unfolding dense
-  dense-below = sorted-all (noLater sets) (λ x. x < length sets) (upTo (length sets)) (up-all (length sets))
-
   dense-has : (x : ℕ) → x < length sets → List·Memᴰ x (dense sets)
   unfolding dense
   dense-has x h = mem-sorted (noLater sets) (upTo (length sets)) x (up-has (length sets) x h)
@@ -315,7 +308,7 @@ module _ (regions : ℕ) (jobs : List Set) (proper : All (Proper regions) jobs) 
 
   ids-covered : (g : Living) → Made groups g → All (λ x. (x < length sets) × Covers (g .group .shape) (getD sets x [])) (ids g)
   ids-covered g m = all-imp (λ x h. (h .0, holds-at g m x (h .0) (h .1))) (ids g)
-      (all-and (λ x. x < length sets) (λ x. belong g x ≡ true) (ids g) (keep-all (belong g) (λ x. x < length sets) (dense sets) dense-below) (keep-passes (belong g) (dense sets)))
+      (all-and (λ x. x < length sets) (λ x. belong g x ≡ true) (ids g) (keep-all (belong g) (λ x. x < length sets) (dense sets) (dense-below sets)) (keep-passes (belong g) (dense sets)))
 
   ids-cross : (g h : Living) → Apart g h → Cross (λ x y. x ≡ y → ⊥) (ids g) (ids h)
   ids-cross g h a = all-imp

@@ -14,7 +14,6 @@ use Rattle.laws.specs.Sorting.{sorted}
 use Rattle.laws.proofs.Cases.{Which, which}
 use Rattle.laws.proofs.Cases.Which.{holds, fails}
 use Rattle.laws.proofs.EveryLaws.{all, all-map, all-unmap}
-use Rattle.laws.proofs.SortLaws.{sorted-all}
 use Rattle.laws.proofs.SortMap.{keep-all}
 use Rattle.laws.proofs.UpLaws.{up-long, up-all}
 use Rattle.sets.specs.Set.{Set}
@@ -24,8 +23,8 @@ use Rattle.rule.specs.Model.{Living, merged}
 use Rattle.rule.specs.Told.{words}
 use Rattle.store.specs.Placing.{Final, allRuns, idWords, stored}
 use Rattle.said.specs.Job.{Said}
-use Rattle.encoder.specs.Packed.{Packed, noLater, dense, belongs, finalOf, isAhead, finalsOf, shared, own}
-use Rattle.encoder.proofs.DenseIds.{ids-length}
+use Rattle.encoder.specs.Packed.{Packed, dense, belongs, finalOf, isAhead, finalsOf, shared, own}
+use Rattle.encoder.proofs.DenseIds.{dense-below, ids-length}
 use Rattle.finishing.specs.declared.answers.Report.{Report}
 use Rattle.finishing.specs.Late.{reportOf}
 use Rattle.rule.proofs.Theorems.{words-length}
@@ -51,10 +50,6 @@ past-stored n (e ∷ l) m h = past-stored n l (set m (e .0) (e .1)) (h .1) ∙ d
 
 abbrev Below : Packed → Type 0
 Below k = All (λ (g : Final). All (λ x. x < length (k .sets)) (g .ids)) (k .finals)
-
-dense-below : (jobs : List Set) → All (λ x. x < length jobs) (dense jobs)
-unfolding dense
-dense-below jobs = sorted-all (noLater jobs) (λ x. x < length jobs) (upTo (length jobs)) (up-all (length jobs))
 
 shared-below : (regions : ℕ) (jobs : List Set) → Below (shared regions jobs)
 unfolding shared finalsOf finalOf

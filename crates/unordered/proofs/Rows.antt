@@ -15,7 +15,7 @@ use Rattle.laws.proofs.BagLaws.{bag-length}
 use Rattle.laws.proofs.ListLaws.{getD-map-in, map-map, map-same, map-self}
 use Rattle.laws.proofs.SortLaws.{sorted-all, keep-same}
 use Rattle.laws.proofs.SortMap.{sorted-map, keep-map, keep-all}
-use Rattle.laws.proofs.UpLaws.{up-long, up-at, up-all}
+use Rattle.laws.proofs.UpLaws.{up-long, up-at}
 use Rattle.shapes.specs.Group.{Group}
 use Rattle.sets.specs.Set.{Set}
 use Rattle.sets.specs.Ids.{place, distinct}
@@ -25,6 +25,7 @@ use Rattle.groups.specs.Groups.{groupsOf}
 use Rattle.store.specs.Placing.{Final}
 use Rattle.encoder.specs.Packed.{Packed, noLater, dense, belongs, finalOf, isAhead, finalsOf, shared}
 use Rattle.encoder.specs.Lent.{relabel}
+use Rattle.encoder.proofs.DenseIds.{dense-below}
 use Rattle.encoder.proofs.NumberLaws.{mem-at}
 use Rattle.unordered.proofs.Alike.{notLater, line, Fine, place-own, distinct-differ, distinct-in, line-same, distinct-bag}
 use Rattle.unordered.proofs.Groups.{groups-same}
@@ -48,17 +49,13 @@ module _ (l : List Set) (differ : EachTwo (λ x y. x ≡ y → ⊥) l) where
   here-all = sorted-all notLater (λ z. getD l (place z l) [] ≡ z) l
       (all-intro (λ z. getD l (place z l) [] ≡ z) l [] (λ k h. ap (λ (i : ℕ). getD l i []) (place-own l differ k h)))
 
-  dense-below : All (λ x. x < length l) (dense l)
-  unfolding dense
-  dense-below = sorted-all (noLater l) (λ x. x < length l) (upTo (length l)) (up-all (length l))
-
   dense-sets : sorted notLater l ≡ map (λ x. getD l x []) (dense l)
   unfolding dense noLater
   dense-sets = ap (sorted notLater) (sym (map-up l)) ∙ sorted-map (λ x. getD l x []) notLater (upTo (length l))
 
   dense-places : dense l ≡ map (λ z. place z l) (sorted notLater l)
   dense-places =
-      sym (map-self (λ x. place (getD l x []) l) (dense l) (all-imp (λ x h. place-own l differ x h) (dense l) dense-below))
+      sym (map-self (λ x. place (getD l x []) l) (dense l) (all-imp (λ x h. place-own l differ x h) (dense l) (dense-below l)))
       ∙ sym (map-map (λ z. place z l) (λ x. getD l x []) (dense l))
       ∙ ap (map (λ z. place z l)) (sym dense-sets)
 
