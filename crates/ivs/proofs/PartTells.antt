@@ -1,13 +1,13 @@
 -- Where two sets part, taken apart into numbers. Assumes nothing.
-use mathlib.Core.Path.{_≡_, refl, sym, ap, subst, _∙_}
+use mathlib.Core.Path.{_≡_, refl, sym, subst}
 use mathlib.Core.Bool.{Bool, true, false, _&&_}
-use mathlib.Core.List.{List, [], _∷_}
-use Prim.Native.Nat.{ℕ, zero, suc, _+_, _-_, _^_, _≤_, _<_}
+use mathlib.Core.List.{List, []}
+use Prim.Native.Nat.{ℕ, zero, suc, _+_, _-_, _≤_, _<_}
 use native.Mathlib.Omega.{arith}
 use lib.Dec.{ltb}
 use lib.ListN.{length, getD}
 use Rattle.laws.specs.Pick.{pick}
-use Rattle.laws.specs.Signed.{twos, value, zeroWord}
+use Rattle.laws.specs.Signed.{twos, zeroWord}
 use Rattle.laws.proofs.SignedLaws.{value-below, value-above}
 use Rattle.sets.specs.declared.Parting.{Parting}
 use Rattle.sets.specs.declared.Parting.the-variants as parts
