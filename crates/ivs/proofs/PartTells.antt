@@ -1,8 +1,8 @@
 -- Where two sets part, taken apart into numbers. Assumes nothing.
-use mathlib.Core.Path.{_≡_, refl, sym, ap, subst, _∙_}
+use mathlib.Core.Path.{_≡_, refl, sym, subst}
 use mathlib.Core.Bool.{Bool, true, false, _&&_}
 use mathlib.Core.List.{List, [], _∷_}
-use Prim.Native.Nat.{ℕ, zero, suc, _+_, _-_, _^_, _≤_, _<_}
+use Prim.Native.Nat.{ℕ, zero, suc, _+_, _-_, _≤_, _<_}
 use native.Mathlib.Omega.{arith}
 use lib.Dec.{ltb}
 use lib.ListN.{length, getD}
@@ -121,3 +121,9 @@ module _ (job w old : List ℕ) where
     pub told-more : p ≡ Larger r k v u → w ≡ filled 0 (standingWords 2 r k x y) old → (0 ≡ partNumber p) × (w ≡ filled 0 (partWords job p) old)
     unfolding partNumber partWords
     told-more e h = rw e (refl, rw (i, j) at h)
+
+-- computed: larger at index 1, which region 3 of the job used first, by 7 and -5
+worked : partWords (Larger 1 3 (zeroWord + 7) (zeroWord - 5))
+    ≡ 0 ∷ 0 ∷ 2 ∷ 1 ∷ 3 ∷ 7 ∷ 0xFFFF_FFFF_FFFF_FFFB ∷ 0 ∷ 0 ∷ 0 ∷ 0 ∷ 0 ∷ 0 ∷ 0 ∷ 0 ∷ 0 ∷ []
+unfolding partWords standingWords longValue twos value
+worked = refl

@@ -1,12 +1,10 @@
 -- The answer, by what reading the job and comparing two of its sets told. Assumes nothing.
-use mathlib.Core.Path.{_≡_, refl, sym, ap, ap₂, subst, _∙_}
-use mathlib.Core.Bool.{Bool, true, false, _&&_}
+use mathlib.Core.Path.{_≡_, refl, sym, ap, ap₂, _∙_}
 use mathlib.Core.List.{List, []}
-use Prim.Native.Nat.{ℕ, _+_, _*_, _≤_, _<_}
+use Prim.Native.Nat.{ℕ, _*_, _≤_, _<_}
 use native.Mathlib.Omega.{arith}
 use lib.ListN.{length, getD}
 use borrow.Author.Tests.{lt-ltb, le-ltb}
-use Rattle.laws.specs.LentRange.{seg}
 use Rattle.laws.proofs.RangeLaws.{getD-seg}
 use Rattle.sets.specs.declared.Parting.{Parting}
 use Rattle.sets.specs.declared.Parting.the-variants as parts
@@ -18,13 +16,13 @@ use Rattle.sets.proofs.PartLaws.{told-smaller, told-larger, differ-below}
 use Rattle.said.specs.Records.{recordCount}
 use Rattle.said.specs.Refusals.{pairRecords, earlyNo, noSet}
 use Rattle.said.specs.LentOpen.{Open}
-use Rattle.said.specs.Job.{Said, Outcome, refused, fine, inAxes, recordsFrom, outcomeFrom, outcome}
+use Rattle.said.specs.Job.{Said, Outcome, inAxes, recordsFrom, outcomeFrom, outcome}
 use Rattle.job.specs.Lent.{JobRead}
 use Rattle.job.proofs.CheckLaws.{early-first, none-early, room}
 use Rattle.parting.specs.declared.answering.Parted.{Parted}
 use Rattle.parting.specs.declared.answering.Parted.the-variants.{Refused, Equal, Smaller, Larger}
 use Rattle.parting.specs.Part.{userOf, named, partedIn, partedOf, partOf}
-use Rattle.parting.specs.LentPart.{JobOpen, UserFit, JobStands}
+use Rattle.parting.specs.LentPart.{UserFit, JobStands}
 
 -- ---- of a job whose sets work holds
 

@@ -1,16 +1,16 @@
 -- From an answer to the job's bytes, through what a taken job says (`told`). Assumes nothing.
-use mathlib.Core.Path.{_≡_, refl, sym, ap, _∙_}
-use mathlib.Core.Bool.{Bool, true, false, _&&_}
+use mathlib.Core.Path.{_≡_, refl, sym, ap, ap₂, _∙_}
+use mathlib.Core.Bool.{true, _&&_}
 use mathlib.Core.List.{List, []}
-use Prim.Native.Nat.{ℕ, _≤_, _<_}
+use mathlib.Core.Logic.{_⊎_, inl, inr}
+use Prim.Native.Nat.{ℕ, _<_}
 use native.Mathlib.Omega.{arith}
 use lib.Dec.{ltb}
 use lib.ListN.{length, getD}
 use lib.Signed.{ltZ}
-use borrow.Author.Tests.{ltb-true}
-use Rattle.laws.specs.Pick.{pick}
-use Rattle.laws.specs.Signed.{zeroWord, value}
-use Rattle.laws.proofs.Cases.{Which, which, and-true}
+use borrow.Author.Tests.{lt-ltb, ltb-true}
+use Rattle.laws.specs.Signed.{value}
+use Rattle.laws.proofs.Cases.{Which, which, and-true, true-false}
 use Rattle.laws.proofs.Cases.Which.{holds, fails}
 use Rattle.laws.proofs.EveryLaws.{all-getD}
 use Rattle.sets.specs.declared.Parting.{Parting}
@@ -19,13 +19,13 @@ use Rattle.sets.specs.Set.{Set, wordOf, Ascending, Proper}
 use Rattle.sets.specs.Order.{DifferAt, parting}
 use Rattle.sets.proofs.SetLaws.{parting-right}
 use Rattle.sets.proofs.PartLaws.{told-smaller, told-larger, signed-less, equal-all, differ-below}
-use Rattle.said.specs.Records.{kind, valueKind, regionOf, valueWord, recordAt, recordCount}
+use Rattle.said.specs.Records.{kind, valueKind, regionOf, recordAt, recordCount}
 use Rattle.said.specs.Refusals.{pairRecords, noSet}
 use Rattle.said.specs.Sets.{firstLike, indexIn}
 use Rattle.said.specs.Job.{Said, Outcome, refused, fine, outcome}
 use Rattle.said.proofs.IndexLaws.{index-at}
 use Rattle.said.proofs.SoundLaws.{fine-walk}
-use Rattle.told.specs.Told.{ValueIn, indexOf, FirstUse, Told}
+use Rattle.told.specs.Told.{indexOf, Told}
 use Rattle.told.proofs.TellLaws.{Telling, all-told}
 use Rattle.told.proofs.Bytes.{told}
 use Rattle.parting.specs.declared.answering.Parted.{Parted}
@@ -120,6 +120,12 @@ module _ (job : List ℕ) (s : Said) where
         let f : r′ ≡ r = cc in let g : v′ ≡ v = cc in let h : u′ ≡ u = cc in let i : userOf job s r′ ≡ k = cc in
         ((λ j. parts.Larger (f j) (g j) (h j)), ap (userOf job s) (sym f) ∙ i)
 
+  back-refused : (n i : ℕ) (o : Parting) → named job s o ≡ Refused n i → ⊥
+  unfolding named
+  back-refused n i parts.Equal e = let z : _≡_ {A = ℕ} 0 1 = cc in omega arith
+  back-refused n i (parts.Smaller r v u) e = let z : _≡_ {A = ℕ} 0 1 = cc in omega arith
+  back-refused n i (parts.Larger r v u) e = let z : _≡_ {A = ℕ} 0 1 = cc in omega arith
+
 -- an answer that is no refusal: the job says s, has both sets, and they are compared
 record Taken (axes : ℕ) (job : List ℕ) (x y work : ℕ) (p : Parted) : Type 0 where
   said : Said
@@ -176,3 +182,33 @@ module _ (axes : ℕ) (job : List ℕ) (x y work : ℕ) where
         both axes job work (t .said) (t .is) x y (t .first-in) (t .second-in),
         equal-all _ _ (rising axes job work (t .said) (t .is) x (t .first-in)) (rising axes job work (t .said) (t .is) y (t .second-in)) c,
       )
+
+  no-sets : (s : Said) → outcome axes 0 job work pairRecords ≡ fine s → (n i : ℕ) → partedIn job x y s ≡ Refused n i
+      → (n ≡ noSet) × (i ≡ 0) × (BothSets job x y → ⊥)
+  unfolding partedIn
+  no-sets s f n i k = at (which (ltb x (length (s .sets)) && ltb y (length (s .sets))))
+    where
+      both-below : x < length (s .sets) → y < length (s .sets) → (ltb x (length (s .sets)) && ltb y (length (s .sets))) ≡ true
+      both-below p q = rw (lt-ltb x (length (s .sets)) p, lt-ltb y (length (s .sets)) q) refl
+
+      at : Which (ltb x (length (s .sets)) && ltb y (length (s .sets))) → (n ≡ noSet) × (i ≡ 0) × (BothSets job x y → ⊥)
+      at (holds h) = absurd (back-refused job s n i _ (rw h at k))
+      at (fails h) =
+          let g = rw h at k in
+          let a : n ≡ noSet = cc in
+          let b : i ≡ 0 = cc in
+          let long = job-told axes job work s f .sets-are in
+          (a, b, λ c. true-false (both-below (omega (arith, c .first-in)) (omega (arith, c .second-in))) h)
+
+  -- a refusal is the job's own, or (R64) the job is sound and does not have both sets
+  pub refused-told : (n i : ℕ) → partOf axes job x y work ≡ Refused n i
+      → (outcome axes 0 job work pairRecords ≡ refused n i)
+      ⊎ ((s : Said) × (outcome axes 0 job work pairRecords ≡ fine s) × (n ≡ noSet) × (i ≡ 0) × (BothSets job x y → ⊥))
+  unfolding partedOf
+  refused-told n i e = go (outcome axes 0 job work pairRecords) refl e
+    where
+      go : (o : Outcome) → outcome axes 0 job work pairRecords ≡ o → partedOf job x y o ≡ Refused n i
+          → (outcome axes 0 job work pairRecords ≡ refused n i)
+          ⊎ ((s : Said) × (outcome axes 0 job work pairRecords ≡ fine s) × (n ≡ noSet) × (i ≡ 0) × (BothSets job x y → ⊥))
+      go (refused m j) f g = let a : m ≡ n = cc in let b : j ≡ i = cc in inl (f ∙ ap₂ refused a b)
+      go (fine s) f g = let a = no-sets s f n i g in inr (s, f, a .0, a .1, a .2)

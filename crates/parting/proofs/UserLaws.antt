@@ -1,19 +1,19 @@
 -- The number in the job of the region that first used an index, where the firsts of the regions are found anew. Assumes
 -- nothing.
-use mathlib.Core.Path.{_≡_, refl, sym, ap, subst, _∙_}
+use mathlib.Core.Path.{_≡_, sym, ap, _∙_}
 use mathlib.Core.List.{List}
 use Prim.Native.Nat.{ℕ, _+_, _*_, _≤_, _<_}
 use native.Mathlib.Nat.{le-refl, mul-left-comm}
 use native.Mathlib.Omega.{arith}
 use lib.ListN.{length, getD}
 use Rattle.laws.proofs.Products.{product}
-use Rattle.said.specs.Records.{regionLong, recordCount}
+use Rattle.said.specs.Records.{regionLong}
 use Rattle.said.specs.Sets.{Region, regionList, firstLike}
 use Rattle.said.proofs.SaidLaws.{Counts, counts, room-of}
 use Rattle.job_scan.specs.Lent.{FirstsOf}
 use Rattle.told.proofs.TellLaws.{Telling, all-told}
 use Rattle.parting.specs.Part.{firstNamed, userOf}
-use Rattle.parting.specs.LentPart.{NamedFit, JobOpen, UserFit}
+use Rattle.parting.specs.LentPart.{NamedFit, UserFit}
 
 module _ {axes records regions index : ℕ} {job w : List ℕ} (f : UserFit axes job records regions w index) where
   all : Counts axes job records (f .said)

@@ -1,5 +1,4 @@
 -- Small jobs of one axis, computed: three regions, of which region 1 has the coordinates of region 0. Assumes nothing.
-use mathlib.Core.Bool.{_&&_}
 use mathlib.Core.List.{List, [], _∷_, _++_}
 use mathlib.Core.Path.{_≡_, refl}
 use Prim.Native.Nat.{ℕ, _+_}

@@ -4,7 +4,7 @@
 use mathlib.Core.Path.{_≡_}
 use mathlib.Core.List.{List, []}
 use Prim.Native.Nat.{ℕ, _<_}
-use lib.ListN.{length, getD}
+use lib.ListN.{getD}
 use Rattle.laws.specs.Signed.{zeroWord}
 use Rattle.sets.specs.Set.{wordOf}
 use Rattle.said.specs.Records.{regionOf, valueWord, recordAt, recordCount}

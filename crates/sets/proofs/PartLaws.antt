@@ -12,7 +12,6 @@ use Rattle.laws.specs.Signed.{zeroWord, value}
 use Rattle.laws.proofs.SignedLaws.{word-order}
 use Rattle.laws.proofs.Cases.{Tri, tri, lt-or-ge}
 use Rattle.laws.proofs.Cases.Tri.{below, same, above}
-use Rattle.laws.specs.Pick.{pick}
 use Rattle.sets.specs.declared.Parting.{Parting}
 use Rattle.sets.specs.declared.Parting.the-variants as parts
 use Rattle.sets.specs.Set.{Set, wordOf, Ascending, Proper}
