@@ -1,3 +1,4 @@
 pub mod SetLaws
 pub mod IdLaws
 pub mod HeldLaws
+pub mod Unique

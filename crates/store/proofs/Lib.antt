@@ -8,3 +8,4 @@ pub mod SpotLaws
 pub mod Pieces
 pub mod PlacedLaws
 pub mod MapLaws
+pub mod Unique
