@@ -1,1 +1,2 @@
 pub mod LivingSteps
+pub mod Unique

@@ -6,3 +6,4 @@ pub mod CollectLaws
 pub mod CountLaws
 pub mod PutLaws
 pub mod RunLaws
+pub mod Unique

@@ -1,2 +1,3 @@
 pub mod ShapeSteps
 pub mod CoverSteps
+pub mod Unique

@@ -9,3 +9,4 @@ pub mod Pieces
 pub mod ForecastLaws
 pub mod PlacedLaws
 pub mod MapLaws
+pub mod Unique
