@@ -4,7 +4,6 @@ pub mod Rooms
 pub mod Rows
 pub mod GlyphWords
 pub mod WidthWords
-
 pub mod PartWords
 pub mod Answered
 pub mod SetsRead

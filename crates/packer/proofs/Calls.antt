@@ -192,7 +192,7 @@ module _ {M : Type 1} (𝓤 : URA M) (H : Heap 𝓤) (A : Atoms 𝓤) (W : Given
         keep ! (1 ∷ []) $ show ! (λ (r : MergeTables). guard 𝓤 (r ≡ layoutOf p groups) (sem 𝓤 H A (L.the-row .own r (w ∷ [])))) r $ check ! e $ done !)))
 
     pub lays-call : Is P.the-row p (places-mach p ∷ []) → groups < 2 ^ 64 → ent 𝓤 (emp 𝓤) (C #encoder·lays (places-mach p ∷ vint w64 groups ∷ []) (λ w. mean 𝓤 H A (After-lays-call w)))
-    lays-call g-p g-groups = 
+    lays-call g-p g-groups =
         qed W ([]) ∵
         suffices ! (C #encoder·lays (places-mach p ∷ vint w64 groups ∷ []) (Tables-of 𝓤 H A mem run .post (at-lays-call))) (fm→monoC 𝓤 H (W .laws) C fm #encoder·lays (places-mach p ∷ vint w64 groups ∷ []) (Tables-of 𝓤 H A mem run .post (at-lays-call)) _ (leaves-lays-call)) $
         suffices ! (Tables-of 𝓤 H A mem run .pre (at-lays-call)) (known (at-lays-call)) $ nothing ! $
@@ -480,7 +480,7 @@ module _ {M : Type 1} (𝓤 : URA M) (H : Heap 𝓤) (A : Atoms 𝓤) (W : Given
         keep ! (1 ∷ []) $ show ! (λ (r : ℕ). guard 𝓤 (PairsUsed stage count r) (sem 𝓤 H A (usize .own r (w ∷ [])))) r $ check ! e $ done !)))
 
     pub pairs-used-call : Is S.the-row stage (stage-mach stage ∷ []) → count < 2 ^ 64 → ent 𝓤 (emp 𝓤) (C #packer·pairs-used (stage-mach stage ∷ vint w64 count ∷ []) (λ w. mean 𝓤 H A (After-pairs-used-call w)))
-    pairs-used-call g-stage g-count = 
+    pairs-used-call g-stage g-count =
         qed W ([]) ∵
         suffices ! (C #packer·pairs-used (stage-mach stage ∷ vint w64 count ∷ []) (PairsUsed-of 𝓤 H A mem run .post (at-pairs-used-call))) (fm→monoC 𝓤 H (W .laws) C fm #packer·pairs-used (stage-mach stage ∷ vint w64 count ∷ []) (PairsUsed-of 𝓤 H A mem run .post (at-pairs-used-call)) _ (leaves-pairs-used-call)) $
         suffices ! (PairsUsed-of 𝓤 H A mem run .pre (at-pairs-used-call)) (known (at-pairs-used-call)) $ nothing ! $
