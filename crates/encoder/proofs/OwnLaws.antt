@@ -285,7 +285,6 @@ module _ {p : Places} {w : List ℕ} (f : Fit p w) (some : 0 < p .sets) where
                 rows-from = omega (arith, r);
                 rows-to = omega (arith, r, n);
                 numbers = subst (All (λ x. x < p .sets)) (sym (ap₂ (λ (k m : ℕ). seg k m y) r n ∙ rows-are)) (up-all (p .sets));
-                narrow = subst Narrow (sym (ap (λ (k : ℕ). finalAt (p .regions) y k .shape) e ∙ ap (λ (z : Final). z .shape) final-here)) (one-narrow (p .regions) all (omega (arith, laid .regions-few)));
               }
 
           final-in : (k : ℕ) → k < 1 → FinalIn p y k

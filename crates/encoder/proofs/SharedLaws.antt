@@ -24,7 +24,6 @@ use Rattle.laws.proofs.SortMap.{length-sorted, keep-all, keep-keep}
 use Rattle.laws.proofs.SortMap as mapping
 use Rattle.laws.proofs.UpLaws.{up-all}
 use Rattle.shapes.specs.Group.{Group}
-use Rattle.shapes.specs.Lent.{Narrow}
 use Rattle.sets.specs.Set.{Set, Ascending}
 use Rattle.sets.specs.Ids.{place, sharedIds, distinct}
 use Rattle.sets.specs.Lent.{setOf, setsIn, isFirst, atMost, Held}
@@ -377,17 +376,12 @@ module _ {p : Places} {groups ids : ℕ} {w : List ℕ} (f : JoinFit p groups id
     shape-is : (q : ℕ) → q < count → seg (getD w″ (groupAt p q) 0) (p .regions) w″ ≡ at q .group .shape
     shape-is q l = shape-slot q l ∙ at-all (λ g. tab.shapeIn (livingAt p) (slotOf (tablesOf p groups) w′ g) w′ ≡ g .group .shape) (living-shapes o (livingAt p) refl refl) q l
 
-    narrow-at : (q : ℕ) → q < count → Narrow (finalAt (p .regions) w″ (groupAt p q) .shape)
-    unfolding finalAt tab.shapeIn merge.shapeIn
-    narrow-at q l = subst Narrow (sym (shape-slot q l)) (o .sound .shaped .narrow (slotOf (tablesOf p groups) w′ (at q)) (slot-below-at q l))
-
     final-in : (q : ℕ) → q < count → FinalIn p w″ q
     final-in q l = record {
       shape-to = omega (arith, shape-word q l, slot-end-at q l, lies);
       rows-from = r .rows-in q l .0;
       rows-to = r .rows-in q l .1;
       numbers = rows-low q l;
-      narrow = narrow-at q l;
     }
 
     -- ---- all of them

@@ -7,11 +7,10 @@ use lib.ListN.{length, getD}
 use Rattle.laws.specs.Bag.{sum}
 use Rattle.laws.specs.Every.{All}
 use Rattle.laws.specs.LentRange.{Only, seg}
-use Rattle.shapes.specs.Lent.{Narrow}
 use Rattle.sets.specs.Lent.{setOf, setsIn, Held}
 use Rattle.rule.specs.Told.{words}
 use Rattle.store.specs.Placing.{Final}
-use Rattle.store.specs.Lent.{finalAt, finalsAt}
+use Rattle.store.specs.Lent.{finalsAt}
 use Rattle.limits.specs.Limits.{mostRecords, maxRegions, maxShapes}
 use Rattle.encoder.specs.Packed.{Packed, own}
 use Rattle.encoder.specs.LentPlaces.{Laid}
@@ -37,7 +36,6 @@ pub record FinalIn (p : Places) (w : List ℕ) (g : ℕ) : Type 0 where
   pub rows-from : p .rows ≤ getD w (groupAt p g + 1) 0
   pub rows-to : getD w (groupAt p g + 1) 0 + getD w (groupAt p g + 2) 0 ≤ p .rows + p .sets
   pub numbers : All (λ x. x < p .sets) (seg (getD w (groupAt p g + 1) 0) (getD w (groupAt p g + 2) 0) w)
-  pub narrow : Narrow (finalAt (p .regions) w (groupAt p g) .shape)
 
 -- What was made of the sets stands in work. A row is the number of a set, the first one of its id.
 pub record PackedAt (k : Packed) (p : Places) (e : Encoded) (w : List ℕ) : Type 0 where

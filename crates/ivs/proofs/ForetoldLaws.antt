@@ -4,7 +4,6 @@ use mathlib.Core.List.{List}
 use mathlib.Core.Logic.{⊎-elim}
 use Prim.Native.Nat.{ℕ, _≤_, _<_}
 use native.Mathlib.Omega.{arith}
-use lib.ListN.{length}
 use borrow.Author.Tests.{le-leb, lt-leb}
 use Rattle.laws.proofs.Cases.{lt-or-ge}
 use Rattle.pairs.specs.declared.Pair.{Pair}
@@ -17,7 +16,7 @@ use Rattle.finishing.specs.declared.answers.Built.{Built}
 use Rattle.finishing.specs.declared.answers.Built.the-variants.{Refused, Done}
 use Rattle.finishing.specs.declared.answers.Built.the-variants as built
 use Rattle.finishing.specs.Buffers.{Buffers, lengths}
-use Rattle.finishing.specs.Late.{storeFor, reportOf, lateForecast}
+use Rattle.finishing.specs.Late.{reportOf, lateForecast}
 use Rattle.packer.specs.Lending.{Lending}
 use Rattle.packer.specs.Build.{coordsInUse, packedOf, outcomeOf, answerOf}
 use Rattle.packer.specs.Foretold.{foretoldFrom, foretold}

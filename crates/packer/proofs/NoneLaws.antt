@@ -7,7 +7,6 @@ use lib.ListN.{length, getD}
 use Rattle.laws.specs.Bag.{sum}
 use Rattle.laws.specs.Bounded.{tabulate}
 use Rattle.laws.specs.LentRange.{seg}
-use Rattle.shapes.specs.Lent.{Narrow}
 use Rattle.sets.specs.Lent.{Held}
 use Rattle.groups.specs.Cover.{coverFrom}
 use Rattle.rule.specs.Told.{words}
@@ -27,13 +26,9 @@ use Rattle.packer.specs.LentOpened.{noPlaces, oneNull, nullPacking}
 abbrev three : List ℕ
 three = 0 ∷ 3 ∷ 0 ∷ []
 
-null-narrow : Narrow (finalAt 0 three 0 .shape)
-unfolding finalAt seg
-null-narrow = record { few = omega arith; narrow = λ k. omega arith }
-
 null-in : FinalIn noPlaces three 0
 unfolding seg
-null-in = record { shape-to = omega arith; rows-from = omega arith; rows-to = omega arith; numbers = tt; narrow = null-narrow }
+null-in = record { shape-to = omega arith; rows-from = omega arith; rows-to = omega arith; numbers = tt }
 
 none-packed : PackedAt (own 0 []) noPlaces oneNull three
 unfolding own oneCost tabulate seg relabel finalsAt finalAt coverFrom sum words

@@ -19,13 +19,12 @@ use Rattle.laws.proofs.EveryLaws.{all-imp, all-map, all-append, all-getD}
 use Rattle.laws.proofs.JoinLaws.{join-long}
 use Rattle.laws.proofs.SortMap.{keep-all}
 use Rattle.laws.proofs.UpLaws.{up-all}
-use Rattle.shapes.specs.Shape.{Shape}
 use Rattle.shapes.specs.Group.{maxItems}
 use Rattle.rows.specs.Columns.{columnsOf}
 use Rattle.rows.specs.Row.{Set}
 use Rattle.rows.specs.Subtable.{runCount}
 use Rattle.store.specs.Placing.{Final, runsOf, allRuns, names, keptOf, newIndex, storeOf, rowBytes, runBytes, forecastOf}
-use Rattle.store.specs.Lent.{headerBytes, spotsOf, subtableOf, tableSize}
+use Rattle.store.specs.Lent.{headerBytes, spotsOf, subtableOf}
 use Rattle.store.proofs.ListLaws.{list-length}
 use Rattle.store.proofs.SpotLaws.{spots-length}
 use Rattle.store.proofs.SizeLaws.{size-none, size-some}
