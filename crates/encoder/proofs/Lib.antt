@@ -7,3 +7,4 @@ pub mod ReadyLaws
 pub mod SharedLaws
 pub mod GatherLaws
 pub mod OwnLaws
+pub mod Unique
