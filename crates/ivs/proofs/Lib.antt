@@ -29,5 +29,4 @@ pub mod WidthLaws
 pub mod PastBack
 pub mod ReportLaws
 pub mod PlainRows
-pub mod WidthsBack
 pub mod Demand1

@@ -13,7 +13,6 @@ pub mod Sized
 pub mod Past
 pub mod Reported
 pub mod Plain
-pub mod WidthsRead
 pub mod Demand1
 pub mod Demand2
 pub mod Demand3
