@@ -1,12 +1,17 @@
-"""A font that `fenikezo font repack` wrote, beside the one it was given: OLD NEW FOLDER. Every table but those packed anew is the same,
-fontTools reads every table and the same rows, hb-shape gives every glyph the same advance at nine places, and sums are right."""
+"""A font that `fenikezo font repack` wrote, beside the one it was given.
+
+  repacked.py compare OLD NEW FOLDER   every table but those packed anew is the same, fontTools reads every table and the same rows, hb-shape
+                                       gives every glyph the same advance at nine places, and sums are right
+  repacked.py make OLD NEW             the font with more maps in HVAR, and with a VVAR: Debian's fonts have neither
+"""
 import sys
 
 sys.dont_write_bytecode = True
 from pathlib import Path
 
-from fontTools.ttLib import TTFont
+from fontTools.ttLib import TTFont, newTable
 from fontTools.ttLib.sfnt import calcChecksum
+from fontTools.ttLib.tables import otTables
 
 from interop import NO_ROW, Store, advances, expect, regions_of, rows_of, with_every_glyph
 
@@ -94,7 +99,7 @@ def same_advances(old, new, folder):
     print(f"{Path(old).stem}: {glyphs} glyphs, equal at {PLACES} places")
 
 
-def main(old, new, folder):
+def compare(old, new, folder):
     same_tables(old, new)
     before, after = read_all(old), read_all(new)
     for tag in PACKED:
@@ -104,5 +109,24 @@ def main(old, new, folder):
     sums(new)
 
 
+def make(old, new):
+    font = TTFont(old)
+    table, glyphs = font["HVAR"].table, font.getGlyphOrder()
+
+    def mapping(step):
+        """Each glyph has the row that has the advance of another, so many further on; the first one has none."""
+        made, words = otTables.VarIdxMap(), table.AdvWidthMap.mapping
+        made.mapping = {glyph: words[glyphs[(number + step) % len(glyphs)]] for number, glyph in enumerate(glyphs)}
+        made.mapping[glyphs[0]] = NO_ROW
+        return made
+
+    table.LsbMap, table.RsbMap = mapping(1), mapping(2)
+    font["VVAR"] = newTable("VVAR")
+    tall = font["VVAR"].table = otTables.VVAR()
+    tall.Version, tall.VarStore = 0x00010000, table.VarStore
+    tall.AdvHeightMap, tall.TsbMap, tall.BsbMap, tall.VOrgMap = mapping(3), None, mapping(4), mapping(5)
+    font.save(new)
+
+
 if __name__ == "__main__":
-    main(*sys.argv[1:])
+    {"compare": compare, "make": make}[sys.argv[1]](*sys.argv[2:])

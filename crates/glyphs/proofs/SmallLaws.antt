@@ -1,5 +1,5 @@
--- Every number in an answer is below 2^32, and a refusal's is at most 42: an answer fits a word of 64 bits, the refusal in its high half. Assumes
--- nothing.
+-- Every number in an answer is below 2^32, and a refusal's is at most 42: an answer fits a word of 64 bits, the refusal in its high half; how many bytes
+-- always do. Assumes nothing.
 use mathlib.Core.Path.{_≡_}
 use mathlib.Core.Bool.{Bool, true, false, not}
 use mathlib.Core.List.{List}
@@ -10,7 +10,7 @@ use native.Mathlib.Omega.{arith}
 use lib.Dec.{ltb}
 use lib.ListN.{length}
 use lib.Pow.{pow-pos}
-use borrow.Author.Tests.{ltb-false}
+use borrow.Author.Tests.{ltb-false, le-ltb}
 use Rattle.laws.specs.Bytes.{be}
 use Rattle.laws.specs.Pick.{pick}
 use Rattle.laws.proofs.Cases.{Which, which, lt-or-ge}
@@ -35,12 +35,20 @@ abbrev pub GlyphsSmall : Glyphs → Type 0
 GlyphsSmall (glyphs.Done n) = n < 4294967296
 GlyphsSmall (glyphs.Refused n) = n ≤ 42
 
-map-small : (ws : List ℕ) → length ws ≤ maxGlyphs → length (mapBytes ws) < 4294967296
-map-small ws h =
+-- as many bytes always do
+pub map-most : (ws : List ℕ) → length (mapBytes ws) ≤ 6 + 4 * length ws
+map-most ws =
     let n = countOf ws in
-    let p = product 1048576 4 {a = n} {b = mapSize ws} (omega (arith, count-most ws)) (size-range ws .1) in
+    let p = product (length ws) 4 {a = n} {b = mapSize ws} (count-most ws) (size-range ws .1) in
     let s : headSize n ≤ 6 = ⊎-elim (λ l. omega (arith, size-zero 0 n l)) (λ l. omega (arith, size-one 0 n l)) (lt-or-ge n 65536) in
     omega (arith, map-long ws)
+
+pub glyphs-enough : (ws : List ℕ) (room : ℕ) → length ws ≤ maxGlyphs → 6 + 4 * length ws ≤ room → glyphsOf ws room ≡ glyphs.Done (length (mapBytes ws))
+unfolding glyphsOf
+glyphs-enough ws room few h = rw (le-ltb maxGlyphs (length ws) few, le-ltb room (length (mapBytes ws)) (omega (arith, map-most ws)))
+
+map-small : (ws : List ℕ) → length ws ≤ maxGlyphs → length (mapBytes ws) < 4294967296
+map-small ws h = omega (arith, map-most ws)
 
 pub glyphs-small : (ws : List ℕ) (room : ℕ) → GlyphsSmall (glyphsOf ws room)
 unfolding glyphsOf

@@ -23,5 +23,4 @@ pub mod PastBack
 pub mod ReportLaws
 pub mod FollowedLaws
 pub mod PlainRows
-pub mod WidthsBack
 pub mod Demand1

@@ -11,7 +11,6 @@ pub mod Sized
 pub mod Past
 pub mod Reported
 pub mod Plain
-pub mod WidthsRead
 pub mod Foretold
 pub mod Demand1
 pub mod Demand2

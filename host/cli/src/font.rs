@@ -46,7 +46,7 @@ impl Stored<'_> {
             return table.map(|table| table.len());
         }
         let rows = Rows::of(self.store)?;
-        let ours = rows.pack(mode, &rows.words())?.store.len();
+        let ours = rows.pack(mode, &rows.row_words())?.store.len();
         let own = font_store::extent(self.store).unwrap_or(self.store.len());
         Ok((self.table.len() + ours).saturating_sub(own))
     }

@@ -112,7 +112,7 @@ impl<'a> Rows<'a> {
     }
 
     /// The word of every row, in order.
-    pub fn words(&self) -> Vec<u32> {
+    pub fn row_words(&self) -> Vec<u32> {
         let items = |subtable: &Option<Subtable<'_>>| subtable.as_ref().map_or(0, |s| s.items);
         let rows = |(outer, subtable)| (0..items(subtable)).map(move |inner| word(outer, inner));
         self.subtables.iter().enumerate().flat_map(rows).collect()

@@ -35,7 +35,7 @@ fn metrics(table: &[u8], glyphs: u32, mode: u32, maps: usize) -> Result<Vec<u8>,
     let named: Vec<Option<Vec<u32>>> = named.collect::<Result<_, _>>()?;
     let all: Vec<u32> = named.iter().flatten().flatten().copied().collect();
     let packed = rows.pack(mode, &all)?;
-    let new = ivs::words(&packed);
+    let new = ivs::set_words(&packed);
     let mut parts = new.chunks(glyphs as usize);
     let mut new: Vec<Option<&[u32]>> = Vec::new();
     for map in &named {
@@ -102,7 +102,7 @@ fn values(table: &[u8], mode: u32) -> Result<Vec<u8>, Unpacked> {
     let named = (0..count).map(|number| u32_at(table, at(number)).map(|word| word as u32));
     let named: Vec<u32> = named.collect::<Option<_>>().ok_or_else(cut_off)?;
     let packed = Rows::of(table.get(store..).ok_or_else(cut_off)?)?.pack(mode, &named)?;
-    for (number, word) in ivs::words(&packed).into_iter().enumerate() {
+    for (number, word) in ivs::set_words(&packed).into_iter().enumerate() {
         // A record that names no row goes on naming none.
         if named[number] != u32::MAX {
             put(&mut new, at(number), word);

@@ -29,7 +29,7 @@ type Built = Result<Vec<u8>, Refused>;
 fn table(axes: u32, mode: Mode, job: &[u8]) -> Built {
     let packed = ivs::pack(axes, mode as u32, job)?;
     let words = match mode {
-        Mode::Dedup => ivs::words(&packed),
+        Mode::Dedup => ivs::set_words(&packed),
         Mode::Implicit => Vec::new(),
     };
     ivs::write_widths(&packed.store, &words)

@@ -41,10 +41,36 @@ fn repacked(font: &Path, folder: &Path) -> (PathBuf, String) {
     (new, text)
 }
 
-fn compared(old: &Path, new: &Path, folder: &Path) -> (Option<i32>, String) {
+/// Runs a part of interop/repacked.py.
+fn python(part: &str, files: &[&Path]) -> (Option<i32>, String) {
     let program = Path::new(env!("CARGO_MANIFEST_DIR")).join("../interop/repacked.py");
-    let mut command = Command::new("/usr/bin/python3");
-    said(command.arg(program).args([old, new, folder]))
+    said(
+        Command::new("/usr/bin/python3")
+            .arg(program)
+            .arg(part)
+            .args(files),
+    )
+}
+
+fn compared(old: &Path, new: &Path, folder: &Path) -> (Option<i32>, String) {
+    python("compare", &[old, new, folder])
+}
+
+/// A font with the side bearings' maps in HVAR, and with a VVAR that has all but one.
+#[test]
+fn every_map_is_kept() {
+    let folder = folder("maps");
+    let made = folder.join("made.ttf");
+    for font in fonts().unwrap() {
+        let (status, text) = python("make", &[&font, &made]);
+        assert_eq!(status, Some(0), "{text}");
+        let anew = folder.join("anew");
+        fs::create_dir_all(&anew).unwrap();
+        let (new, text) = repacked(&made, &anew);
+        assert!(text.contains("VVAR: "), "{text}");
+        let (status, text) = compared(&made, &new, &folder);
+        assert_eq!(status, Some(0), "{text}");
+    }
 }
 
 #[test]

@@ -30,7 +30,7 @@ mod writer;
 
 pub use glyphs::{read_glyph, write_glyphs, write_glyphs_into, GLYPHS};
 pub use refusals::{Refused, Short};
-pub use widths::{read_width, words, write_widths, write_widths_into};
+pub use widths::{read_width, set_words, write_widths, write_widths_into};
 pub use writer::{JobError, JobWriter, Tent};
 
 use refusals::{OUT_SHORT, RECORD, WORK_SHORT};

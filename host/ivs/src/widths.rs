@@ -19,7 +19,7 @@ const HEAD: usize = 20;
 /// }
 /// let job = job.finish();
 /// let shared = ivs::pack(1, 0, &job)?;
-/// let table = ivs::write_widths(&shared.store, &ivs::words(&shared))?;
+/// let table = ivs::write_widths(&shared.store, &ivs::set_words(&shared))?;
 /// assert_eq!(ivs::read_width(&table, 1, 0)?, ivs::Reading::Written(-300));
 /// assert_eq!(ivs::read_width(&table, 9, 0)?, ivs::Reading::Written(10)); // past the end, the last
 ///
@@ -65,7 +65,7 @@ pub fn read_width(table: &[u8], glyph: u32, region: u32) -> Result<Reading, Refu
 }
 
 /// The words of a job whose n-th set is glyph n's: of each set the map's word of its id.
-pub fn words(packed: &Packed) -> Vec<u32> {
+pub fn set_words(packed: &Packed) -> Vec<u32> {
     let word = |&id: &u32| packed.map[id as usize];
     packed.ids.iter().map(word).collect()
 }

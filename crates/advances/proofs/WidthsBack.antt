@@ -35,10 +35,10 @@ use Rattle.packer.specs.Build.{answerOf, after}
 use Rattle.packer.proofs.Accepted.{accepted}
 use Rattle.packer.proofs.WholeBack.{madeIn, made-axes, store-parsed}
 use Rattle.refusing.specs.Counts.{endRecords}
 use Rattle.ivs.specs.SetsRead.{listed, namedBy, InStore, SetRead}
-use Rattle.ivs.specs.WidthsRead.{storeIn, GlyphRead, storeLeft, setWords, TableRead, WidthsRead}
+use Rattle.advances.specs.WidthsRead.{storeIn, GlyphRead, storeLeft, setWords, TableRead, WidthsRead}
 use Rattle.ivs.proofs.BytesBack.{bytes-back}
 use Rattle.ivs.proofs.PlainRows.{plain}
 
 -- ---- the region list of a store with more behind it
 
