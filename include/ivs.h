@@ -1,5 +1,5 @@
 /* Fenikezo: item variation stores. Link with libivs.a (`rt staticlib ivs`), which is for x86-64. docs/RULES.md has the
- * rules, by labels (J1, R5), which are given below.
+ * rules, by labels (J1, R6), which are given below.
  *
  * A slice passes as a pointer and a length. A pointer must not be null, also where the length is 0, and must be aligned
  * for its type; nothing lent may overlap anything else that is lent. */
@@ -26,9 +26,10 @@ typedef struct {
 #define IVS_PAIRS 1048576
 
 /* One build: a job (records of 12 bytes, J1) into a store. The mode is 0 deduplicating or 1 implicit indices. The
- * answer is the refusal number, 0 for done; R1 to R14 say when each is given, T1 to T5 which one (1 BAD_AXES,
- * 2 BAD_MODE, 3 BAD_JOB_LENGTH, 4 WORK_SHORT, 5 BAD_RECORD, 6 UNKNOWN_REGION, 7 REGION_TWICE, 8 UNFINISHED,
- * 9 SETS_FULL, 10 SHAPES_FULL, 11 IDS_SHORT, 12 MAP_SHORT, 13 LOG_SHORT, 14 OUT_SHORT).
+ * answer is the refusal number, 0 for done; R1 to R34 say when each is given, T1 to T6 which one (1 BAD_AXES,
+ * 2 BAD_MODE, 3 BAD_JOB_LENGTH, 4 WORK_SHORT, 6 UNKNOWN_REGION, 7 REGION_TWICE, 8 UNFINISHED, 9 SETS_FULL,
+ * 10 SHAPES_FULL, 11 IDS_SHORT, 12 MAP_SHORT, 13 LOG_SHORT, 14 OUT_SHORT; of a record's form 30 UNKNOWN_KIND,
+ * 31 NOT_ZERO, 32 AXIS_OUT_OF_TURN, 33 AXIS_TOO_LATE, 34 REGION_UNFINISHED).
  *
  * Lent: work, as many words as ivs_work_words says; pairs, at least IVS_PAIRS records; out, for the store's bytes; ids,
  * a word for each set, its id; map, a word for each distinct id, outer x 65,536 + inner; log, 3 words for each shape
@@ -37,10 +38,11 @@ typedef struct {
  * and pairs as they were; every other answer leaves zeros in all of them (L1 to L4). Too few words of work and too few
  * pairs are both WORK_SHORT.
  *
- * The report has 16 words, and all are written (H2, A1): 0 the number, 1 the place (which record, from 0 on, for 5, 6,
- * 7 and 9; how many records for 8; 0 for all others), 2 store bytes, 3 subtables, 4 regions kept, 5 distinct ids, 6 N
- * (shapes before merging), 7 merges, 8 pairs weighed, 9 modelled size before merging, 10 after, 11 forecast, 12 to 15
- * zero. A refusal has zeros from 2 on. */
+ * The report has 16 words, and all are written (H2, A1): 0 the number, 1 the place (which record, from 0 on, for 6, 7,
+ * 9 and 30 to 34; how many records for 8; 0 for all others), 2 store bytes, 3 subtables, 4 regions kept, 5 distinct
+ * ids, 6 N (shapes before merging), 7 merges, 8 pairs weighed, 9 modelled size before merging, 10 after, 11 forecast,
+ * 12 the byte within the record (for 31 the first that should be 0 and is not; 0 for all others), 13 to 15 zero. A
+ * refusal has zeros in 2 to 11. */
 uint32_t ivs_build(uint32_t axes, uint32_t mode, const uint8_t *job, size_t job_len, uint32_t *work, size_t work_len, ivs_pair *pairs,
                    size_t pairs_len, uint8_t *out, size_t out_len, uint32_t *ids, size_t ids_len, uint32_t *map, size_t map_len,
                    uint32_t *log, size_t log_len, uint64_t *report);

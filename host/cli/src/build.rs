@@ -10,7 +10,7 @@ pub fn run(arguments: &Build) -> Result<(), Failure> {
     let places = places(arguments)?;
     let job = files::read(&arguments.job)?;
     let packed = ivs::pack(arguments.axes, arguments.mode as u32, &job)
-        .map_err(|refused| Failure::refused(&arguments.job, refused))?;
+        .map_err(|refused| Failure::refused_job(&arguments.job, arguments.axes, &job, refused))?;
     let outputs: Vec<(&Path, Vec<u8>)> = places
         .iter()
         .map(|&(path, part)| (path, part(&packed)))

@@ -3,8 +3,8 @@
 use ivs::{Lent, Pair, Refused, Tent};
 
 const RECORD: usize = 12;
-/// The first refusal that is about lent memory or about building, and not about the job.
-const SHAPES_FULL: u32 = 10;
+/// The refusals that are about lent memory or about building, and not about the job.
+const BUILDING: std::ops::RangeInclusive<u32> = 10..=14;
 
 pub struct Job {
     pub axes: usize,
@@ -50,7 +50,7 @@ fn check(axes: u32, bytes: &[u8]) -> Result<(), Refused> {
         log: &mut [],
     };
     match ivs::build_into(axes, 0, bytes, &mut lent) {
-        Err(refused) if refused.number < SHAPES_FULL => Err(refused),
+        Err(refused) if !BUILDING.contains(&refused.number) => Err(refused),
         _ => Ok(()),
     }
 }

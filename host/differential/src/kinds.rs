@@ -72,6 +72,11 @@ pub fn records() -> Run {
     Run::over(share, cases::records)
 }
 
+/// Records of every form.
+pub fn forms() -> Run {
+    Run::over(some(7, 601), cases::forms)
+}
+
 /// Every damage to one job.
 pub fn each_damage() -> Run {
     Run::over(some(5, 501), cases::each_damage)

@@ -56,7 +56,7 @@ pub fn around(case: &Case<'_>, known: &Known, buffers: &mut Buffers) -> Result<(
         let short = refusal.filter(|&number| said.is_ok() || number == plain::number::WORK_SHORT);
         let held = match short {
             Some(number) if tests_work(said) => {
-                compare(case, &lent, &Err(Refused { number, place: 0 }), buffers)
+                compare(case, &lent, &Err(Refused::at(number, 0)), buffers)
             }
             _ => compare(case, &lent, said, buffers).and_then(|()| source(known, buffers)),
         };
@@ -84,6 +84,7 @@ pub fn packed(case: &Case<'_>) -> Said {
             Err(Refused {
                 number: refused.number,
                 place: refused.place,
+                byte: refused.byte,
             })
         }
     }
@@ -244,7 +245,7 @@ fn source(known: &Known, buffers: &Buffers) -> Result<(), String> {
     )
 }
 
-/// The report of an answer: number, place, the ten counts, zeros.
+/// The report of an answer: number, place, the ten counts, the byte, zeros.
 fn report_of(said: &Said) -> [u64; 16] {
     let mut report = [0; 16];
     match said {
@@ -266,6 +267,7 @@ fn report_of(said: &Said) -> [u64; 16] {
         Err(refused) => {
             report[0] = u64::from(refused.number);
             report[1] = refused.place;
+            report[12] = refused.byte;
         }
     }
     report

@@ -62,6 +62,11 @@ fn all_short_record_sequences() {
 }
 
 #[test]
+fn records_of_every_form() {
+    held("forms", &kinds::forms());
+}
+
+#[test]
 fn every_damage_to_one_job() {
     held("damages", &kinds::each_damage());
 }

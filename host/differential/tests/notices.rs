@@ -83,14 +83,21 @@ fn a_word_of_the_sources_answer() {
 }
 
 #[test]
-fn a_refusals_number_and_place() {
-    let unfinished = &job()[..12 * 5];
-    for change in [(1, 0), (0, 1)] {
-        let held = compared(unfinished, 0, |known| {
-            let refused = known.said.as_mut().expect_err("a refusal");
-            refused.number += change.0;
-            refused.place += change.1;
-        });
-        assert!(held.iter().all(Result::is_err), "{change:?}");
+fn a_refusals_number_place_and_byte() {
+    let unfinished = job()[..12 * 5].to_vec();
+    // Bytes 2 and 9 of the first value.
+    let mut not_zero = job();
+    not_zero[12 * 4 + 2] = 7;
+    not_zero[12 * 4 + 9] = 7;
+    for job in [unfinished, not_zero] {
+        for change in [(1, 0, 0), (0, 1, 0), (0, 0, 1)] {
+            let held = compared(&job, 0, |known| {
+                let refused = known.said.as_mut().expect_err("a refusal");
+                refused.number += change.0;
+                refused.place += change.1;
+                refused.byte += change.2;
+            });
+            assert!(held.iter().all(Result::is_err), "{change:?}");
+        }
     }
 }

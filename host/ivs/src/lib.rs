@@ -8,7 +8,8 @@
 //! * [`write_glyphs`], [`read_glyph`]: the map of glyphs to rows of a store.
 //!
 //! No input makes a call go wrong: it is done exactly, or refused by number and place
-//! with nothing written. What was lent may hold anything before.
+//! with nothing written; [`Refused::explain`] says what stands there and what was due. What
+//! was lent may hold anything before.
 //!
 //! ```
 //! let mut job = ivs::JobWriter::new(1);
@@ -20,10 +21,12 @@
 //! # Ok::<(), Box<dyn std::error::Error>>(())
 //! ```
 
+mod explain;
 mod glyphs;
 #[cfg_attr(not(target_arch = "x86_64"), path = "emulated.rs")]
 mod raw;
 mod refusals;
+mod words;
 mod writer;
 
 pub use glyphs::{read_glyph, write_glyphs, write_glyphs_into, GLYPHS};
@@ -183,6 +186,7 @@ pub fn build_into(axes: u32, mode: u32, job: &[u8], lent: &mut Lent<'_>) -> Resu
         number => Err(Refused {
             number,
             place: report[1],
+            byte: report[12],
             short: short(number, job, lent),
         }),
     }

@@ -11,8 +11,8 @@ const RECORDS: usize = 1_048_576;
 /// Start, peak and end on one axis, as raw F2Dot14 numbers (0x4000 is 1).
 pub type Tent = (i16, i16, i16);
 
-/// Writes a job. Whatever is taken is sound: the library refuses no job of a writer by 3
-/// or 5 to 8, when it is built with the writer's axis count.
+/// Writes a job. Whatever is taken is sound: the library refuses no job of a writer by 3,
+/// 6 to 8 or 30 to 34, when it is built with the writer's axis count.
 ///
 /// ```
 /// let mut job = ivs::JobWriter::new(1);
