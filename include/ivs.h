@@ -41,11 +41,19 @@ typedef struct {
  * The report has 16 words, and all are written (H2, A1): 0 the number, 1 the place (which record, from 0 on, for 6, 7,
  * 9 and 30 to 34; how many records for 8; 0 for all others), 2 store bytes, 3 subtables, 4 regions kept, 5 distinct
  * ids, 6 N (shapes before merging), 7 merges, 8 pairs weighed, 9 modelled size before merging, 10 after, 11 forecast,
- * 12 the byte within the record (for 31 the first that should be 0 and is not; 0 for all others), 13 to 15 zero. A
- * refusal has zeros in 2 to 11. */
+ * which is the store's bytes, 12 the byte within the record (for 31 the first that should be 0 and is not; 0 for all
+ * others), 13 to 15 zero. A refusal has zeros in 2 to 11. */
 uint32_t ivs_build(uint32_t axes, uint32_t mode, const uint8_t *job, size_t job_len, uint32_t *work, size_t work_len, ivs_pair *pairs,
                    size_t pairs_len, uint8_t *out, size_t out_len, uint32_t *ids, size_t ids_len, uint32_t *map, size_t map_len,
                    uint32_t *log, size_t log_len, uint64_t *report);
+
+/* What ivs_build would say of a job, with nothing lent to write to (A4, H5): how many bytes the store takes, and how
+ * much to lend for it. Answer and report are those of a build that is lent enough of all else: refusals 1 to 4, 6 to 10
+ * and 30 to 34, or the ten counts. A build then needs report[2] bytes of out, a word of ids for each set (each end
+ * record), report[5] words of map and 3 words of log for each shape but one (report[6]). Work and pairs are lent as for
+ * a build, and left as by it. */
+uint32_t ivs_forecast(uint32_t axes, uint32_t mode, const uint8_t *job, size_t job_len, uint32_t *work, size_t work_len,
+                      ivs_pair *pairs, size_t pairs_len, uint64_t *report);
 
 /* The value of a region of the store's list in row `inner` of subtable `outer` (V1 to V8, H3). High half: 0 written, 1
  * no column (which means zero), else the refusal number (20 BAD_STORE, 21 NO_ROW, 22 NO_REGION); low half: the value's

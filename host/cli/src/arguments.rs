@@ -18,6 +18,7 @@ pub struct Arguments {
 #[derive(Subcommand)]
 pub enum Command {
     Build(Build),
+    Forecast(Forecast),
     Read(Read),
     Show(Show),
     Pack(Pack),
@@ -57,6 +58,20 @@ pub struct Build {
 pub enum Mode {
     Dedup = 0,
     Implicit = 1,
+}
+
+/// Tells how many bytes the store of a job takes in either mode, without building it
+#[derive(Args)]
+#[command(after_help = AFTER)]
+pub struct Forecast {
+    /// The job: records of 12 bytes
+    pub job: PathBuf,
+    /// The axis count that the job was written for, 1 to 64
+    #[arg(long, value_name = "N")]
+    pub axes: u32,
+    /// Print the numbers as JSON, with the name of the smaller mode, null where both take as many bytes
+    #[arg(long)]
+    pub json: bool,
 }
 
 /// Reads one value of a store

@@ -6,7 +6,9 @@ mod build;
 mod f2dot14;
 mod failure;
 mod files;
+mod forecast;
 mod job;
+mod numbers;
 mod pack;
 mod read;
 mod show;
@@ -42,6 +44,7 @@ fn main() -> ExitCode {
 fn run(command: &Command) -> Result<(), Failure> {
     match command {
         Command::Build(arguments) => build::run(arguments),
+        Command::Forecast(arguments) => forecast::run(arguments),
         Command::Read(arguments) => read::run(arguments),
         Command::Show(arguments) => show::run(arguments),
         Command::Pack(arguments) => pack::run(arguments),

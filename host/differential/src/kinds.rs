@@ -103,7 +103,11 @@ pub fn damaged(seeds: &Range<u64>) -> Run {
 /// Large random jobs, one for four hundred of the others.
 pub fn large(seeds: &Range<u64>) -> Run {
     let few = seeds.start..seeds.start + (seeds.end - seeds.start) / 400;
-    Run::over(some(1, 11), |visit| cases::large(few, visit))
+    let share = Share {
+        forecast: 1,
+        ..some(1, 11)
+    };
+    Run::over(share, |visit| cases::large(few, visit))
 }
 
 /// The plain reading in memory around each size, on one random job in twenty.
@@ -129,6 +133,7 @@ const ALL: Share = Share {
     emulated: 1,
     short: |_| true,
     around: 1,
+    forecast: 1,
     noisy: 1,
 };
 
@@ -137,13 +142,14 @@ fn ends(job: &[u8]) -> usize {
     job.chunks(12).filter(|record| record[0] == 3).count()
 }
 
-/// Some of the jobs, with memory just over each size.
+/// Some of the jobs, with memory just over each size, and of one in three the forecast.
 fn some(linked: usize, emulated: usize) -> Share {
     Share {
         linked,
         emulated,
         short: |_| false,
         around: 0,
+        forecast: 3,
         noisy: NOISY,
     }
 }

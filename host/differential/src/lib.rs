@@ -8,7 +8,8 @@
 //! * [`check`]: what is compared of that.
 //! * [`laws`]: what must hold of an answer, whoever gave it.
 //! * [`proved`]: the proved build and reader, in lent memory that holds [`noise`];
-//!   [`pairs`]: the part of it that is large for every job.
+//!   [`pairs`]: the part of it that is large for every job; [`forecasts`]: what the library
+//!   says before it builds.
 //! * [`replay`]: the recorded answers, without the source; [`maps`]: the recorded glyph maps;
 //!   [`built`]: a list of cases with all that a build answers and leaves.
 //! * [`run`]: all of it over some jobs, counted; [`kinds`]: the runs that are made.
@@ -19,6 +20,7 @@
 pub mod built;
 pub mod cases;
 pub mod check;
+pub mod forecasts;
 pub mod kinds;
 pub mod known;
 pub mod laws;

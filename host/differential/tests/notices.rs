@@ -61,6 +61,33 @@ fn a_word_of_the_plain_readings_answer() {
     }
 }
 
+/// The forecast has the ten counts alone.
+#[test]
+fn a_word_of_the_forecast() {
+    let job = job();
+    let case = Case {
+        name: &"a job",
+        axes: 1,
+        mode: 0,
+        job: &job,
+    };
+    let forecast = |change: fn(&mut plain::Counts)| {
+        let mut known = Known::of(&case);
+        change(&mut known.said.as_mut().expect("a done build").counts);
+        proved::forecast(&case, &known, &mut Buffers::default())
+    };
+    assert_eq!(forecast(|_| {}), Ok(()));
+    let changes: [fn(&mut plain::Counts); 4] = [
+        |c| c.store_bytes += 1,
+        |c| c.distinct_ids += 1,
+        |c| c.shapes += 1,
+        |c| c.forecast += 1,
+    ];
+    for change in changes {
+        assert!(forecast(change).is_err());
+    }
+}
+
 #[test]
 fn a_word_of_the_sources_answer() {
     type Change = fn(&mut Source);

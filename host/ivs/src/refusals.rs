@@ -1,6 +1,7 @@
 //! Refusals: the numbers of an answer, and in words as far as these go.
 //! [`Refused::explain`] says more, with the job at hand.
 
+use crate::building::{work_words, PAIRS};
 use crate::words;
 use std::error::Error;
 use std::fmt;
@@ -9,10 +10,7 @@ use std::fmt;
 pub(crate) const RECORD: usize = 12;
 
 /// WORK_SHORT, of which there are two kinds.
-pub(crate) const WORK_SHORT: u32 = 4;
-
-/// OUT_SHORT, the one refusal that [`crate::pack`] answers itself.
-pub(crate) const OUT_SHORT: u32 = 14;
+const WORK_SHORT: u32 = 4;
 
 /// Those of a record, of which SETS_FULL has nothing more to say.
 pub(crate) const UNKNOWN_REGION: u32 = 6;
@@ -82,6 +80,30 @@ impl Refused {
             place: 0,
             byte: 0,
             short: None,
+        }
+    }
+
+    /// The refusal of a report (include/ivs.h).
+    pub(crate) fn of(report: &[u64; 16]) -> Refused {
+        Refused {
+            place: report[1],
+            byte: report[12],
+            ..Refused::bare(report[0] as u32)
+        }
+    }
+
+    /// With what was short of a call that was lent so many words of work for a job: the words
+    /// are tested before the pair records.
+    pub(crate) fn short_of(self, job: &[u8], work: usize) -> Refused {
+        let words = work_words(job.len() / RECORD);
+        let short = if work < words {
+            Short::Work(words)
+        } else {
+            Short::Pairs(PAIRS)
+        };
+        Refused {
+            short: (self.number == WORK_SHORT).then_some(short),
+            ..self
         }
     }
 

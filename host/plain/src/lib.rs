@@ -8,6 +8,7 @@
 //! [`build`] says what one build call must answer and write; [`read`] says what
 //! reading one value must answer.
 
+mod forecast;
 pub mod glyphs;
 mod groups;
 mod merging;
@@ -80,7 +81,7 @@ pub struct Counts {
     pub size_before: u64,
     /// Modelled size after merging.
     pub size_after: u64,
-    /// The forecast.
+    /// The forecast of the store's bytes (A3).
     pub forecast: u64,
 }
 
@@ -149,7 +150,7 @@ pub fn build(axes: u32, mode: u32, job: &[u8], sizes: &Sizes) -> Result<Done, Re
         distinct_ids: numbered.sets.len() as u64,
         ..plan.counts
     };
-    let forecast = forecast(axes as u64, &counts, &plan.groups, laid.null_subtables);
+    let forecast = forecast::bytes(axes as u64, &plan.groups, mode == 1);
 
     if sizes.ids < numbered.ids.len() {
         return Err(Refused::at(number::IDS_SHORT, 0));
@@ -170,12 +171,6 @@ pub fn build(axes: u32, mode: u32, job: &[u8], sizes: &Sizes) -> Result<Done, Re
         map: laid.map,
         log: plan.log,
     })
-}
-
-/// The forecast (A3).
-fn forecast(axes: u64, counts: &Counts, groups: &[Group], null_subtables: u64) -> u64 {
-    let written: u64 = groups.iter().map(Group::cost).sum();
-    12 + 6 * axes * counts.regions_kept + written + 4 * null_subtables
 }
 
 /// The final groups with their sets in row order, and what led to them.
