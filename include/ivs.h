@@ -55,6 +55,17 @@ uint32_t ivs_build(uint32_t axes, uint32_t mode, const uint8_t *job, size_t job_
 uint32_t ivs_forecast(uint32_t axes, uint32_t mode, const uint8_t *job, size_t job_len, uint32_t *work, size_t work_len,
                       ivs_pair *pairs, size_t pairs_len, uint64_t *report);
 
+/* Where two sets of a job part (Q1 to Q5, H6); sets go by their numbers in the job, from 0. The answer is the refusal
+ * number, 0 where they were compared: 1, 3, 4 (words of work alone), 6 to 8 and 30 to 34 as in a build, then 64 NO_SET.
+ * Work is lent as for a build, and left as by it.
+ *
+ * The report has 16 words, and all are written: 0 the number, 1 the place and 12 the byte as for a build; 2 how the
+ * first set stands to the second (0 equal, 1 smaller, 2 larger), and where they are not equal: 3 the index of the first
+ * region where they differ, 4 the number in the job of the region that first used that index, 5 and 6 the values of the
+ * first and of the second set there, as two's complement of 64 bits. All other words are zero. */
+uint32_t ivs_part(uint32_t axes, const uint8_t *job, size_t job_len, uint32_t first, uint32_t second, uint32_t *work,
+                  size_t work_len, uint64_t *report);
+
 /* The value of a region of the store's list in row `inner` of subtable `outer` (V1 to V8, H3). High half: 0 written, 1
  * no column (which means zero), else the refusal number (20 BAD_STORE, 21 NO_ROW, 22 NO_REGION); low half: the value's
  * 32 bits, 0 unless written. Any bytes may be read. */

@@ -21,6 +21,7 @@ pub enum Command {
     Forecast(Forecast),
     Read(Read),
     Show(Show),
+    Part(Part),
     Pack(Pack),
 }
 
@@ -100,6 +101,21 @@ pub struct Show {
     /// Show a job in the text form that `pack` reads
     #[arg(long, requires = "axes")]
     pub text: bool,
+}
+
+/// Tells where two sets of a job part: the region, and both values
+#[derive(Args)]
+#[command(after_help = AFTER)]
+pub struct Part {
+    /// The job, or its text
+    pub job: PathBuf,
+    /// A set's number in the job, from 0
+    pub first: u32,
+    /// Another set's
+    pub second: u32,
+    /// The axis count of a job; a text has its own
+    #[arg(long, value_name = "N")]
+    pub axes: Option<u32>,
 }
 
 const TEXT: &str = "\

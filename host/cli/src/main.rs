@@ -10,6 +10,7 @@ mod forecast;
 mod job;
 mod numbers;
 mod pack;
+mod part;
 mod read;
 mod show;
 mod show_job;
@@ -47,6 +48,7 @@ fn run(command: &Command) -> Result<(), Failure> {
         Command::Forecast(arguments) => forecast::run(arguments),
         Command::Read(arguments) => read::run(arguments),
         Command::Show(arguments) => show::run(arguments),
+        Command::Part(arguments) => part::run(arguments),
         Command::Pack(arguments) => pack::run(arguments),
     }
 }

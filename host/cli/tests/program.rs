@@ -178,6 +178,34 @@ fn a_forecast_where_both_refuse() {
 }
 
 #[test]
+fn where_two_sets_part() {
+    let folder = folder("part");
+    let text = "axes 2\nregion light -1 -1 0 0 0.5 1\nregion bold 0 1 1 0 0 0\n\
+                set bold=10 light=7\nset light=7 bold=-3\nset light=7 bold=10\nset light=7\n";
+    packed(&folder, text);
+    let alike = "set 0 and set 2 are equal\n";
+    assert_eq!(done(&folder, "part text 0 2"), alike);
+    assert_eq!(done(&folder, "part job 0 2 --axes 2"), alike);
+    let named = "set 0 and set 1 part at bold: 10 and -3\n";
+    assert_eq!(done(&folder, "part text 0 1"), named);
+    let numbered = "set 3 and set 0 part at region 1 (0 1 1, 0 0 0): 0 and 10\n";
+    assert_eq!(done(&folder, "part job 3 0 --axes 2"), numbered);
+    for file in ["text", "job --axes 2"] {
+        let said = failed(&folder, &format!("part {file} 0 4"), 2);
+        let why = "64 NO_SET: the job has 4 sets, 0 to 3; ask for two of its sets, counted from 0";
+        assert!(said.contains(why), "{said}");
+    }
+    let said = failed(&folder, "part job 0 1", 1);
+    assert_eq!(said, "fenikezo: job is a job: say --axes N\n");
+    let said = failed(&folder, "part job 0 1 --axes 1", 2);
+    assert!(
+        said.ends_with("; the job looks as if written for 2 axes\n"),
+        "{said}"
+    );
+    assert_eq!(files(&folder), ["job", "text"]);
+}
+
+#[test]
 fn a_refusal_is_2_and_leaves_no_file() {
     let folder = folder("refusal");
     let mut job = example("two-sets.job");

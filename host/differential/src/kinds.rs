@@ -1,5 +1,6 @@
 //! The runs, one for each kind of jobs: the program and the tests make the same.
 
+use crate::parts::Parts;
 use crate::run::{Run, Share};
 use crate::{built, cases, maps, replay, sizes, stores, Case};
 use std::ops::Range;
@@ -117,6 +118,23 @@ pub fn sizes(seeds: &Range<u64>) -> Run {
     cases::random(some, &mut |case: &Case<'_>| {
         run.plain.count(sizes::check(case))
     });
+    run
+}
+
+/// Where sets part: in the examples, at the limits, and in one random job in five, as it is
+/// and damaged (emulated: in fifty).
+pub fn parts(seeds: &Range<u64>) -> Run {
+    let mut parts = Parts::default();
+    let few = (seeds.end - seeds.start) / if ivs::EMULATED { 50 } else { 5 };
+    let mut visit = |case: &Case<'_>| parts.case(case);
+    cases::examples(&mut visit);
+    cases::axes_and_modes(&mut visit);
+    cases::edges(&mut visit);
+    cases::random(seeds.start..seeds.start + few, &mut visit);
+    cases::damaged(seeds.start..seeds.start + few, &mut visit);
+    let mut run = Run::default();
+    run.plain.add(parts.plain);
+    run.proved.add(parts.proved);
     run
 }
 

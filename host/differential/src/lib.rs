@@ -13,6 +13,7 @@
 //! * [`replay`]: the recorded answers, without the source; [`maps`]: the recorded glyph maps;
 //!   [`built`]: a list of cases with all that a build answers and leaves.
 //! * [`run`]: all of it over some jobs, counted; [`kinds`]: the runs that are made.
+//! * [`parts`]: where two sets of a job part.
 //! * [`sizes`]: lent memory around each size that is asked for.
 //! * [`stores`]: the reader on damaged stores.
 //! * [`Tally`]: how many comparisons held.
@@ -27,6 +28,7 @@ pub mod laws;
 pub mod maps;
 pub mod noise;
 pub mod pairs;
+pub mod parts;
 pub mod proved;
 pub mod replay;
 pub mod run;

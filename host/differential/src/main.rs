@@ -34,7 +34,7 @@ fn main() -> ExitCode {
         "", "passed", "failed", "passed", "failed", "with source", "seconds"
     );
     let mut all = Tally::default();
-    let runs: [(&str, &dyn Fn() -> Run); 15] = [
+    let runs: [(&str, &dyn Fn() -> Run); 16] = [
         ("recorded answers", &kinds::recorded),
         ("recorded glyph maps", &kinds::recorded_maps),
         ("built cases", &kinds::built),
@@ -49,6 +49,7 @@ fn main() -> ExitCode {
         ("large random jobs", &|| kinds::large(seeds)),
         ("damaged jobs", &|| kinds::damaged(seeds)),
         ("plain reading around its sizes", &|| kinds::sizes(seeds)),
+        ("where two sets part", &|| kinds::parts(seeds)),
         ("stores, most of them damaged", &|| kinds::stores(seeds)),
     ];
     for (name, run) in runs {

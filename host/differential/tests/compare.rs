@@ -92,6 +92,11 @@ fn plain_reading_around_its_sizes() {
 }
 
 #[test]
+fn where_two_sets_part() {
+    held("parts", &kinds::parts(&SEEDS));
+}
+
+#[test]
 fn stores_most_of_them_damaged() {
     let run = kinds::stores(&SEEDS);
     held("stores", &run);

@@ -17,6 +17,7 @@ const READ: u64 = 2;
 const WRITE_GLYPHS: u64 = 3;
 const READ_GLYPH: u64 = 4;
 const FORECAST: u64 = 5;
+const PART: u64 = 6;
 
 /// The program that answers. It leaves when its standard input ends, with this process, so
 /// nobody waits for it.
@@ -44,6 +45,19 @@ pub fn forecast(
 ) -> u32 {
     let lent = &mut lending(work, pairs, &mut []);
     ask([FORECAST, axes.into(), mode.into(), 0], job, lent, report) as u32
+}
+
+pub fn part(
+    axes: u32,
+    job: &[u8],
+    first: u32,
+    second: u32,
+    work: &mut [u32],
+    report: &mut [u64; 16],
+) -> u32 {
+    let lent = &mut lending(work, &mut [], &mut []);
+    let what = [PART, axes.into(), first.into(), second.into()];
+    ask(what, job, lent, report) as u32
 }
 
 pub fn read(store: &[u8], outer: u32, inner: u32, region: u32) -> u64 {
@@ -146,7 +160,7 @@ impl Server {
         if what[0] == WRITE_GLYPHS {
             self.from.read_exact(lent.out)?;
         }
-        if [BUILD, FORECAST].contains(&what[0]) {
+        if [BUILD, FORECAST, PART].contains(&what[0]) {
             self.take_words(lent.work)?;
             match self.take_word()? {
                 0 if held => lent.pairs.fill(Pair::default()),

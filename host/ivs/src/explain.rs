@@ -1,8 +1,8 @@
 //! A refusal explained with the job at hand: what stands at its place, and what was due.
 
 use crate::refusals::{
-    Refused, AXIS_OUT_OF_TURN, AXIS_TOO_LATE, NOT_ZERO, RECORD, REGION_TWICE, REGION_UNFINISHED,
-    UNFINISHED, UNKNOWN_KIND, UNKNOWN_REGION,
+    Refused, AXIS_OUT_OF_TURN, AXIS_TOO_LATE, NOT_ZERO, NO_SET, RECORD, REGION_TWICE,
+    REGION_UNFINISHED, UNFINISHED, UNKNOWN_KIND, UNKNOWN_REGION,
 };
 use crate::words;
 
@@ -65,8 +65,10 @@ impl<'a> Around<'a> {
 
     /// What happened, where the job has more to say of it than the number.
     fn what(&self, refused: &Refused) -> Option<String> {
-        if refused.number == UNFINISHED {
-            return Some(self.unfinished());
+        match refused.number {
+            UNFINISHED => return Some(self.unfinished()),
+            NO_SET => return Some(self.sets()),
+            _ => {}
         }
         let record = self.record(self.place)?;
         Some(match refused.number {
@@ -123,6 +125,15 @@ impl<'a> Around<'a> {
             0 => "the job has no regions".to_string(),
             1 => "the job has one, region 0".to_string(),
             count => format!("the job has {count}, 0 to {}", count - 1),
+        }
+    }
+
+    fn sets(&self) -> String {
+        let ends = |record: &&[u8]| record[0] == 3;
+        match self.job.chunks(RECORD).filter(ends).count() {
+            0 => "the job has no sets".to_string(),
+            1 => "the job has one set, 0".to_string(),
+            count => format!("the job has {count} sets, 0 to {}", count - 1),
         }
     }
 
@@ -311,10 +322,21 @@ mod tests {
         assert!(twice(&[1, 0, 2]).starts_with(like));
     }
 
+    #[test]
+    fn sets_that_are_asked_for() {
+        let said = |job: &[u8]| Refused::bare(64).explain(1, job);
+        assert_eq!(
+            said(&[END, value(0), END].concat()),
+            "64 NO_SET: the job has 2 sets, 0 to 1; ask for two of its sets, counted from 0"
+        );
+        assert!(said(&END).starts_with("64 NO_SET: the job has one set, 0; "));
+        assert!(said(&[]).starts_with("64 NO_SET: the job has no sets; "));
+    }
+
     /// Nothing goes wrong where refusal and job are no pair.
     #[test]
     fn another_job() {
-        for number in (1..=14).chain(20..=22).chain(30..=34).chain(40..=42) {
+        for number in 1..=64 {
             for place in [0, 1, 2, 3, u64::MAX] {
                 for byte in [0, 11, 12, u64::MAX] {
                     for axes in [0, 1, 2, u32::MAX] {

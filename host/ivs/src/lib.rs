@@ -5,6 +5,7 @@
 //! * [`build_into`]: the same in lent memory, which may be lent again from build to build;
 //!   [`build_report`] with the bare report.
 //! * [`forecast`]: what a build would say, the store's bytes first, without building.
+//! * [`part`]: where two sets of a job part.
 //! * [`read`]: one value of a store, whatever its bytes are.
 //! * [`write_glyphs`], [`read_glyph`]: the map of glyphs to rows of a store.
 //!
@@ -26,6 +27,7 @@ mod building;
 mod explain;
 mod forecast;
 mod glyphs;
+mod part;
 #[cfg_attr(not(target_arch = "x86_64"), path = "emulated.rs")]
 mod raw;
 mod reading;
@@ -36,6 +38,7 @@ mod writer;
 pub use building::{build_into, build_report, pack, work_words, Done, Lent, Packed, Pair, PAIRS};
 pub use forecast::{forecast, forecast_report, forecast_with};
 pub use glyphs::{read_glyph, write_glyphs, write_glyphs_into, GLYPHS};
+pub use part::{part, part_report, part_with, Parted, Parting};
 pub use reading::{read, Reading};
 pub use refusals::{Refused, Short};
 pub use writer::{JobError, JobWriter, Tent};

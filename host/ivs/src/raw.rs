@@ -51,6 +51,17 @@ extern "C" {
         report: *mut u64,
     ) -> u32;
 
+    fn ivs_part(
+        axes: u32,
+        job: *const u8,
+        job_len: usize,
+        first: u32,
+        second: u32,
+        work: *mut u32,
+        work_len: usize,
+        report: *mut u64,
+    ) -> u32;
+
     fn ivs_read(store: *const u8, store_len: usize, outer: u32, inner: u32, region: u32) -> u64;
 
     fn ivs_write_glyphs(words: *const u32, words_len: usize, out: *mut u8, out_len: usize) -> u64;
@@ -110,6 +121,29 @@ pub fn forecast(
             work.len(),
             pairs.as_mut_ptr(),
             pairs.len(),
+            report.as_mut_ptr(),
+        )
+    }
+}
+
+pub fn part(
+    axes: u32,
+    job: &[u8],
+    first: u32,
+    second: u32,
+    work: &mut [u32],
+    report: &mut [u64; 16],
+) -> u32 {
+    // SAFETY: as for `build`.
+    unsafe {
+        ivs_part(
+            axes,
+            job.as_ptr(),
+            job.len(),
+            first,
+            second,
+            work.as_mut_ptr(),
+            work.len(),
             report.as_mut_ptr(),
         )
     }

@@ -25,6 +25,9 @@ pub(crate) const REGION_UNFINISHED: u32 = 34;
 /// That of the job's end.
 pub(crate) const UNFINISHED: u32 = 8;
 
+/// That of a set that is asked for.
+pub(crate) const NO_SET: u32 = 64;
+
 /// A call that was refused: nothing was written to what was lent, but for work and pairs.
 ///
 /// ```
@@ -48,8 +51,8 @@ pub(crate) const UNFINISHED: u32 = 8;
 /// ```
 #[derive(Clone, Copy, Debug, PartialEq, Eq)]
 pub struct Refused {
-    /// The refusal number: 1 to 14 and 30 to 34 of a build, 20 to 22 of a reading, 40 to 42
-    /// of a glyph map.
+    /// The refusal number: 1 to 14 and 30 to 34 of a job, 20 to 22 of a reading, 40 to 42 of a
+    /// glyph map, 64 of a set.
     pub number: u32,
     /// The record's index from 0 for 6, 7, 9 and 30 to 34; the record count for 8; else 0.
     pub place: u64,

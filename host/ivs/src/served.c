@@ -20,6 +20,7 @@ u32 ivs_build(u32 axes, u32 mode, const u8 *job, u64 job_len, u32 *work, u64 wor
               u8 *out, u64 out_len, u32 *ids, u64 ids_len, u32 *map, u64 map_len, u32 *log, u64 log_len, u64 *report);
 u32 ivs_forecast(u32 axes, u32 mode, const u8 *job, u64 job_len, u32 *work, u64 work_len, pair *pairs, u64 pairs_len,
                  u64 *report);
+u32 ivs_part(u32 axes, const u8 *job, u64 job_len, u32 first, u32 second, u32 *work, u64 work_len, u64 *report);
 u64 ivs_read(const u8 *store, u64 store_len, u32 outer, u32 inner, u32 region);
 u64 ivs_write_glyphs(const u32 *words, u64 words_len, u8 *out, u64 out_len);
 u64 ivs_read_glyph(const u8 *map, u64 map_len, u32 glyph);
@@ -86,7 +87,7 @@ static int holds(const u8 *at, u64 count) {
 #define PAIRS_ROOM (1ul << 25)
 
 /* What is asked. */
-enum { WORK_WORDS, BUILD, READ, WRITE_GLYPHS, READ_GLYPH, FORECAST };
+enum { WORK_WORDS, BUILD, READ, WRITE_GLYPHS, READ_GLYPH, FORECAST, PART };
 
 /* The parts of a question, with the bytes of one of each. */
 enum { JOB, WORK, PAIRS, OUT, IDS, MAP, LOG, REPORT, PARTS };
@@ -126,11 +127,17 @@ static u64 forecast(const u64 *asked, const u64 *count, u8 **at) {
                         (pair *)at[PAIRS], count[PAIRS], (u64 *)at[REPORT]);
 }
 
+static u64 part(const u64 *asked, const u64 *count, u8 **at) {
+    return ivs_part((u32)asked[1], at[JOB], count[JOB], (u32)asked[2], (u32)asked[3], (u32 *)at[WORK], count[WORK],
+                    (u64 *)at[REPORT]);
+}
+
 static u64 answered(const u64 *asked, const u64 *count, u8 **at) {
     switch (asked[0]) {
     case WORK_WORDS: return ivs_work_words(asked[1]);
     case BUILD: return build(asked, count, at);
     case FORECAST: return forecast(asked, count, at);
+    case PART: return part(asked, count, at);
     case WRITE_GLYPHS: return ivs_write_glyphs((u32 *)at[WORK], count[WORK], at[OUT], count[OUT]);
     case READ_GLYPH: return ivs_read_glyph(at[JOB], count[JOB], (u32)asked[1]);
     default: return ivs_read(at[JOB], count[JOB], (u32)asked[1], (u32)asked[2], (u32)asked[3]);
@@ -138,7 +145,7 @@ static u64 answered(const u64 *asked, const u64 *count, u8 **at) {
 }
 
 /* Whether the call has a report. */
-static int reports(u64 what) { return what == BUILD || what == FORECAST; }
+static int reports(u64 what) { return what == BUILD || what == FORECAST || what == PART; }
 
 __attribute__((force_align_arg_pointer)) void _start(void) {
     u8 *room = (u8 *)system_call(9, 0, ROOM + PAIRS_ROOM, 3, 0x4022, -1, 0);

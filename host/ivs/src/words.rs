@@ -119,6 +119,11 @@ pub fn of(number: u32) -> (&'static str, &'static str, &'static str) {
             "the bytes are no glyph map, or an empty one, or end too early",
             "look whether the map was cut off or damaged",
         ),
+        64 => (
+            "NO_SET",
+            "the job has no set of that number",
+            "ask for two of its sets, counted from 0",
+        ),
         _ => ("UNKNOWN", "the refusal is not known", "report it"),
     }
 }
