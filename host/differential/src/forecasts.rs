@@ -38,7 +38,9 @@ pub fn around(case: &Case<'_>, said: &Said, buffers: &mut Buffers) -> Result<(),
         map: report[5] as usize,
         log: 3 * report[6].saturating_sub(1) as usize,
     };
-    for (lent, refusal) in sizes::around(&lent) {
+    // Of work and pairs the build alone is asked, as ever.
+    let written = |around: &(Sizes, Option<u32>)| around.1 != Some(number::WORK_SHORT);
+    for (lent, refusal) in sizes::around(&lent).into_iter().filter(written) {
         let due = refusal.map_or(said.clone(), |number| Err(Refused::at(number, 0)));
         compare(case, &lent, &due, buffers)
             .map_err(|what| format!("a build by its forecast: {what}"))?;

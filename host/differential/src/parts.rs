@@ -10,8 +10,8 @@ use plain::{number, Done, Parted, Refused, Sizes};
 /// What the plain reading answers.
 type Said = Result<Parted, Refused>;
 
-/// So many pairs of sets of a job.
-const PAIRS: usize = 6;
+/// So many pairs of sets of a job; the first is lent a word too few.
+const PAIRS: usize = if ivs::EMULATED { 2 } else { 6 };
 
 /// The comparison, and the memory that it lends from call to call.
 #[derive(Default)]

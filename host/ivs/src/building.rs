@@ -83,6 +83,13 @@ pub(crate) fn done(report: &[u64; 16]) -> Result<Done, Refused> {
 }
 
 /// A store with everything that a build says of it.
+///
+/// ```
+/// let packed = ivs::pack(1, 0, &[])?;                // no regions and no sets
+/// assert_eq!(packed.store, [0, 1, 0, 0, 0, 8, 0, 0, 0, 1, 0, 0]);
+/// assert_eq!(packed.done, ivs::Done { store_bytes: 12, forecast: 12, ..Default::default() });
+/// # Ok::<(), ivs::Refused>(())
+/// ```
 #[derive(Clone, Debug, PartialEq, Eq)]
 pub struct Packed {
     /// The numbers.
@@ -151,6 +158,21 @@ pub fn build_into(axes: u32, mode: u32, job: &[u8], lent: &mut Lent<'_>) -> Resu
 
 /// One build in lent memory, with the report as the library fills it (include/ivs.h).
 /// The answer is the refusal number, 0 for done.
+///
+/// ```
+/// let mut lent = ivs::Lent {
+///     work: &mut [],                                 // a job of no records needs none
+///     pairs: &mut vec![ivs::Pair::default(); ivs::PAIRS],
+///     out: &mut [0; 12],
+///     ids: &mut [],
+///     map: &mut [],
+///     log: &mut [],
+/// };
+/// let mut report = [9; 16];
+/// assert_eq!(ivs::build_report(1, 0, &[], &mut lent, &mut report), 0);
+/// assert_eq!((report[2], report[11], report[15]), (12, 12, 0)); // bytes, forecast, nothing
+/// assert_eq!(ivs::build_report(1, 7, &[], &mut lent, &mut report), 2);
+/// ```
 pub fn build_report(
     axes: u32,
     mode: u32,
