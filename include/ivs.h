@@ -83,6 +83,20 @@ uint64_t ivs_write_glyphs(const uint32_t *words, size_t words_len, uint8_t *out,
  * outer number above 65,535); low half: the word, 0 unless read. Any bytes may be read. */
 uint64_t ivs_read_glyph(const uint8_t *map, size_t map_len, uint32_t glyph);
 
+/* A width table (OpenType's HVAR; X1 to X4, H5) of a store, which goes in as it is, and a word for each glyph, outer x
+ * 65,536 + inner, into out. No words: no map, and row n of subtable 0 is glyph n's, which is what mode 1 is for. High
+ * half: 0 written, else the refusal number (40 TOO_MANY_GLYPHS, then 41 GLYPH_MAP_SHORT, also where the table is longer
+ * than 4,294,967,295 bytes); low half: the bytes written, 0 unless written. 26 + store_len + 4 x words_len bytes always
+ * do. What is not written is left as it was, and a refusal writes nothing. */
+uint64_t ivs_write_widths(const uint8_t *store, size_t store_len, const uint32_t *words, size_t words_len, uint8_t *out,
+                          size_t out_len);
+
+/* The value of a region of the store's list in a glyph's row (X5 to X7, H5); a glyph past the end of the map has the last
+ * entry's row. The answer is as ivs_read's, with two refusals more, which come first: 43 BAD_WIDTHS (fewer than 20 bytes,
+ * a major version other than 1, an offset of the store or of the map that is below 20 or not below the length; a map's
+ * may be 0), then 42 BAD_GLYPH_MAP. Any bytes may be read. */
+uint64_t ivs_read_width(const uint8_t *table, size_t table_len, uint32_t glyph, uint32_t region);
+
 #ifdef __cplusplus
 }
 #endif

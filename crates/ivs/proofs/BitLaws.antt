@@ -1,25 +1,19 @@
--- The 32 bits of a value, as the code works them out; refusal numbers of the reader are small. Assumes nothing.
+-- The 32 bits of a value, as the code works them out; the answers of reading as numbers. Assumes nothing.
 use mathlib.Core.Path.{_≡_, refl, sym, ap, _∙_}
-use mathlib.Core.Bool.{Bool, true, false, not}
-use mathlib.Core.List.{List}
+use mathlib.Core.Bool.{true, false}
 use Prim.Native.Nat.{ℕ, zero, suc, _+_, _-_, _*_, _^_, _≤_, _<_}
 use native.Mathlib.Omega.{arith}
-use lib.Dec.{T, eqb, leb}
+use lib.Dec.{T}
 use lib.IntN.{ℤ, pos, negsuc, sucℤ, _-ℤ_, natAbs, +ℤ-sucℤ}
 use lib.Signed.{mag, ltZ, nonNeg}
 use mir.Syntax.{w32, w64}
 use mir.Val.{toZ, ofZ, SFits, Fits}
 use mir.ValLaws.{toZ-ofZ}
 use borrow.Author.Tests.{ltb-true}
-use Rattle.laws.specs.Pick.{pick}
-use Rattle.laws.specs.Bytes.{be}
 use Rattle.laws.specs.Signed.{twos}
-use Rattle.reader.specs.declared.column.Column.{Column}
-use Rattle.reader.specs.declared.column.Column.the-variants.{At, Missing}
 use Rattle.reader.specs.declared.reader.Reading.{Reading}
 use Rattle.reader.specs.declared.reader.Reading.the-variants.{Written, NoColumn, Refused}
 use Rattle.ivs.specs.Answers.{readWord}
-use Rattle.reader.specs.Store.{headerOk, regionCount, itemCount, regionsAt, find, subtableOk, inColumn, readSubtable, readStore, refusalOf}
 
 -- ---- bits
 
@@ -65,50 +59,17 @@ unfolding twos
 more-is (pos n) f t = rw (back (pos n) f) refl
 more-is (negsuc n) f t = let e = rw (back (negsuc n) f) at t in let z : _≡_ {A = ℕ} 0 1 = cc in absurd (omega arith)
 
--- ---- refusal numbers
-
-either : (b : Bool) (x y : Reading) → refusalOf x ≤ 22 → refusalOf y ≤ 22 → refusalOf (pick b x y) ≤ 22
-either true x y h k = h
-either false x y h k = k
-
-in-column : (s : List ℕ) (at inner : ℕ) (c : Column) → refusalOf (inColumn s at inner c) ≤ 22
-unfolding refusalOf
-in-column s at inner (At j) = omega arith
-in-column s at inner Missing = omega arith
-
-refusal : (n : ℕ) → n ≤ 22 → refusalOf (Refused n) ≤ 22
-unfolding refusalOf
-refusal n h = h
-
-table-few : (s : List ℕ) (at inner region : ℕ) → refusalOf (readSubtable s at inner region) ≤ 22
-unfolding readSubtable
-table-few s at inner region =
-    either (eqb at 0) _ _ (refusal 21 (omega arith))
-    (either (not (subtableOk s at (regionCount s))) _ _ (refusal 20 (omega arith))
-    (either (leb (itemCount s at) inner) _ _ (refusal 21 (omega arith))
-    (either (leb (regionCount s) region) _ _ (refusal 22 (omega arith)) (in-column s at inner (find region 0 (regionsAt s at))))))
-
-few-refusals : (s : List ℕ) (outer inner region : ℕ) → refusalOf (readStore s outer inner region) ≤ 22
-unfolding readStore
-few-refusals s outer inner region =
-    either (not (headerOk s)) _ _ (refusal 20 (omega arith))
-    (either (leb (be 2 s 6) outer) _ _ (refusal 21 (omega arith)) (table-few s (be 4 s (8 + 4 * outer)) inner region))
-
-pub refused-few : (s : List ℕ) (outer inner region : ℕ) (r : Reading) (n : ℕ) → r ≡ readStore s outer inner region → r ≡ Refused n → n ≤ 22
-unfolding refusalOf
-refused-few s outer inner region r n e f = let k = rw (← e, f) at (few-refusals s outer inner region) in omega arith
-
 -- ---- the answer as a number
 
-module _ (r s : Reading) (e : r ≡ s) where
-  pub as-written : (v : ℤ) (x : ℕ) → r ≡ Written v → mag v < 2 ^ 31 → x ≡ twos 4 (toZ w32 (ofZ w32 v)) → x ≡ readWord s
+module _ (r : Reading) where
+  pub as-written : (v : ℤ) (x : ℕ) → r ≡ Written v → mag v < 2 ^ 31 → x ≡ twos 4 (toZ w32 (ofZ w32 v)) → x ≡ readWord r
   unfolding readWord
-  as-written v x f b h = rw (← e, f) (h ∙ ap (twos 4) (back v b))
+  as-written v x f b h = rw f (h ∙ ap (twos 4) (back v b))
 
-  pub as-none : r ≡ NoColumn → 4294967296 ≡ readWord s
+  pub as-none : r ≡ NoColumn → 4294967296 ≡ readWord r
   unfolding readWord
-  as-none f = rw (← e, f) refl
+  as-none f = rw f refl
 
-  pub as-refused : (n : ℕ) → r ≡ Refused n → n * 4294967296 ≡ readWord s
+  pub as-refused : (n : ℕ) → r ≡ Refused n → n * 4294967296 ≡ readWord r
   unfolding readWord
-  as-refused n f = rw (← e, f) refl
+  as-refused n f = rw f refl

@@ -94,6 +94,7 @@ module _ (axes : ℕ) (job : List ℕ) (s : Said) (bytes : Bytes job) (t : Told 
     set-read = record {
       outer = b .outer;
       inner = b .inner;
+      outer-below = b .outer-below;
       inner-below = b .inner-below;
       word-is = b .word-is;
       answers = λ q l. let x = b .regions q (omega arith) in ⊎-elim (λ e. inl (e ∙ ap Written (sym (x .gives-back)))) (λ e. inr e) (x .answers);

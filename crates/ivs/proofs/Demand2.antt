@@ -95,6 +95,7 @@ module _ (axes regions : ℕ) (coords : List (List ℕ)) (jobs : List Set) (k : 
   set-back = record {
     outer = row .outer;
     inner = row .inner;
+    outer-below = row .outer-below;
     inner-below = row .inner-below;
     word-is = row .word-is;
     regions = λ q l. region-back q (omega arith);

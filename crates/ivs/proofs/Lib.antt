@@ -25,7 +25,9 @@ pub mod BytesBack
 pub mod SizesBack
 pub mod Examples
 pub mod GlyphLaws
+pub mod WidthLaws
 pub mod PastBack
 pub mod ReportLaws
 pub mod PlainRows
+pub mod WidthsBack
 pub mod Demand1

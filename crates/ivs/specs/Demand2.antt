@@ -37,6 +37,7 @@ pub record SetBack (axes : ℕ) (coords : List (List ℕ)) (s : Set) (store : Li
   -- F4
   pub outer : ℕ
   pub inner : ℕ
+  pub outer-below : outer < 65536
   pub inner-below : inner < 65536
   pub word-is : word ≡ outer * 65536 + inner
   -- each region of the list

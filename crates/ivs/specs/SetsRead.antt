@@ -39,6 +39,7 @@ pub record SetRead (axes : ℕ) (job store : List ℕ) (n at : ℕ) : Type 0 whe
   -- the map word has the subtable and the row
   pub outer : ℕ
   pub inner : ℕ
+  pub outer-below : outer < 65536
   pub inner-below : inner < 65536
   pub word-is : at ≡ outer * 65536 + inner
   -- no region of the store's list is refused

@@ -1,10 +1,13 @@
 // The library's entry points: what a host links (libivs.a). They turn answers into numbers, and do nothing else.
 mod glyph_map;
 mod report;
+mod width_table;
 
 pub use crate::glyph_map::ivs_read_glyph;
 pub use crate::glyph_map::ivs_write_glyphs;
 use crate::report::tell;
+pub use crate::width_table::ivs_read_width;
+pub use crate::width_table::ivs_write_widths;
 use pairs::Pair;
 use reader::Reading;
 ghost use mathlib.Core.Path.{_≡_};
@@ -34,16 +37,23 @@ fn bits(v: i32) -> u64
     v as u64
 }
 
-// The value of a region in a row of a store. High half: 0 written, 1 no column, else the refusal number; low half: the value's 32 bits.
-#[no_mangle]
-pub extern "C" fn ivs_read(store: &[u8], outer: u32, inner: u32, region: u32) -> u64
-    ensures { λ r. ⌜ r ≡ readWord (readStore (now (store .entry)) outer inner region) ⌝ }
+// A reading as a number. High half: 0 written, 1 no column, else the refusal number; low half: the value's 32 bits.
+fn as_word(reading: Reading) -> u64
+    ensures { λ r. ⌜ r ≡ readWord reading ⌝ }
 {
-    match reader::read(store, outer, inner, region) {
+    match reading {
         Reading::Written(v) => bits(v),
         Reading::NoColumn => 4294967296,
         Reading::Refused(n) => (n as u64) * 4294967296,
     }
+}
+
+// The value of a region in a row of a store, as a number.
+#[no_mangle]
+pub extern "C" fn ivs_read(store: &[u8], outer: u32, inner: u32, region: u32) -> u64
+    ensures { λ r. ⌜ r ≡ readWord (readStore (now (store .entry)) outer inner region) ⌝ }
+{
+    as_word(reader::read(store, outer, inner, region))
 }
 
 // One build: the refusal number, 0 for done; the report has all numbers of the answer.

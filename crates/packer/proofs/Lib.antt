@@ -16,4 +16,5 @@ pub mod ListBack
 pub mod ReadBack
 pub mod Accepted
 pub mod PastLaws
+pub mod WholeBack
 pub mod PlainBack

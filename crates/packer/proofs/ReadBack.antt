@@ -97,6 +97,9 @@ module _ (axes regions : ℕ) (coords : List (List ℕ)) (jobs : List Set) (s : 
   pub shared-back : length (groupsOf regions jobs) ≤ maxShapes → GivesBack axes regions coords jobs (shared regions jobs)
   shared-back h = back (shared regions jobs) (shared-storable h) shared-ids
 
+  pub own-storable : Storable axes regions coords (own regions jobs)
+  own-storable = storable (own regions jobs) (own-good regions jobs (s .proper) (s .words)) own-groups own-sets
+
   -- THE LAW of mode 1
   pub own-back : GivesBack axes regions coords jobs (own regions jobs)
-  own-back = back (own regions jobs) (storable (own regions jobs) (own-good regions jobs (s .proper) (s .words)) own-groups own-sets) own-ids
+  own-back = back (own regions jobs) own-storable own-ids

@@ -33,6 +33,7 @@ pub record RowOf (axes regions : ℕ) (coords : List (List ℕ)) (k : Packed) (m
   -- outer, inner and the map word (F4)
   pub outer : ℕ
   pub inner : ℕ
+  pub outer-below : outer < 65536
   pub inner-below : inner < 65536
   pub word-is : getD (stored (idWords 0 (allRuns (k .finals))) m) x 0 ≡ outer * 65536 + inner
   -- Written or NoColumn (V7): reading a region of the list is never refused
@@ -130,6 +131,7 @@ module _ (axes regions : ℕ) (coords : List (List ℕ)) (k : Packed) (good : We
     row-of m l = record {
       outer = spot .outer;
       inner = spot .inner;
+      outer-below = omega (arith, spot .outer-below, fit .runs-few);
       inner-below = omega (arith, spot .inner-below, sound .items);
       word-is =
           subst (λ (y : ℕ). getD (stored (idWords 0 (allRuns gs)) m) y 0 ≡ spot .outer * 65536 + spot .inner) (spot .is)

@@ -23,6 +23,8 @@ pub enum Command {
     Show(Show),
     Part(Part),
     Pack(Pack),
+    Widths(Widths),
+    Font(Font),
 }
 
 /// Builds the store of a job, and prints the numbers of the build
@@ -55,7 +57,7 @@ pub struct Build {
 }
 
 /// The two modes (J2).
-#[derive(Clone, Copy, ValueEnum)]
+#[derive(Clone, Copy, PartialEq, Eq, ValueEnum)]
 pub enum Mode {
     Dedup = 0,
     Implicit = 1,
@@ -134,4 +136,59 @@ pub struct Pack {
     /// Where to write the job
     #[arg(short = 'o', long = "out", value_name = "JOB")]
     pub job: PathBuf,
+}
+
+/// Builds the width table (HVAR) of a job with a set for each glyph: in both modes, of which
+/// the smaller table is written
+#[derive(Args)]
+#[command(after_help = AFTER)]
+pub struct Widths {
+    /// The job: records of 12 bytes, a set a glyph
+    pub job: PathBuf,
+    /// The axis count that the job was written for, 1 to 64
+    #[arg(long, value_name = "N")]
+    pub axes: u32,
+    /// The mode whose table is written, whichever is smaller
+    #[arg(long, value_enum)]
+    pub mode: Option<Mode>,
+    /// Where to write the table
+    #[arg(short = 'o', long = "out", value_name = "HVAR")]
+    pub table: PathBuf,
+}
+
+/// Looks at a font's item variation stores, or packs them anew
+#[derive(Args)]
+pub struct Font {
+    #[command(subcommand)]
+    pub command: FontCommand,
+}
+
+#[derive(Subcommand)]
+pub enum FontCommand {
+    Show(FontShow),
+    Repack(FontRepack),
+}
+
+/// Shows which tables of a font have a store, their bytes, and what they would take with ours
+#[derive(Args)]
+#[command(after_help = AFTER)]
+pub struct FontShow {
+    /// The font: a TrueType or OpenType file
+    pub font: PathBuf,
+}
+
+const REPACK: &str = "\
+HVAR, VVAR and MVAR are packed anew, in the mode that is smaller. Every other table stays
+byte for byte, but for the sum in head; of one that has a store this is said.
+A file '-' is standard input or standard output.";
+
+/// Packs the stores of a font anew, and writes the font with them
+#[derive(Args)]
+#[command(after_help = REPACK)]
+pub struct FontRepack {
+    /// The font: a TrueType or OpenType file
+    pub font: PathBuf,
+    /// Where to write the font
+    #[arg(short = 'o', long = "out", value_name = "FONT")]
+    pub out: PathBuf,
 }

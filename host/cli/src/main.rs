@@ -6,17 +6,22 @@ mod build;
 mod f2dot14;
 mod failure;
 mod files;
+mod font;
+mod font_store;
+mod font_table;
 mod forecast;
 mod job;
 mod numbers;
 mod pack;
 mod part;
 mod read;
+mod sfnt;
 mod show;
 mod show_job;
 mod show_store;
 mod store;
 mod text;
+mod widths;
 
 use arguments::{Arguments, Command};
 use clap::Parser;
@@ -50,5 +55,7 @@ fn run(command: &Command) -> Result<(), Failure> {
         Command::Show(arguments) => show::run(arguments),
         Command::Part(arguments) => part::run(arguments),
         Command::Pack(arguments) => pack::run(arguments),
+        Command::Widths(arguments) => widths::run(arguments),
+        Command::Font(arguments) => font::run(arguments),
     }
 }

@@ -18,6 +18,8 @@ const WRITE_GLYPHS: u64 = 3;
 const READ_GLYPH: u64 = 4;
 const FORECAST: u64 = 5;
 const PART: u64 = 6;
+const WRITE_WIDTHS: u64 = 20;
+const READ_WIDTH: u64 = 21;
 
 /// The program that answers. It leaves when its standard input ends, with this process, so
 /// nobody waits for it.
@@ -71,6 +73,15 @@ pub fn write_glyphs(words: &[u32], out: &mut [u8]) -> u64 {
 
 pub fn read_glyph(map: &[u8], glyph: u32) -> u64 {
     ask_alone([READ_GLYPH, glyph.into(), 0, 0], map)
+}
+
+/// The words go as work, the table as the output.
+pub fn write_widths(store: &[u8], words: &[u32], out: &mut [u8]) -> u64 {
+    ask_lent([WRITE_WIDTHS, 0, 0, 0], store, &mut words.to_vec(), out)
+}
+
+pub fn read_width(table: &[u8], glyph: u32, region: u32) -> u64 {
+    ask_alone([READ_WIDTH, glyph.into(), region.into(), 0], table)
 }
 
 /// Asks with nothing lent.
@@ -157,7 +168,7 @@ impl Server {
         }
         self.to.flush()?;
         let answer = self.take_word()?;
-        if what[0] == WRITE_GLYPHS {
+        if [WRITE_GLYPHS, WRITE_WIDTHS].contains(&what[0]) {
             self.from.read_exact(lent.out)?;
         }
         if [BUILD, FORECAST, PART].contains(&what[0]) {

@@ -4,7 +4,7 @@ use crate::refusals::{
     Refused, AXIS_OUT_OF_TURN, AXIS_TOO_LATE, NOT_ZERO, NO_SET, RECORD, REGION_TWICE,
     REGION_UNFINISHED, UNFINISHED, UNKNOWN_KIND, UNKNOWN_REGION,
 };
-use crate::words;
+use crate::wording;
 
 /// The most regions of a job.
 const REGIONS: usize = 256;
@@ -34,7 +34,7 @@ impl Refused {
             // Another call's, or nothing more to say.
             None => self.to_string(),
             Some((what, hint)) => {
-                let remedy = hint.unwrap_or_else(|| words::of(self.number).2.to_string());
+                let remedy = hint.unwrap_or_else(|| wording::of(self.number).2.to_string());
                 format!("{}: {what}; {remedy}", self.head())
             }
         }

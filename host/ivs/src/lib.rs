@@ -8,6 +8,7 @@
 //! * [`part`]: where two sets of a job part.
 //! * [`read`]: one value of a store, whatever its bytes are.
 //! * [`write_glyphs`], [`read_glyph`]: the map of glyphs to rows of a store.
+//! * [`write_widths`], [`read_width`]: the width table of a store and such a map.
 //!
 //! No input makes a call go wrong: it is done exactly, or refused by number and place
 //! with nothing written; [`Refused::explain`] says what stands there and what was due. What
@@ -32,7 +33,8 @@ mod part;
 mod raw;
 mod reading;
 mod refusals;
-mod words;
+mod widths;
+mod wording;
 mod writer;
 
 pub use building::{build_into, build_report, pack, work_words, Done, Lent, Packed, Pair, PAIRS};
@@ -41,6 +43,7 @@ pub use glyphs::{read_glyph, write_glyphs, write_glyphs_into, GLYPHS};
 pub use part::{part, part_report, part_with, Parted, Parting};
 pub use reading::{read, Reading};
 pub use refusals::{Refused, Short};
+pub use widths::{read_width, words, write_widths, write_widths_into};
 pub use writer::{JobError, JobWriter, Tent};
 
 /// The library runs under an emulator, since this machine is no x86-64: slow, so that

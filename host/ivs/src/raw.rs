@@ -67,6 +67,17 @@ extern "C" {
     fn ivs_write_glyphs(words: *const u32, words_len: usize, out: *mut u8, out_len: usize) -> u64;
 
     fn ivs_read_glyph(map: *const u8, map_len: usize, glyph: u32) -> u64;
+
+    fn ivs_write_widths(
+        store: *const u8,
+        store_len: usize,
+        words: *const u32,
+        words_len: usize,
+        out: *mut u8,
+        out_len: usize,
+    ) -> u64;
+
+    fn ivs_read_width(table: *const u8, table_len: usize, glyph: u32, region: u32) -> u64;
 }
 
 pub fn work_words(records: usize) -> usize {
@@ -162,4 +173,23 @@ pub fn write_glyphs(words: &[u32], out: &mut [u8]) -> u64 {
 pub fn read_glyph(map: &[u8], glyph: u32) -> u64 {
     // SAFETY: as for `build`; nothing is written.
     unsafe { ivs_read_glyph(map.as_ptr(), map.len(), glyph) }
+}
+
+pub fn write_widths(store: &[u8], words: &[u32], out: &mut [u8]) -> u64 {
+    // SAFETY: as for `build`.
+    unsafe {
+        ivs_write_widths(
+            store.as_ptr(),
+            store.len(),
+            words.as_ptr(),
+            words.len(),
+            out.as_mut_ptr(),
+            out.len(),
+        )
+    }
+}
+
+pub fn read_width(table: &[u8], glyph: u32, region: u32) -> u64 {
+    // SAFETY: as for `build`; nothing is written.
+    unsafe { ivs_read_width(table.as_ptr(), table.len(), glyph, region) }
 }

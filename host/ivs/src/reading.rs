@@ -29,7 +29,11 @@ pub enum Reading {
 /// # Ok::<(), Box<dyn std::error::Error>>(())
 /// ```
 pub fn read(store: &[u8], outer: u32, inner: u32, region: u32) -> Result<Reading, Refused> {
-    let word = raw::read(store, outer, inner, region);
+    reading(raw::read(store, outer, inner, region))
+}
+
+/// The reading that a word stands for, or the refusal in its high half.
+pub(crate) fn reading(word: u64) -> Result<Reading, Refused> {
     match (word >> 32) as u32 {
         0 => Ok(Reading::Written(word as u32 as i32)),
         1 => Ok(Reading::NoColumn),

@@ -2,7 +2,7 @@
 //! [`Refused::explain`] says more, with the job at hand.
 
 use crate::building::{work_words, PAIRS};
-use crate::words;
+use crate::wording;
 use std::error::Error;
 use std::fmt;
 
@@ -52,7 +52,7 @@ pub(crate) const NO_SET: u32 = 64;
 #[derive(Clone, Copy, Debug, PartialEq, Eq)]
 pub struct Refused {
     /// The refusal number: 1 to 14 and 30 to 34 of a job, 20 to 22 of a reading, 40 to 42 of a
-    /// glyph map, 64 of a set.
+    /// glyph map, 43 of a width table, 64 of a set.
     pub number: u32,
     /// The record's index from 0 for 6, 7, 9 and 30 to 34; the record count for 8; else 0.
     pub place: u64,
@@ -116,7 +116,7 @@ impl Refused {
     /// assert_eq!(ivs::pack(0, 0, &[]).unwrap_err().name(), "BAD_AXES");
     /// ```
     pub fn name(&self) -> &'static str {
-        words::of(self.number).0
+        wording::of(self.number).0
     }
 
     /// Number, name and place.
@@ -134,7 +134,7 @@ impl Refused {
 
     /// What happened and what to do, of WORK_SHORT by what was short.
     fn said(&self) -> String {
-        let (_, what, remedy) = words::of(self.number);
+        let (_, what, remedy) = wording::of(self.number);
         match self.short {
             None => format!("{what}; {remedy}"),
             Some(Short::Work(words)) => {

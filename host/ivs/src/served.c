@@ -7,7 +7,8 @@
  * lent, the report of 16 words last. The answer is a word, then of a call that has a report
  * everything lent but the job, with a word before the pairs that says whether they hold
  * anything. Pairs that hold nothing are zeros, and are not sent. Of a glyph map written the
- * output follows the word; its words were lent as work. */
+ * output follows the word; its words were lent as work. So of a width table, whose store is
+ * the job. */
 typedef unsigned char u8;
 typedef unsigned int u32;
 typedef unsigned long u64;
@@ -24,6 +25,8 @@ u32 ivs_part(u32 axes, const u8 *job, u64 job_len, u32 first, u32 second, u32 *w
 u64 ivs_read(const u8 *store, u64 store_len, u32 outer, u32 inner, u32 region);
 u64 ivs_write_glyphs(const u32 *words, u64 words_len, u8 *out, u64 out_len);
 u64 ivs_read_glyph(const u8 *map, u64 map_len, u32 glyph);
+u64 ivs_write_widths(const u8 *store, u64 store_len, const u32 *words, u64 words_len, u8 *out, u64 out_len);
+u64 ivs_read_width(const u8 *table, u64 table_len, u32 glyph, u32 region);
 
 static long system_call(long number, long a, long b, long c, long d, long e, long f) {
     register long r10 __asm__("r10") = d;
@@ -87,7 +90,7 @@ static int holds(const u8 *at, u64 count) {
 #define PAIRS_ROOM (1ul << 25)
 
 /* What is asked. */
-enum { WORK_WORDS, BUILD, READ, WRITE_GLYPHS, READ_GLYPH, FORECAST, PART };
+enum { WORK_WORDS, BUILD, READ, WRITE_GLYPHS, READ_GLYPH, FORECAST, PART, WRITE_WIDTHS = 20, READ_WIDTH };
 
 /* The parts of a question, with the bytes of one of each. */
 enum { JOB, WORK, PAIRS, OUT, IDS, MAP, LOG, REPORT, PARTS };
@@ -139,6 +142,9 @@ static u64 answered(const u64 *asked, const u64 *count, u8 **at) {
     case FORECAST: return forecast(asked, count, at);
     case PART: return part(asked, count, at);
     case WRITE_GLYPHS: return ivs_write_glyphs((u32 *)at[WORK], count[WORK], at[OUT], count[OUT]);
+    case WRITE_WIDTHS:
+        return ivs_write_widths(at[JOB], count[JOB], (u32 *)at[WORK], count[WORK], at[OUT], count[OUT]);
+    case READ_WIDTH: return ivs_read_width(at[JOB], count[JOB], (u32)asked[1], (u32)asked[2]);
     case READ_GLYPH: return ivs_read_glyph(at[JOB], count[JOB], (u32)asked[1]);
     default: return ivs_read(at[JOB], count[JOB], (u32)asked[1], (u32)asked[2], (u32)asked[3]);
     }
@@ -171,7 +177,7 @@ __attribute__((force_align_arg_pointer)) void _start(void) {
         }
         answer = answered(asked, count, at);
         give((u8 *)&answer, sizeof answer);
-        if (asked[0] == WRITE_GLYPHS) give(at[OUT], bytes[OUT]);
+        if (asked[0] == WRITE_GLYPHS || asked[0] == WRITE_WIDTHS) give(at[OUT], bytes[OUT]);
         if (!reports(asked[0])) continue;
         for (int i = WORK; i < PARTS; i++) {
             if (i == PAIRS) {

@@ -69,7 +69,7 @@ fn refusals() {
     for number in build
         .chain(20..=22)
         .chain(30..=34)
-        .chain(40..=42)
+        .chain(40..=43)
         .chain([64])
     {
         let name = ivs::Refused::bare(number).name();

@@ -18,6 +18,7 @@ mod records;
 mod refusals;
 mod sets;
 mod store;
+pub mod table;
 mod widths;
 
 pub use part::{part, Parted, Parting};

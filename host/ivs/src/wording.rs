@@ -111,13 +111,18 @@ pub fn of(number: u32) -> (&'static str, &'static str, &'static str) {
         ),
         41 => (
             "GLYPH_MAP_SHORT",
-            "the output lent is too small for the glyph map",
-            "lend more bytes (6 and 4 for each glyph always do)",
+            "the output lent is too small for the glyph map or the width table",
+            "lend more bytes (6 and 4 for each glyph always do; 20 and the store more)",
         ),
         42 => (
             "BAD_GLYPH_MAP",
             "the bytes are no glyph map, or an empty one, or end too early",
             "look whether the map was cut off or damaged",
+        ),
+        43 => (
+            "BAD_WIDTHS",
+            "the bytes are no width table, or its store or its map stands outside them",
+            "look whether the table was cut off or damaged",
         ),
         64 => (
             "NO_SET",
