@@ -69,7 +69,8 @@ int main(int count, char **arguments) {
     for (size_t i = 0; i < records; i++) sets += job[12 * i] == 3;
     uint32_t number = build((uint32_t)atoi(arguments[1]), job, records, sets, &p);
     if (number != 0) {
-        fprintf(stderr, "refused: %u at %llu, byte %llu\n", number, (unsigned long long)p.report[1], (unsigned long long)p.report[12]);
+        unsigned long long place = p.report[1], byte = p.report[12];
+        fprintf(stderr, "refused: %u at %llu, byte %llu\n", number, place, byte);
         return 2;
     }
     printf("store ");
