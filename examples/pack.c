@@ -9,18 +9,36 @@
 #include <stdio.h>
 #include <stdlib.h>
 
-/* README shows this function. */
-uint32_t build(uint32_t axes, const uint8_t *job, size_t records, uint8_t *out, size_t out_len, uint32_t *ids,
-               uint32_t *map, size_t sets, uint64_t report[16]) {
+typedef struct {
+    uint8_t *out;
+    uint32_t *ids, *map;
+    uint64_t report[16];
+} packed;
+
+/* Never null, also for no bytes. */
+static void *room(size_t bytes) {
+    void *at = malloc(bytes + 4);
+    if (!at) abort();
+    return at;
+}
+
+/* Built in as much memory as the forecast says. README shows this function. */
+uint32_t build(uint32_t axes, const uint8_t *job, size_t records, size_t sets, packed *p) {
     static uint32_t log[3 * 1023];
     static ivs_pair pairs[IVS_PAIRS]; /* 12 MiB, for every job */
-    size_t words = ivs_work_words(records);
-    uint32_t *work = malloc(4 * words + 4); /* never null, also for no words */
-    if (!work) abort();
-    uint32_t number = ivs_build(axes, 0, job, 12 * records, work, words, pairs, IVS_PAIRS, out, out_len, ids, sets, map, sets,
-                                log, 3 * 1023, report);
+    size_t words = ivs_work_words(records), job_len = 12 * records;
+    uint32_t *work = room(4 * words);
+    uint32_t number = ivs_forecast(axes, 0, job, job_len, work, words, pairs, IVS_PAIRS, p->report);
+    if (number == 0) {
+        size_t bytes = p->report[2], ids = p->report[5];
+        p->out = room(bytes);
+        p->ids = room(4 * sets);
+        p->map = room(4 * ids);
+        number = ivs_build(axes, 0, job, job_len, work, words, pairs, IVS_PAIRS, p->out, bytes, p->ids, sets, p->map, ids,
+                           log, 3 * 1023, p->report);
+    }
     free(work);
-    return number; /* 0, or the refusal, with its place in report[1] */
+    return number; /* 0, or the refusal, with its place in report[1] and its byte in report[12] */
 }
 
 /* The whole file, as far as there is room. */
@@ -36,9 +54,8 @@ static size_t read_file(const char *name, uint8_t *bytes, size_t room) {
 }
 
 int main(int count, char **arguments) {
-    static uint8_t job[12 * (1048576 + 1)], out[1 << 20]; /* a record more than is taken, so that it shows */
-    static uint32_t ids[1048576], map[1048576];
-    uint64_t report[16];
+    static uint8_t job[12 * (1048576 + 1)]; /* a record more than is taken, so that it shows */
+    packed p;
     if (count != 3) {
         fprintf(stderr, "usage: pack AXES JOB\n");
         return 1;
@@ -50,17 +67,18 @@ int main(int count, char **arguments) {
         return 1;
     }
     for (size_t i = 0; i < records; i++) sets += job[12 * i] == 3;
-    uint32_t number = build((uint32_t)atoi(arguments[1]), job, records, out, sizeof out, ids, map, sets, report);
+    uint32_t number = build((uint32_t)atoi(arguments[1]), job, records, sets, &p);
     if (number != 0) {
-        fprintf(stderr, "refused: %u at %llu\n", number, (unsigned long long)report[1]);
+        unsigned long long place = p.report[1], byte = p.report[12];
+        fprintf(stderr, "refused: %u at %llu, byte %llu\n", number, place, byte);
         return 2;
     }
     printf("store ");
-    for (size_t i = 0; i < report[2]; i++) printf("%02x", out[i]);
+    for (size_t i = 0; i < p.report[2]; i++) printf("%02x", p.out[i]);
     printf("\n");
     for (size_t i = 0; i < sets; i++) {
-        uint32_t word = map[ids[i]];
-        uint64_t value = ivs_read(out, report[2], word >> 16, word & 0xFFFF, 0);
+        uint32_t word = p.map[p.ids[i]];
+        uint64_t value = ivs_read(p.out, p.report[2], word >> 16, word & 0xFFFF, 0);
         printf("set %zu: outer %u, inner %u: ", i, word >> 16, word & 0xFFFF);
         if (value >> 32 == 0) {
             printf("%d\n", (int32_t)(uint32_t)value);
@@ -70,5 +88,8 @@ int main(int count, char **arguments) {
             printf("refused, %u\n", (uint32_t)(value >> 32));
         }
     }
+    free(p.out);
+    free(p.ids);
+    free(p.map);
     return 0;
 }

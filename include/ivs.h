@@ -1,5 +1,5 @@
 /* Fenikezo: item variation stores. Link with libivs.a (`rt staticlib ivs`), which is for x86-64. docs/RULES.md has the
- * rules, by labels (J1, R5), which are given below.
+ * rules, by labels (J1, R6), which are given below.
  *
  * A slice passes as a pointer and a length. A pointer must not be null, also where the length is 0, and must be aligned
  * for its type; nothing lent may overlap anything else that is lent. */
@@ -26,9 +26,10 @@ typedef struct {
 #define IVS_PAIRS 1048576
 
 /* One build: a job (records of 12 bytes, J1) into a store. The mode is 0 deduplicating or 1 implicit indices. The
- * answer is the refusal number, 0 for done; R1 to R14 say when each is given, T1 to T5 which one (1 BAD_AXES,
- * 2 BAD_MODE, 3 BAD_JOB_LENGTH, 4 WORK_SHORT, 5 BAD_RECORD, 6 UNKNOWN_REGION, 7 REGION_TWICE, 8 UNFINISHED,
- * 9 SETS_FULL, 10 SHAPES_FULL, 11 IDS_SHORT, 12 MAP_SHORT, 13 LOG_SHORT, 14 OUT_SHORT).
+ * answer is the refusal number, 0 for done; R1 to R34 say when each is given, T1 to T6 which one (1 BAD_AXES,
+ * 2 BAD_MODE, 3 BAD_JOB_LENGTH, 4 WORK_SHORT, 6 UNKNOWN_REGION, 7 REGION_TWICE, 8 UNFINISHED, 9 SETS_FULL,
+ * 10 SHAPES_FULL, 11 IDS_SHORT, 12 MAP_SHORT, 13 LOG_SHORT, 14 OUT_SHORT; of a record's form 30 UNKNOWN_KIND,
+ * 31 NOT_ZERO, 32 AXIS_OUT_OF_TURN, 33 AXIS_TOO_LATE, 34 REGION_UNFINISHED).
  *
  * Lent: work, as many words as ivs_work_words says; pairs, at least IVS_PAIRS records; out, for the store's bytes; ids,
  * a word for each set, its id; map, a word for each distinct id, outer x 65,536 + inner; log, 3 words for each shape
@@ -37,13 +38,33 @@ typedef struct {
  * and pairs as they were; every other answer leaves zeros in all of them (L1 to L4). Too few words of work and too few
  * pairs are both WORK_SHORT.
  *
- * The report has 16 words, and all are written (H2, A1): 0 the number, 1 the place (which record, from 0 on, for 5, 6,
- * 7 and 9; how many records for 8; 0 for all others), 2 store bytes, 3 subtables, 4 regions kept, 5 distinct ids, 6 N
- * (shapes before merging), 7 merges, 8 pairs weighed, 9 modelled size before merging, 10 after, 11 forecast, 12 to 15
- * zero. A refusal has zeros from 2 on. */
+ * The report has 16 words, and all are written (H2, A1): 0 the number, 1 the place (which record, from 0 on, for 6, 7,
+ * 9 and 30 to 34; how many records for 8; 0 for all others), 2 store bytes, 3 subtables, 4 regions kept, 5 distinct
+ * ids, 6 N (shapes before merging), 7 merges, 8 pairs weighed, 9 modelled size before merging, 10 after, 11 forecast,
+ * which is the store's bytes, 12 the byte within the record (for 31 the first that should be 0 and is not; 0 for all
+ * others), 13 to 15 zero. A refusal has zeros in 2 to 11. */
 uint32_t ivs_build(uint32_t axes, uint32_t mode, const uint8_t *job, size_t job_len, uint32_t *work, size_t work_len, ivs_pair *pairs,
                    size_t pairs_len, uint8_t *out, size_t out_len, uint32_t *ids, size_t ids_len, uint32_t *map, size_t map_len,
                    uint32_t *log, size_t log_len, uint64_t *report);
+
+/* What ivs_build would say of a job, with nothing lent to write to (A4, H5): how many bytes the store takes, and how
+ * much to lend for it. Answer and report are those of a build that is lent enough of all else: refusals 1 to 4, 6 to 10
+ * and 30 to 34, or the ten counts. A build then needs report[2] bytes of out, a word of ids for each set (each end
+ * record), report[5] words of map and 3 words of log for each shape but one (report[6]). Work and pairs are lent as for
+ * a build, and left as by it. */
+uint32_t ivs_forecast(uint32_t axes, uint32_t mode, const uint8_t *job, size_t job_len, uint32_t *work, size_t work_len,
+                      ivs_pair *pairs, size_t pairs_len, uint64_t *report);
+
+/* Where two sets of a job part (Q1 to Q5, H6); sets go by their numbers in the job, from 0. The answer is the refusal
+ * number, 0 where they were compared: 1, 3, 4 (words of work alone), 6 to 8 and 30 to 34 as in a build, then 64 NO_SET.
+ * Work is lent as for a build, and left as by it.
+ *
+ * The report has 16 words, and all are written: 0 the number, 1 the place and 12 the byte as for a build; 2 how the
+ * first set stands to the second (0 equal, 1 smaller, 2 larger), and where they are not equal: 3 the index of the first
+ * region where they differ, 4 the number in the job of the region that first used that index, 5 and 6 the values of the
+ * first and of the second set there, as two's complement of 64 bits. All other words are zero. */
+uint32_t ivs_part(uint32_t axes, const uint8_t *job, size_t job_len, uint32_t first, uint32_t second, uint32_t *work,
+                  size_t work_len, uint64_t *report);
 
 /* The value of a region of the store's list in row `inner` of subtable `outer` (V1 to V8, H3). High half: 0 written, 1
  * no column (which means zero), else the refusal number (20 BAD_STORE, 21 NO_ROW, 22 NO_REGION); low half: the value's

@@ -150,7 +150,7 @@ def refusal(store, mode):
     if at + sum(len(row) + 1 for row in store.rows) > 1048576:
         return 3, 0
     if len(store.regions) > 256:
-        return 5, 256 * store.axes
+        return 32, 256 * store.axes
     for number, row in enumerate(store.rows):
         named = [store.regions[region] for region, _ in row]
         for place, region in enumerate(named):

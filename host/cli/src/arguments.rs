@@ -18,8 +18,10 @@ pub struct Arguments {
 #[derive(Subcommand)]
 pub enum Command {
     Build(Build),
+    Forecast(Forecast),
     Read(Read),
     Show(Show),
+    Part(Part),
     Pack(Pack),
     Widths(Widths),
     Font(Font),
@@ -61,6 +63,20 @@ pub enum Mode {
     Implicit = 1,
 }
 
+/// Tells how many bytes the store of a job takes in either mode, without building it
+#[derive(Args)]
+#[command(after_help = AFTER)]
+pub struct Forecast {
+    /// The job: records of 12 bytes
+    pub job: PathBuf,
+    /// The axis count that the job was written for, 1 to 64
+    #[arg(long, value_name = "N")]
+    pub axes: u32,
+    /// Print the numbers as JSON, with the name of the smaller mode, null where both take as many bytes
+    #[arg(long)]
+    pub json: bool,
+}
+
 /// Reads one value of a store
 #[derive(Args)]
 #[command(after_help = AFTER)]
@@ -87,6 +103,21 @@ pub struct Show {
     /// Show a job in the text form that `pack` reads
     #[arg(long, requires = "axes")]
     pub text: bool,
+}
+
+/// Tells where two sets of a job part: the region, and both values
+#[derive(Args)]
+#[command(after_help = AFTER)]
+pub struct Part {
+    /// The job, or its text
+    pub job: PathBuf,
+    /// A set's number in the job, from 0
+    pub first: u32,
+    /// Another set's
+    pub second: u32,
+    /// The axis count of a job; a text has its own
+    #[arg(long, value_name = "N")]
+    pub axes: Option<u32>,
 }
 
 const TEXT: &str = "\

@@ -3,6 +3,7 @@
 use crate::arguments::Build;
 use crate::failure::Failure;
 use crate::files;
+use crate::numbers::{self, Number};
 use std::fmt::Write;
 use std::path::Path;
 
@@ -10,15 +11,15 @@ pub fn run(arguments: &Build) -> Result<(), Failure> {
     let places = places(arguments)?;
     let job = files::read(&arguments.job)?;
     let packed = ivs::pack(arguments.axes, arguments.mode as u32, &job)
-        .map_err(|refused| Failure::refused(&arguments.job, refused))?;
+        .map_err(|refused| Failure::refused_job(&arguments.job, arguments.axes, &job, refused))?;
     let outputs: Vec<(&Path, Vec<u8>)> = places
         .iter()
         .map(|&(path, part)| (path, part(&packed)))
         .collect();
     files::write(&outputs)?;
-    let numbers = numbers(&packed.done);
+    let numbers = numbers::of(&packed.done);
     let said = if arguments.json {
-        json(&numbers)
+        format!("{}\n", numbers::json(&numbers))
     } else {
         table(&numbers)
     };
@@ -65,35 +66,11 @@ fn lines(words: &[u32], a_line: usize) -> Vec<u8> {
     text.into_bytes()
 }
 
-/// The numbers of a build: words for the table, name for JSON, number.
-fn numbers(done: &ivs::Done) -> [(&'static str, &'static str, u64); 10] {
-    [
-        ("bytes", "bytes", done.store_bytes),
-        ("subtables", "subtables", done.subtables),
-        ("regions", "regions", done.regions_kept),
-        ("ids", "ids", done.distinct_ids),
-        ("shapes", "shapes", done.shapes),
-        ("merges", "merges", done.merges),
-        ("pairs weighed", "pairs", done.pairs),
-        ("size before", "size_before", done.size_before),
-        ("size after", "size_after", done.size_after),
-        ("forecast", "forecast", done.forecast),
-    ]
-}
-
-fn table(numbers: &[(&str, &str, u64)]) -> String {
+fn table(numbers: &[Number]) -> String {
     let mut text = String::new();
     for (words, _, number) in numbers {
         // Writing to a string cannot fail.
         let _ = writeln!(text, "{words:<13} {number:>10}");
     }
     text
-}
-
-fn json(numbers: &[(&str, &str, u64)]) -> String {
-    let fields: Vec<String> = numbers
-        .iter()
-        .map(|(_, name, number)| format!("\"{name}\": {number}"))
-        .collect();
-    format!("{{{}}}\n", fields.join(", "))
 }

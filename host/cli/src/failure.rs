@@ -6,15 +6,20 @@ use std::path::Path;
 use std::process::ExitCode;
 
 pub enum Failure {
-    /// The library refused a file.
-    Refused(String, Refused),
+    /// The library refused a file: its name, and why.
+    Refused(String, String),
     /// Anything else: bad usage, no file, text that is no job.
     Other(String),
 }
 
 impl Failure {
     pub fn refused(file: &Path, refused: Refused) -> Failure {
-        Failure::Refused(file.display().to_string(), refused)
+        Failure::Refused(file.display().to_string(), refused.to_string())
+    }
+
+    /// Of a job there is more to say than the number does.
+    pub fn refused_job(file: &Path, axes: u32, job: &[u8], refused: Refused) -> Failure {
+        Failure::Refused(file.display().to_string(), refused.explain(axes, job))
     }
 
     pub fn status(&self) -> ExitCode {
@@ -28,7 +33,7 @@ impl Failure {
 impl fmt::Display for Failure {
     fn fmt(&self, f: &mut fmt::Formatter<'_>) -> fmt::Result {
         match self {
-            Failure::Refused(file, refused) => write!(f, "{file}: refused: {refused}"),
+            Failure::Refused(file, why) => write!(f, "{file}: refused: {why}"),
             Failure::Other(words) => f.write_str(words),
         }
     }

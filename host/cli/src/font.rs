@@ -123,7 +123,8 @@ fn repack(arguments: &FontRepack) -> Result<(), Failure> {
         }
         let table = one.smaller(font.glyphs).map_err(|wrong| match wrong {
             Unpacked::Refused(refused) => {
-                Failure::Refused(format!("{}: {name}", arguments.font.display()), refused)
+                let table = format!("{}: {name}", arguments.font.display());
+                Failure::Refused(table, refused.to_string())
             }
             Unpacked::Other(words) => {
                 Failure::Other(format!("{}: {name}: {words}", arguments.font.display()))

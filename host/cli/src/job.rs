@@ -1,9 +1,9 @@
 //! A job taken apart.
 
-use ivs::{Lent, Pair, Refused, Tent};
+use ivs::{Refused, Tent};
 
 const RECORD: usize = 12;
-/// The first refusal that is about lent memory or about building, and not about the job.
+/// The one refusal of a forecast that is about building, and not about the job.
 const SHAPES_FULL: u32 = 10;
 
 pub struct Job {
@@ -38,19 +38,10 @@ impl Job {
     }
 }
 
-/// Has the library look at the job, so that there is one judge of jobs. Nothing is lent for
-/// what a build writes, so it stops before it would.
+/// Has the library look at the job, so that there is one judge of jobs.
 fn check(axes: u32, bytes: &[u8]) -> Result<(), Refused> {
-    let mut lent = Lent {
-        work: &mut vec![0; ivs::work_words(bytes.len() / RECORD)],
-        pairs: &mut vec![Pair::default(); ivs::PAIRS],
-        out: &mut [],
-        ids: &mut [],
-        map: &mut [],
-        log: &mut [],
-    };
-    match ivs::build_into(axes, 0, bytes, &mut lent) {
-        Err(refused) if refused.number < SHAPES_FULL => Err(refused),
+    match ivs::forecast(axes, 0, bytes) {
+        Err(refused) if refused.number != SHAPES_FULL => Err(refused),
         _ => Ok(()),
     }
 }

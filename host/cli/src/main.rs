@@ -9,8 +9,11 @@ mod files;
 mod font;
 mod font_store;
 mod font_table;
+mod forecast;
 mod job;
+mod numbers;
 mod pack;
+mod part;
 mod read;
 mod sfnt;
 mod show;
@@ -47,8 +50,10 @@ fn main() -> ExitCode {
 fn run(command: &Command) -> Result<(), Failure> {
     match command {
         Command::Build(arguments) => build::run(arguments),
+        Command::Forecast(arguments) => forecast::run(arguments),
         Command::Read(arguments) => read::run(arguments),
         Command::Show(arguments) => show::run(arguments),
+        Command::Part(arguments) => part::run(arguments),
         Command::Pack(arguments) => pack::run(arguments),
         Command::Widths(arguments) => widths::run(arguments),
         Command::Font(arguments) => font::run(arguments),

@@ -17,8 +17,8 @@ pub fn run(arguments: &Show) -> Result<(), Failure> {
         let file = arguments.file.display();
         Failure::Other(format!("{file} is a job: say --axes N"))
     })?;
-    let job =
-        Job::decode(axes, &bytes).map_err(|refused| Failure::refused(&arguments.file, refused))?;
+    let job = Job::decode(axes, &bytes)
+        .map_err(|refused| Failure::refused_job(&arguments.file, axes, &bytes, refused))?;
     files::print(&if arguments.text {
         text::text(&job)
     } else {

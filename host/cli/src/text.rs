@@ -10,8 +10,18 @@ use std::fmt::Write;
 /// What is wrong with a line.
 type Wrong = String;
 
-/// The job's bytes, or the line's number from 1 and what is wrong with it.
-pub fn parse(text: &str) -> Result<Vec<u8>, (usize, Wrong)> {
+/// A job that was written as a text.
+#[derive(Debug, PartialEq, Eq)]
+pub struct Parsed {
+    pub axes: u32,
+    /// The regions' names, by number.
+    pub names: Vec<String>,
+    /// The job's bytes.
+    pub job: Vec<u8>,
+}
+
+/// The job of a text, or the line's number from 1 and what is wrong with it.
+pub fn parse(text: &str) -> Result<Parsed, (usize, Wrong)> {
     let mut parsing = Parsing::default();
     let mut last = 0;
     for (number, line) in (1..).zip(text.lines()) {
@@ -19,7 +29,11 @@ pub fn parse(text: &str) -> Result<Vec<u8>, (usize, Wrong)> {
         parsing.line(line).map_err(|wrong| (number, wrong))?;
     }
     let writer = parsing.writer.ok_or((last, NO_AXES.to_string()))?;
-    Ok(writer.finish())
+    Ok(Parsed {
+        axes: parsing.axes,
+        names: parsing.names,
+        job: writer.finish(),
+    })
 }
 
 const NO_AXES: &str = "no axis count yet; begin with 'axes N'";
@@ -28,7 +42,9 @@ const NO_AXES: &str = "no axis count yet; begin with 'axes N'";
 struct Parsing<'a> {
     /// Once the axis count is known.
     writer: Option<JobWriter>,
-    names: HashMap<&'a str, u8>,
+    axes: u32,
+    names: Vec<String>,
+    numbers: HashMap<&'a str, u8>,
 }
 
 impl<'a> Parsing<'a> {
@@ -51,8 +67,8 @@ impl<'a> Parsing<'a> {
             return Err("the axis count is said twice".to_string());
         }
         let axes = count.parse().ok().filter(|axes| (1..=64).contains(axes));
-        let axes = axes.ok_or_else(|| format!("'{count}' is no axis count; give 1 to 64"))?;
-        self.writer = Some(JobWriter::new(axes));
+        self.axes = axes.ok_or_else(|| format!("'{count}' is no axis count; give 1 to 64"))?;
+        self.writer = Some(JobWriter::new(self.axes as usize));
         Ok(())
     }
 
@@ -61,13 +77,14 @@ impl<'a> Parsing<'a> {
         if name.contains('=') {
             return Err(format!("'{name}' is no name; leave out '='"));
         }
-        if self.names.contains_key(name) {
+        if self.numbers.contains_key(name) {
             return Err(format!("the region '{name}' is there already"));
         }
         let number = writer
             .region(&tents(coordinates)?)
             .map_err(|error| error.to_string())?;
-        self.names.insert(name, number);
+        self.numbers.insert(name, number);
+        self.names.push(name.to_string());
         Ok(())
     }
 
@@ -79,7 +96,7 @@ impl<'a> Parsing<'a> {
                 .split_once('=')
                 .ok_or_else(|| format!("'{word}' is no NAME=VALUE"))?;
             let region = self
-                .names
+                .numbers
                 .get(name)
                 .ok_or_else(|| format!("no region '{name}' before this line"))?;
             let value = value
@@ -144,9 +161,10 @@ mod tests {
     #[test]
     fn layout_and_comments_do_not_count() {
         let plain = parse("axes 1\nregion a 0 1 1\nset a=1\nset\n").unwrap();
+        assert_eq!((plain.axes, &plain.names[..]), (1, &["a".to_string()][..]));
         let dressed = "# job\n\n axes  1 # one\nregion b 0.0 1.0 1 # bold\n\tset   b=1\nset #none";
-        assert_eq!(parse(dressed).unwrap(), plain);
-        assert_eq!(plain.len(), 4 * 12);
+        assert_eq!(parse(dressed).unwrap().job, plain.job);
+        assert_eq!(plain.job.len(), 4 * 12);
     }
 
     /// Few, since each is looked at by the library, which may be emulated.
@@ -156,7 +174,8 @@ mod tests {
             let job = jobs::random::job(seed);
             let bytes = job.to_bytes();
             let decoded = Job::decode(job.axes as u32, &bytes).unwrap();
-            assert_eq!(parse(&text(&decoded)), Ok(bytes), "{seed}");
+            let parsed = parse(&text(&decoded)).unwrap();
+            assert_eq!(parsed.job, bytes, "{seed}");
         }
     }
 

@@ -11,7 +11,7 @@ pub fn run(arguments: &Widths) -> Result<(), Failure> {
     let tables =
         [Mode::Dedup, Mode::Implicit].map(|mode| (mode, table(arguments.axes, mode, &job)));
     let (mode, table) = taken(&tables, arguments.mode)
-        .map_err(|refused| Failure::refused(&arguments.job, refused))?;
+        .map_err(|refused| Failure::refused_job(&arguments.job, arguments.axes, &job, refused))?;
     files::write(&[(arguments.table.as_path(), table.to_vec())])?;
     let said = sizes(&tables, mode);
     // Standard output may be taken by the table, which the sizes must not spoil.

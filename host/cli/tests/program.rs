@@ -97,6 +97,114 @@ fn numbers_as_json() {
     );
 }
 
+/// The text of a job in a file `job` of the folder.
+fn packed(folder: &Path, text: &str) {
+    fs::write(folder.join("text"), text).unwrap();
+    done(folder, "pack text -o job");
+}
+
+#[test]
+fn a_forecast_of_both_modes() {
+    let folder = folder("forecast");
+    // Twelve equal sets, of which mode 0 has one row.
+    let sets = "set a=1 b=70000\n".repeat(12);
+    packed(
+        &folder,
+        &format!("axes 1\nregion a 0 1 1\nregion b -1 -1 0\n{sets}"),
+    );
+    let told = done(&folder, "forecast job --axes 1");
+    let lines: Vec<&str> = told.lines().collect();
+    assert_eq!(lines[0], "                   dedup   implicit");
+    assert_eq!(lines[1], "bytes                 44        110");
+    assert_eq!(lines[4], "ids                    1         12");
+    assert_eq!(lines[10], "dedup is smaller, by 66 bytes");
+    for (mode, bytes) in [("dedup", 44), ("implicit", 110)] {
+        let built = done(&folder, &format!("build job --axes 1 --mode {mode} --json"));
+        assert!(
+            built.starts_with(&format!("{{\"bytes\": {bytes}, ")),
+            "{built}"
+        );
+        let told = done(&folder, "forecast job --axes 1 --json");
+        let alike = format!("\"{mode}\": {}", built.trim_end());
+        assert!(told.contains(&alike), "{told}");
+        assert!(told.ends_with(", \"smaller\": \"dedup\"}\n"), "{told}");
+    }
+    assert_eq!(files(&folder), ["job", "text"]);
+}
+
+/// 1,025 shapes are for mode 1 alone, 65,536 sets for mode 0.
+#[test]
+fn a_forecast_where_one_mode_refuses() {
+    let folder = folder("forecast_refused");
+    fs::write(folder.join("job"), jobs::edges::shapes(1_025).to_bytes()).unwrap();
+    let told = done(&folder, "forecast job --axes 1");
+    assert!(
+        told.contains("\nsubtables              -          1\n"),
+        "{told}"
+    );
+    let last = "\ndedup is refused: 10 SHAPES_FULL: the sets have more than 1,024 shapes; \
+                use mode 1, or split the job\n";
+    assert!(told.ends_with(last), "{told}");
+    let told = done(&folder, "forecast job --axes 1 --json");
+    let refused =
+        "{\"dedup\": {\"refused\": 10, \"name\": \"SHAPES_FULL\", \"place\": 0, \"byte\": 0}, ";
+    assert!(told.starts_with(refused), "{told}");
+    assert!(told.ends_with(", \"smaller\": \"implicit\"}\n"), "{told}");
+    fs::write(
+        folder.join("job"),
+        jobs::edges::one_shape(65_536).to_bytes(),
+    )
+    .unwrap();
+    let told = done(&folder, "forecast job --axes 1");
+    assert!(
+        told.contains("\nsubtables              2          -\n"),
+        "{told}"
+    );
+    let last = "\nimplicit is refused: 9 SETS_FULL at record 131072 (byte 1572864): ";
+    assert!(told.contains(last), "{told}");
+}
+
+#[test]
+fn a_forecast_where_both_refuse() {
+    let folder = folder("forecast_both");
+    fs::write(folder.join("job"), &example("two-sets.job")[..5 * 12]).unwrap();
+    for json in ["", " --json"] {
+        let said = failed(&folder, &format!("forecast job --axes 1{json}"), 2);
+        let why =
+            "fenikezo: job: refused: 8 UNFINISHED after record 5 (byte 60): the last set has \
+                   no end record; ";
+        assert!(said.starts_with(why), "{said}");
+    }
+}
+
+#[test]
+fn where_two_sets_part() {
+    let folder = folder("part");
+    let text = "axes 2\nregion light -1 -1 0 0 0.5 1\nregion bold 0 1 1 0 0 0\n\
+                set bold=10 light=7\nset light=7 bold=-3\nset light=7 bold=10\nset light=7\n";
+    packed(&folder, text);
+    let alike = "set 0 and set 2 are equal\n";
+    assert_eq!(done(&folder, "part text 0 2"), alike);
+    assert_eq!(done(&folder, "part job 0 2 --axes 2"), alike);
+    let named = "set 0 and set 1 part at bold: 10 and -3\n";
+    assert_eq!(done(&folder, "part text 0 1"), named);
+    let numbered = "set 3 and set 0 part at region 1 (0 1 1, 0 0 0): 0 and 10\n";
+    assert_eq!(done(&folder, "part job 3 0 --axes 2"), numbered);
+    for file in ["text", "job --axes 2"] {
+        let said = failed(&folder, &format!("part {file} 0 4"), 2);
+        let why = "64 NO_SET: the job has 4 sets, 0 to 3; ask for two of its sets, counted from 0";
+        assert!(said.contains(why), "{said}");
+    }
+    let said = failed(&folder, "part job 0 1", 1);
+    assert_eq!(said, "fenikezo: job is a job: say --axes N\n");
+    let said = failed(&folder, "part job 0 1 --axes 1", 2);
+    assert!(
+        said.ends_with("; the job looks as if written for 2 axes\n"),
+        "{said}"
+    );
+    assert_eq!(files(&folder), ["job", "text"]);
+}
+
 #[test]
 fn a_refusal_is_2_and_leaves_no_file() {
     let folder = folder("refusal");

@@ -38,7 +38,7 @@ fn the_commands_and_what_they_print() {
     let printed = String::from_utf8(run.stdout).unwrap();
     let readme = file("README.md");
     let commands: Vec<&str> = printed.split("$ ").skip(1).collect();
-    assert_eq!(commands.len(), 4);
+    assert_eq!(commands.len(), 6);
     // In README's order, with words between them.
     let mut rest = readme.as_str();
     for command in commands {

@@ -105,7 +105,7 @@ fn plain(case: &Listed<'_>) -> String {
             (done_line(&done.counts), false)
         }
         Err(refused) => (
-            format!("refused {} at {}", refused.number, refused.place),
+            refused_line(refused.number, refused.place, refused.byte),
             refused.number <= plain::number::WORK_SHORT,
         ),
     };
@@ -130,7 +130,7 @@ fn proved(case: &Listed<'_>, pairs: &mut Pairs) -> Result<String, String> {
     };
     let head = match ivs::build_into(case.axes, case.mode, &case.job, &mut lent) {
         Ok(done) => done_line(&counts(&done)),
-        Err(refused) => format!("refused {} at {}", refused.number, refused.place),
+        Err(refused) => refused_line(refused.number, refused.place, refused.byte),
     };
     let all = |word: u32| work.iter().all(|&other| other == word);
     let (zero, untouched) = (all(0), all(WORK));
@@ -161,6 +161,11 @@ fn done_line(c: &Counts) -> String {
         c.size_after,
         c.forecast
     )
+}
+
+/// The first line of a refusal.
+fn refused_line(number: u32, place: u64, byte: u64) -> String {
+    format!("refused {number} at {place} byte {byte}")
 }
 
 /// An answer as the list has it: its first line, then what was lent.

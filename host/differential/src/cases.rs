@@ -1,6 +1,6 @@
 //! The jobs to compare on, shown one after another.
 
-use jobs::{damage, edges, examples, random, small, Job, Rng};
+use jobs::{damage, edges, examples, forms, random, small, Job, Rng};
 use std::fmt;
 
 /// A job with its axis count and mode, and what it is called.
@@ -77,6 +77,17 @@ pub fn records(visit: &mut dyn FnMut(&Case<'_>)) {
             let name = format_args!("record sequence {number}, axes {axes}");
             both(axes, job, &name, visit);
         }
+        number += 1;
+    });
+}
+
+/// Records that break one rule of their form or several, at every kind of place, in both
+/// modes.
+pub fn forms(visit: &mut dyn FnMut(&Case<'_>)) {
+    let mut number = 0;
+    forms::each(|axes, job| {
+        let name = format_args!("form {number}, axes {axes}");
+        both(axes, job, &name, visit);
         number += 1;
     });
 }

@@ -106,7 +106,7 @@ fn shapes(job: &Job) -> usize {
     job.sets.iter().map(shape).collect::<BTreeSet<_>>().len()
 }
 
-/// The refusal of an unsound job: its number can only be one of 3 and 5 to 9; what
+/// The refusal of an unsound job: its number can only be one of 3, 6 to 9 and 30 to 34; what
 /// stands before its place would have been taken so far, and what stands up to it
 /// is refused likewise.
 fn unsound(case: &Case<'_>, refused: Refused) -> Result<(), String> {
@@ -122,8 +122,9 @@ fn unsound(case: &Case<'_>, refused: Refused) -> Result<(), String> {
             same("bad length at 0", &(bad, place), &(true, 0))
         }
         number::UNFINISHED => same("place", &place, &records),
-        5..=7 | number::SETS_FULL => {
+        6 | 7 | number::SETS_FULL | 30..=34 => {
             same("up to the place", &again(place + 1), &Err(refused))?;
+            byte(case, refused)?;
             match again(place) {
                 Ok(_) => Ok(()),
                 Err(before) if [8, 10].contains(&before.number) => Ok(()),
@@ -131,5 +132,29 @@ fn unsound(case: &Case<'_>, refused: Refused) -> Result<(), String> {
             }
         }
         _ => Err(format!("an unsound job is refused by {refused}")),
+    }
+}
+
+/// The byte that is named. With it made 0 the record is judged by what comes after it: a
+/// later byte, or a later test. Every refusal but NOT_ZERO names byte 0.
+fn byte(case: &Case<'_>, refused: Refused) -> Result<(), String> {
+    if refused.number != number::NOT_ZERO {
+        return same("byte", &refused.byte, &0);
+    }
+    let (place, byte) = (refused.place as usize, refused.byte as usize);
+    let mut mended = case.job[..RECORD * (place + 1)].to_vec();
+    let held = std::mem::replace(&mut mended[RECORD * place + byte], 0);
+    same("a byte of 0 is named", &(held == 0 || byte == 0), &false)?;
+    match plain::build(case.axes, case.mode, &mended, &Sizes::PLENTY) {
+        Err(next) if next.place != refused.place => same("place", &next.number, &8),
+        Err(next) if next.number == number::NOT_ZERO => {
+            same("a later byte", &(next.byte > refused.byte), &true)
+        }
+        Err(next) => same(
+            "a later test",
+            &(next.number != number::UNKNOWN_KIND),
+            &true,
+        ),
+        Ok(_) => Ok(()),
     }
 }

@@ -1,5 +1,6 @@
 //! The runs, one for each kind of jobs: the program and the tests make the same.
 
+use crate::parts::Parts;
 use crate::run::{Run, Share};
 use crate::{built, cases, maps, replay, sizes, stores, Case};
 use std::ops::Range;
@@ -72,6 +73,11 @@ pub fn records() -> Run {
     Run::over(share, cases::records)
 }
 
+/// Records of every form.
+pub fn forms() -> Run {
+    Run::over(some(7, 601), cases::forms)
+}
+
 /// Every damage to one job.
 pub fn each_damage() -> Run {
     Run::over(some(5, 501), cases::each_damage)
@@ -98,7 +104,11 @@ pub fn damaged(seeds: &Range<u64>) -> Run {
 /// Large random jobs, one for four hundred of the others.
 pub fn large(seeds: &Range<u64>) -> Run {
     let few = seeds.start..seeds.start + (seeds.end - seeds.start) / 400;
-    Run::over(some(1, 11), |visit| cases::large(few, visit))
+    let share = Share {
+        forecast: 1,
+        ..some(1, 11)
+    };
+    Run::over(share, |visit| cases::large(few, visit))
 }
 
 /// The plain reading in memory around each size, on one random job in twenty.
@@ -108,6 +118,23 @@ pub fn sizes(seeds: &Range<u64>) -> Run {
     cases::random(some, &mut |case: &Case<'_>| {
         run.plain.count(sizes::check(case))
     });
+    run
+}
+
+/// Where sets part: in the examples, at the limits, and in one random job in five, as it is
+/// and damaged (emulated: in fifty).
+pub fn parts(seeds: &Range<u64>) -> Run {
+    let mut parts = Parts::default();
+    let few = (seeds.end - seeds.start) / if ivs::EMULATED { 50 } else { 5 };
+    let mut visit = |case: &Case<'_>| parts.case(case);
+    cases::examples(&mut visit);
+    cases::axes_and_modes(&mut visit);
+    cases::edges(&mut visit);
+    cases::random(seeds.start..seeds.start + few, &mut visit);
+    cases::damaged(seeds.start..seeds.start + few, &mut visit);
+    let mut run = Run::default();
+    run.plain.add(parts.plain);
+    run.proved.add(parts.proved);
     run
 }
 
@@ -124,6 +151,7 @@ const ALL: Share = Share {
     emulated: 1,
     short: |_| true,
     around: 1,
+    forecast: 1,
     noisy: 1,
 };
 
@@ -132,13 +160,14 @@ fn ends(job: &[u8]) -> usize {
     job.chunks(12).filter(|record| record[0] == 3).count()
 }
 
-/// Some of the jobs, with memory just over each size.
+/// Some of the jobs, with memory just over each size, and of one in three the forecast.
 fn some(linked: usize, emulated: usize) -> Share {
     Share {
         linked,
         emulated,
         short: |_| false,
         around: 0,
+        forecast: 3,
         noisy: NOISY,
     }
 }

@@ -13,7 +13,9 @@ pub fn done(job: &Job, mode: u32, done: &Done) -> Result<(), String> {
     } else {
         implicit(job, done)
     }?;
-    forecast(done)
+    // A3: exactly, in both modes.
+    let c = &done.counts;
+    same("forecast", &c.forecast, &c.store_bytes)
 }
 
 /// The counts are those of what was written.
@@ -63,30 +65,6 @@ fn implicit(job: &Job, done: &Done) -> Result<(), String> {
     let nothing = (c.shapes, c.merges, c.pairs, c.subtables);
     same("N, merges, pairs, subtables", &nothing, &(0, 0, 0, 1))?;
     same("sizes", &c.size_before, &c.size_after)
-}
-
-/// The forecast is the store's bytes, unless a byte stands beside a long (then it
-/// is less) or a group is cut (then it misses the second header).
-fn forecast(done: &Done) -> Result<(), String> {
-    let c = &done.counts;
-    let cut = c.shapes > 0 && c.subtables > c.shapes - c.merges;
-    let long = (0..c.subtables as usize).any(|i| word_count(&done.store, i) & 0x8000 != 0);
-    if cut || long {
-        let less = c.forecast <= c.store_bytes;
-        return same("forecast not above", &less, &true);
-    }
-    same("forecast", &c.forecast, &c.store_bytes)
-}
-
-/// The word count of a subtable; 0 for a null one.
-fn word_count(store: &[u8], subtable: usize) -> u16 {
-    let field = &store[8 + 4 * subtable..][..4];
-    let at = u32::from_be_bytes([field[0], field[1], field[2], field[3]]) as usize;
-    if at == 0 {
-        0
-    } else {
-        u16::from_be_bytes([store[at + 2], store[at + 3]])
-    }
 }
 
 /// Demand 2: every set's row, read back, has the set's value for every region of

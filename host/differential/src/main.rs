@@ -34,7 +34,7 @@ fn main() -> ExitCode {
         "", "passed", "failed", "passed", "failed", "with source", "seconds"
     );
     let mut all = Tally::default();
-    let runs: [(&str, &dyn Fn() -> Run); 14] = [
+    let runs: [(&str, &dyn Fn() -> Run); 16] = [
         ("recorded answers", &kinds::recorded),
         ("recorded glyph maps", &kinds::recorded_maps),
         ("built cases", &kinds::built),
@@ -43,11 +43,13 @@ fn main() -> ExitCode {
         ("axis counts and modes", &kinds::axes_and_modes),
         ("all small jobs", &kinds::small),
         ("all short record sequences", &kinds::records),
+        ("records of every form", &kinds::forms),
         ("every damage to one job", &kinds::each_damage),
         ("random jobs", &|| kinds::random(seeds)),
         ("large random jobs", &|| kinds::large(seeds)),
         ("damaged jobs", &|| kinds::damaged(seeds)),
         ("plain reading around its sizes", &|| kinds::sizes(seeds)),
+        ("where two sets part", &|| kinds::parts(seeds)),
         ("stores, most of them damaged", &|| kinds::stores(seeds)),
     ];
     for (name, run) in runs {

@@ -6,19 +6,19 @@ use crate::check::same;
 use crate::known::{Known, Source};
 use crate::noise::{not_zero, Guarded, Noisy};
 use crate::pairs::Pairs;
-use crate::{laws, sizes, Case};
+use crate::{forecasts, laws, sizes, Case};
 use ivs::Lent;
 use jobs::{hex, RECORD};
 use plain::{Done, Refused, Sizes};
 
 /// What the plain reading answers.
-type Said = Result<Done, Refused>;
+pub(crate) type Said = Result<Done, Refused>;
 
 /// Lent memory, used again from call to call; of itself with noise in all of it each time.
 #[derive(Default)]
 pub struct Buffers {
-    work: Guarded<u32>,
-    pairs: Pairs,
+    pub(crate) work: Guarded<u32>,
+    pub(crate) pairs: Pairs,
     out: Guarded<u8>,
     ids: Guarded<u32>,
     map: Guarded<u32>,
@@ -47,8 +47,14 @@ pub fn case(case: &Case<'_>, known: &Known, buffers: &mut Buffers) -> Result<(),
     told(case, held.and_then(|()| source(known, buffers)))
 }
 
+/// Compares the forecast of one job.
+pub fn forecast(case: &Case<'_>, known: &Known, buffers: &mut Buffers) -> Result<(), String> {
+    told(case, forecasts::case(case, &known.said, buffers))
+}
+
 /// Compares on one job with memory at, one under and over each size that it asks for,
-/// and with what [`ivs::pack`] makes of it; has the proved reader read all rows back.
+/// and with its forecast and what [`ivs::pack`] makes of it; has the proved reader read all
+/// rows back.
 pub fn around(case: &Case<'_>, known: &Known, buffers: &mut Buffers) -> Result<(), String> {
     let said = &known.said;
     for (lent, refusal) in sizes::around(&least(case, said)) {
@@ -56,12 +62,13 @@ pub fn around(case: &Case<'_>, known: &Known, buffers: &mut Buffers) -> Result<(
         let short = refusal.filter(|&number| said.is_ok() || number == plain::number::WORK_SHORT);
         let held = match short {
             Some(number) if tests_work(said) => {
-                compare(case, &lent, &Err(Refused { number, place: 0 }), buffers)
+                compare(case, &lent, &Err(Refused::at(number, 0)), buffers)
             }
             _ => compare(case, &lent, said, buffers).and_then(|()| source(known, buffers)),
         };
         told(case, held)?;
     }
+    told(case, forecasts::around(case, said, buffers))?;
     told(case, same("packed", &packed(case), said))?;
     match (said, &known.job) {
         (Ok(done), Some(job)) => told(case, laws::rows_read_back(job, done, read)),
@@ -84,6 +91,7 @@ pub fn packed(case: &Case<'_>) -> Said {
             Err(Refused {
                 number: refused.number,
                 place: refused.place,
+                byte: refused.byte,
             })
         }
     }
@@ -144,7 +152,7 @@ fn over(least: &Sizes) -> Sizes {
 
 /// One call in lent memory of these sizes gives this answer, and leaves that memory as
 /// L1 to L3 say.
-fn compare(
+pub(crate) fn compare(
     case: &Case<'_>,
     sizes: &Sizes,
     due: &Said,
@@ -182,6 +190,11 @@ fn left(buffers: &mut Buffers, due: &Said) -> Result<(), String> {
     begins("ids", &buffers.ids, ids)?;
     begins("map", &buffers.map, map)?;
     begins("log", &buffers.log, log)?;
+    cleared(buffers, due)
+}
+
+/// Work and pairs are as they were, or zeros (L2).
+pub(crate) fn cleared(buffers: &mut Buffers, due: &Said) -> Result<(), String> {
     let early = matches!(due, Err(refused) if refused.number <= plain::number::WORK_SHORT);
     buffers.pairs.left(early)?;
     if early {
@@ -244,8 +257,8 @@ fn source(known: &Known, buffers: &Buffers) -> Result<(), String> {
     )
 }
 
-/// The report of an answer: number, place, the ten counts, zeros.
-fn report_of(said: &Said) -> [u64; 16] {
+/// The report of an answer: number, place, the ten counts, the byte, zeros.
+pub(crate) fn report_of(said: &Said) -> [u64; 16] {
     let mut report = [0; 16];
     match said {
         Ok(done) => {
@@ -266,6 +279,7 @@ fn report_of(said: &Said) -> [u64; 16] {
         Err(refused) => {
             report[0] = u64::from(refused.number);
             report[1] = refused.place;
+            report[12] = refused.byte;
         }
     }
     report

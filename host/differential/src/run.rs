@@ -32,6 +32,8 @@ pub struct Share {
     /// One in so many of all jobs with memory around each size, where it is taken at all,
     /// and not just over it; 0: none.
     pub around: usize,
+    /// The forecast is compared on one job in so many of all, where it is taken at all (odd).
+    pub forecast: usize,
     /// The pair records hold noise in one call of so many, and are looked at in full.
     pub noisy: usize,
 }
@@ -74,7 +76,11 @@ impl Run {
         let held = if around {
             proved::around(case, &known, &mut self.buffers)
         } else {
-            proved::case(case, &known, &mut self.buffers)
+            let mut held = proved::case(case, &known, &mut self.buffers);
+            if number % share.forecast == 0 {
+                held = held.and_then(|()| proved::forecast(case, &known, &mut self.buffers));
+            }
+            held
         };
         self.with_source += u64::from(held.is_ok() && known.source.is_some());
         self.proved.count(held);

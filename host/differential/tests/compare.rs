@@ -62,6 +62,11 @@ fn all_short_record_sequences() {
 }
 
 #[test]
+fn records_of_every_form() {
+    held("forms", &kinds::forms());
+}
+
+#[test]
 fn every_damage_to_one_job() {
     held("damages", &kinds::each_damage());
 }
@@ -84,6 +89,11 @@ fn damaged_jobs() {
 #[test]
 fn plain_reading_around_its_sizes() {
     kinds::sizes(&SEEDS).plain.assert();
+}
+
+#[test]
+fn where_two_sets_part() {
+    held("parts", &kinds::parts(&SEEDS));
 }
 
 #[test]

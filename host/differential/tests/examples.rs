@@ -85,8 +85,8 @@ fn p7() {
     let p7 = example("P7");
     let row = vec![0x00, 0x01, 0x11, 0x70, 0x00, 0x64];
     assert_eq!(one_subtable(&p7, 2), (0x8001, vec![0, 1, 0, 0], row));
-    // The forecast is a byte short there (A3).
-    assert_eq!((p7.counts.forecast, p7.counts.store_bytes), (43, 44));
+    // Which the forecast knows (A3).
+    assert_eq!((p7.counts.forecast, p7.counts.store_bytes), (44, 44));
 }
 
 /// {R0:1}, {R1:1}: one merge, and the rows in their order.
@@ -136,8 +136,10 @@ fn sets_of_one_shape() {
     // The second subtable: 1 item, word count 0x8001, 1 region, and 4 bytes.
     let second = &two.store[two.store.len() - 12..];
     assert_eq!(second[..8], [0, 1, 0x80, 1, 0, 1, 0, 0]);
-    // The forecast misses the second's header, index and offset.
-    assert_eq!(two.counts.forecast + 12, two.counts.store_bytes);
+    // Its offset, head and region are in the forecast (A3).
+    let more = two.counts.forecast - one.counts.forecast;
+    assert_eq!(more, 4 + 8 + 4);
+    assert_eq!(two.counts.forecast, two.counts.store_bytes);
 }
 
 /// As many sets in mode 1, and one more (E2). The end record that is refused stands

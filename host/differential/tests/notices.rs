@@ -61,6 +61,33 @@ fn a_word_of_the_plain_readings_answer() {
     }
 }
 
+/// The forecast has the ten counts alone.
+#[test]
+fn a_word_of_the_forecast() {
+    let job = job();
+    let case = Case {
+        name: &"a job",
+        axes: 1,
+        mode: 0,
+        job: &job,
+    };
+    let forecast = |change: fn(&mut plain::Counts)| {
+        let mut known = Known::of(&case);
+        change(&mut known.said.as_mut().expect("a done build").counts);
+        proved::forecast(&case, &known, &mut Buffers::default())
+    };
+    assert_eq!(forecast(|_| {}), Ok(()));
+    let changes: [fn(&mut plain::Counts); 4] = [
+        |c| c.store_bytes += 1,
+        |c| c.distinct_ids += 1,
+        |c| c.shapes += 1,
+        |c| c.forecast += 1,
+    ];
+    for change in changes {
+        assert!(forecast(change).is_err());
+    }
+}
+
 #[test]
 fn a_word_of_the_sources_answer() {
     type Change = fn(&mut Source);
@@ -83,14 +110,21 @@ fn a_word_of_the_sources_answer() {
 }
 
 #[test]
-fn a_refusals_number_and_place() {
-    let unfinished = &job()[..12 * 5];
-    for change in [(1, 0), (0, 1)] {
-        let held = compared(unfinished, 0, |known| {
-            let refused = known.said.as_mut().expect_err("a refusal");
-            refused.number += change.0;
-            refused.place += change.1;
-        });
-        assert!(held.iter().all(Result::is_err), "{change:?}");
+fn a_refusals_number_place_and_byte() {
+    let unfinished = job()[..12 * 5].to_vec();
+    // Bytes 2 and 9 of the first value.
+    let mut not_zero = job();
+    not_zero[12 * 4 + 2] = 7;
+    not_zero[12 * 4 + 9] = 7;
+    for job in [unfinished, not_zero] {
+        for change in [(1, 0, 0), (0, 1, 0), (0, 0, 1)] {
+            let held = compared(&job, 0, |known| {
+                let refused = known.said.as_mut().expect_err("a refusal");
+                refused.number += change.0;
+                refused.place += change.1;
+                refused.byte += change.2;
+            });
+            assert!(held.iter().all(Result::is_err), "{change:?}");
+        }
     }
 }

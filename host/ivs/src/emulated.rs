@@ -16,6 +16,8 @@ const BUILD: u64 = 1;
 const READ: u64 = 2;
 const WRITE_GLYPHS: u64 = 3;
 const READ_GLYPH: u64 = 4;
+const FORECAST: u64 = 5;
+const PART: u64 = 6;
 const WRITE_WIDTHS: u64 = 20;
 const READ_WIDTH: u64 = 21;
 
@@ -33,6 +35,31 @@ pub fn work_words(records: usize) -> usize {
 
 pub fn build(axes: u32, mode: u32, job: &[u8], lent: &mut Lent<'_>, report: &mut [u64; 16]) -> u32 {
     ask([BUILD, axes.into(), mode.into(), 0], job, lent, report) as u32
+}
+
+pub fn forecast(
+    axes: u32,
+    mode: u32,
+    job: &[u8],
+    work: &mut [u32],
+    pairs: &mut [Pair],
+    report: &mut [u64; 16],
+) -> u32 {
+    let lent = &mut lending(work, pairs, &mut []);
+    ask([FORECAST, axes.into(), mode.into(), 0], job, lent, report) as u32
+}
+
+pub fn part(
+    axes: u32,
+    job: &[u8],
+    first: u32,
+    second: u32,
+    work: &mut [u32],
+    report: &mut [u64; 16],
+) -> u32 {
+    let lent = &mut lending(work, &mut [], &mut []);
+    let what = [PART, axes.into(), first.into(), second.into()];
+    ask(what, job, lent, report) as u32
 }
 
 pub fn read(store: &[u8], outer: u32, inner: u32, region: u32) -> u64 {
@@ -64,15 +91,19 @@ fn ask_alone(what: [u64; 4], bytes: &[u8]) -> u64 {
 
 /// Asks with words and an output lent.
 fn ask_lent(what: [u64; 4], bytes: &[u8], work: &mut [u32], out: &mut [u8]) -> u64 {
-    let lent = &mut Lent {
+    ask(what, bytes, &mut lending(work, &mut [], out), &mut [0; 16])
+}
+
+/// Work, pairs and an output, and nothing else lent.
+fn lending<'a>(work: &'a mut [u32], pairs: &'a mut [Pair], out: &'a mut [u8]) -> Lent<'a> {
+    Lent {
         work,
-        pairs: &mut [],
+        pairs,
         out,
         ids: &mut [],
         map: &mut [],
         log: &mut [],
-    };
-    ask(what, bytes, lent, &mut [0; 16])
+    }
 }
 
 /// One question and its answer.
@@ -137,13 +168,10 @@ impl Server {
         }
         self.to.flush()?;
         let answer = self.take_word()?;
-        if what[0] == WRITE_GLYPHS {
+        if [WRITE_GLYPHS, WRITE_WIDTHS].contains(&what[0]) {
             self.from.read_exact(lent.out)?;
         }
-        if what[0] == WRITE_WIDTHS {
-            self.from.read_exact(lent.out)?;
-        }
-        if what[0] == BUILD {
+        if [BUILD, FORECAST, PART].contains(&what[0]) {
             self.take_words(lent.work)?;
             match self.take_word()? {
                 0 if held => lent.pairs.fill(Pair::default()),

@@ -40,6 +40,13 @@ pub fn write_glyphs_into(words: &[u32], out: &mut [u8]) -> Result<usize, Refused
 
 /// The word of a glyph in a map, whatever its bytes are; one past the map's end has the
 /// last entry's.
+///
+/// ```
+/// let map = ivs::write_glyphs(&[0x1_0002, 7])?;
+/// assert_eq!([0, 1, 2].map(|glyph| ivs::read_glyph(&map, glyph)), [Ok(0x1_0002), Ok(7), Ok(7)]);
+/// assert_eq!(ivs::read_glyph(&map[..5], 0).unwrap_err().number, 42); // cut off
+/// # Ok::<(), ivs::Refused>(())
+/// ```
 pub fn read_glyph(map: &[u8], glyph: u32) -> Result<u32, Refused> {
     answered(raw::read_glyph(map, glyph))
 }

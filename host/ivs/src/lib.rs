@@ -4,12 +4,15 @@
 //! * [`pack`]: a job into a store, in memory of its own.
 //! * [`build_into`]: the same in lent memory, which may be lent again from build to build;
 //!   [`build_report`] with the bare report.
+//! * [`forecast`]: what a build would say, the store's bytes first, without building.
+//! * [`part`]: where two sets of a job part.
 //! * [`read`]: one value of a store, whatever its bytes are.
 //! * [`write_glyphs`], [`read_glyph`]: the map of glyphs to rows of a store.
 //! * [`write_widths`], [`read_width`]: the width table of a store and such a map.
 //!
 //! No input makes a call go wrong: it is done exactly, or refused by number and place
-//! with nothing written. What was lent may hold anything before.
+//! with nothing written; [`Refused::explain`] says what stands there and what was due. What
+//! was lent may hold anything before.
 //!
 //! ```
 //! let mut job = ivs::JobWriter::new(1);
@@ -21,284 +24,28 @@
 //! # Ok::<(), Box<dyn std::error::Error>>(())
 //! ```
 
+mod building;
+mod explain;
+mod forecast;
 mod glyphs;
+mod part;
 #[cfg_attr(not(target_arch = "x86_64"), path = "emulated.rs")]
 mod raw;
+mod reading;
 mod refusals;
 mod widths;
+mod wording;
 mod writer;
 
+pub use building::{build_into, build_report, pack, work_words, Done, Lent, Packed, Pair, PAIRS};
+pub use forecast::{forecast, forecast_report, forecast_with};
 pub use glyphs::{read_glyph, write_glyphs, write_glyphs_into, GLYPHS};
+pub use part::{part, part_report, part_with, Parted, Parting};
+pub use reading::{read, Reading};
 pub use refusals::{Refused, Short};
 pub use widths::{read_width, set_words, write_widths, write_widths_into};
 pub use writer::{JobError, JobWriter, Tent};
 
-use refusals::{OUT_SHORT, RECORD, WORK_SHORT};
-
 /// The library runs under an emulator, since this machine is no x86-64: slow, so that
 /// tests take fewer jobs.
 pub const EMULATED: bool = cfg!(not(target_arch = "x86_64"));
-
-/// A record for a pair of groups that waits to be merged: room that is lent, with nothing
-/// in it for who lends it.
-#[repr(C)]
-#[derive(Clone, Copy, Debug, Default, PartialEq, Eq)]
-pub struct Pair {
-    /// The bytes that joining the two would save.
-    pub gain: u32,
-    /// The smaller of the two groups' numbers.
-    pub first: u32,
-    /// The other.
-    pub second: u32,
-}
-
-/// The pair records that a build needs, whatever its job is: 12 MiB.
-pub const PAIRS: usize = 1_048_576;
-
-/// Memory lent to a build.
-pub struct Lent<'a> {
-    /// As many words as [`work_words`] says; all zeros after a call that was not refused
-    /// by 1 to 4.
-    pub work: &'a mut [u32],
-    /// At least [`PAIRS`] records; all zeros after a call that was not refused by 1 to 4.
-    pub pairs: &'a mut [Pair],
-    /// The store's bytes.
-    pub out: &'a mut [u8],
-    /// The n-th word is the n-th set's id.
-    pub ids: &'a mut [u32],
-    /// For each id, outer x 65,536 + inner.
-    pub map: &'a mut [u32],
-    /// For each merge: first number, second number, gain.
-    pub log: &'a mut [u32],
-}
-
-/// The numbers of a done build. What was written: `store_bytes` of out, a word of ids
-/// for each set, `distinct_ids` words of map, 3 x `merges` words of log.
-#[derive(Clone, Copy, Debug, Default, PartialEq, Eq)]
-pub struct Done {
-    /// Bytes of the store.
-    pub store_bytes: u64,
-    /// Subtables in the store, a null one included.
-    pub subtables: u64,
-    /// Regions kept.
-    pub regions_kept: u64,
-    /// Distinct ids.
-    pub distinct_ids: u64,
-    /// N: the groups before merging; 0 in mode 1.
-    pub shapes: u64,
-    /// Merges.
-    pub merges: u64,
-    /// Pairs weighed.
-    pub pairs: u64,
-    /// Modelled size before merging.
-    pub size_before: u64,
-    /// Modelled size after merging.
-    pub size_after: u64,
-    /// The forecast of the store's bytes.
-    pub forecast: u64,
-}
-
-/// A store with everything that a build says of it.
-#[derive(Clone, Debug, PartialEq, Eq)]
-pub struct Packed {
-    /// The numbers.
-    pub done: Done,
-    /// The store.
-    pub store: Vec<u8>,
-    /// The id of each set.
-    pub ids: Vec<u32>,
-    /// For each id, outer x 65,536 + inner.
-    pub map: Vec<u32>,
-    /// For each merge: first number, second number, gain.
-    pub log: Vec<u32>,
-}
-
-/// What reading one value answers when it is not refused.
-#[derive(Clone, Copy, Debug, PartialEq, Eq)]
-pub enum Reading {
-    /// The row has a column for the region, with this value.
-    Written(i32),
-    /// The row has no column for the region, which means zero.
-    NoColumn,
-}
-
-/// The words of work that a job of so many records needs; 0 above the record limit.
-///
-/// ```
-/// assert_eq!(ivs::work_words(1), 17);
-/// assert_eq!(ivs::work_words(1_048_576), 16 * 1_048_576 + 1_048_576);
-/// assert_eq!(ivs::work_words(1_048_577), 0);
-/// ```
-pub fn work_words(records: usize) -> usize {
-    raw::work_words(records)
-}
-
-/// One build in lent memory.
-///
-/// ```
-/// let mut writer = ivs::JobWriter::new(1);
-/// let bold = writer.region(&[(0, 0x4000, 0x4000)])?;
-/// writer.set(&[(bold, 10)])?;
-/// let job = writer.finish();
-///
-/// let mut work = vec![0; ivs::work_words(job.len() / 12)];
-/// let mut pairs = vec![ivs::Pair::default(); ivs::PAIRS];
-/// let (mut out, mut ids, mut map) = ([0xFF; 40], [0; 1], [0; 1]);
-/// let mut lent = ivs::Lent {
-///     work: &mut work,
-///     pairs: &mut pairs,
-///     out: &mut out,
-///     ids: &mut ids,
-///     map: &mut map,
-///     log: &mut [],
-/// };
-/// let done = ivs::build_into(1, 0, &job, &mut lent)?;
-/// assert_eq!((done.store_bytes, done.forecast), (31, 31));
-/// assert_eq!(lent.out[29..33], [0, 10, 0xFF, 0xFF]); // past the store nothing is written
-/// assert_eq!(ivs::build_into(1, 0, &job, &mut lent), Ok(done)); // the same memory, once more
-///
-/// lent.pairs = &mut lent.pairs[1..];
-/// let refused = ivs::build_into(1, 0, &job, &mut lent).unwrap_err();
-/// assert_eq!((refused.number, refused.short), (4, Some(ivs::Short::Pairs(1_048_576))));
-/// lent.work = &mut lent.work[1..];                   // tested before the pair records
-/// let refused = ivs::build_into(1, 0, &job, &mut lent).unwrap_err();
-/// assert_eq!(
-///     refused.to_string(),
-///     "4 WORK_SHORT: the words of work lent are too few; lend 57 of them"
-/// );
-/// # Ok::<(), Box<dyn std::error::Error>>(())
-/// ```
-pub fn build_into(axes: u32, mode: u32, job: &[u8], lent: &mut Lent<'_>) -> Result<Done, Refused> {
-    let mut report = [0; 16];
-    match build_report(axes, mode, job, lent, &mut report) {
-        0 => Ok(Done {
-            store_bytes: report[2],
-            subtables: report[3],
-            regions_kept: report[4],
-            distinct_ids: report[5],
-            shapes: report[6],
-            merges: report[7],
-            pairs: report[8],
-            size_before: report[9],
-            size_after: report[10],
-            forecast: report[11],
-        }),
-        number => Err(Refused {
-            number,
-            place: report[1],
-            short: short(number, job, lent),
-        }),
-    }
-}
-
-/// What WORK_SHORT is about: words of work are tested before pair records.
-fn short(number: u32, job: &[u8], lent: &Lent<'_>) -> Option<Short> {
-    if number != WORK_SHORT {
-        return None;
-    }
-    let words = work_words(job.len() / RECORD);
-    Some(if lent.work.len() < words {
-        Short::Work(words)
-    } else {
-        Short::Pairs(PAIRS)
-    })
-}
-
-/// One build in lent memory, with the report as the library fills it (include/ivs.h).
-/// The answer is the refusal number, 0 for done.
-pub fn build_report(
-    axes: u32,
-    mode: u32,
-    job: &[u8],
-    lent: &mut Lent<'_>,
-    report: &mut [u64; 16],
-) -> u32 {
-    raw::build(axes, mode, job, lent, report)
-}
-
-/// One build in memory of its own, given back at the end: where many jobs follow one
-/// another, [`build_into`] can lend the same to all.
-///
-/// ```
-/// let mut job = ivs::JobWriter::new(1);
-/// let bold = job.region(&[(0, 0x4000, 0x4000)])?;
-/// for value in [10, -300, 10] {
-///     job.set(&[(bold, value)])?;
-/// }
-/// let job = job.finish();
-/// let packed = ivs::pack(1, 0, &job)?;
-/// assert_eq!(packed.ids, [0, 1, 0]);                 // the third set is the first again
-/// let word = packed.map[1];                          // outer x 65,536 + inner of id 1
-/// let value = ivs::read(&packed.store, word >> 16, word & 0xFFFF, 0)?;
-/// assert_eq!(value, ivs::Reading::Written(-300));
-///
-/// let refused = ivs::pack(1, 0, &job[..12 * 2]).unwrap_err();
-/// assert_eq!((refused.number, refused.name(), refused.place), (8, "UNFINISHED", 2));
-/// # Ok::<(), Box<dyn std::error::Error>>(())
-/// ```
-pub fn pack(axes: u32, mode: u32, job: &[u8]) -> Result<Packed, Refused> {
-    let records = job.len() / RECORD;
-    let sets = job.chunks_exact(RECORD).filter(|r| r[0] == 3).count();
-    let mut work = vec![0; work_words(records)];
-    let mut pairs = vec![Pair::default(); PAIRS];
-    let (mut ids, mut map) = (vec![0; sets], vec![0; sets]);
-    let mut log = vec![0; 3 * 1_023];
-    // Enough in mode 0: an axis takes 6 bytes, a value's column and row at most 12, a
-    // set's subtable at most 20. In mode 1 a set may take more than its own records do.
-    let mut out = vec![0; 64 + 20 * records];
-    loop {
-        let mut lent = Lent {
-            work: &mut work,
-            pairs: &mut pairs,
-            out: &mut out,
-            ids: &mut ids,
-            map: &mut map,
-            log: &mut log,
-        };
-        match build_into(axes, mode, job, &mut lent) {
-            Ok(done) => {
-                out.truncate(done.store_bytes as usize);
-                map.truncate(done.distinct_ids as usize);
-                log.truncate(3 * done.merges as usize);
-                return Ok(Packed {
-                    done,
-                    store: out,
-                    ids,
-                    map,
-                    log,
-                });
-            }
-            Err(refused) if refused.number == OUT_SHORT => out.resize(2 * out.len(), 0),
-            Err(refused) => return Err(refused),
-        }
-    }
-}
-
-/// The value of a region (by its number in the store's list) in row `inner` of subtable
-/// `outer`.
-///
-/// ```
-/// use ivs::{read, Reading};
-///
-/// let mut job = ivs::JobWriter::new(1);
-/// let bold = job.region(&[(0, 0x4000, 0x4000)])?;
-/// job.set(&[(bold, -3)])?;
-/// let store = ivs::pack(1, 0, &job.finish())?.store;
-/// assert_eq!(read(&store, 0, 0, 0), Ok(Reading::Written(-3)));
-/// let number = |outer, inner, region| read(&store, outer, inner, region).unwrap_err().number;
-/// assert_eq!([number(1, 0, 0), number(0, 1, 0), number(0, 0, 1)], [21, 21, 22]);
-/// assert_eq!(read(&store[..30], 0, 0, 0).unwrap_err().name(), "BAD_STORE");
-/// # Ok::<(), Box<dyn std::error::Error>>(())
-/// ```
-pub fn read(store: &[u8], outer: u32, inner: u32, region: u32) -> Result<Reading, Refused> {
-    reading(raw::read(store, outer, inner, region))
-}
-
-/// The reading that a word stands for, or the refusal in its high half.
-fn reading(word: u64) -> Result<Reading, Refused> {
-    match (word >> 32) as u32 {
-        0 => Ok(Reading::Written(word as u32 as i32)),
-        1 => Ok(Reading::NoColumn),
-        number => Err(Refused::bare(number)),
-    }
-}

@@ -39,6 +39,29 @@ extern "C" {
         report: *mut u64,
     ) -> u32;
 
+    fn ivs_forecast(
+        axes: u32,
+        mode: u32,
+        job: *const u8,
+        job_len: usize,
+        work: *mut u32,
+        work_len: usize,
+        pairs: *mut Pair,
+        pairs_len: usize,
+        report: *mut u64,
+    ) -> u32;
+
+    fn ivs_part(
+        axes: u32,
+        job: *const u8,
+        job_len: usize,
+        first: u32,
+        second: u32,
+        work: *mut u32,
+        work_len: usize,
+        report: *mut u64,
+    ) -> u32;
+
     fn ivs_read(store: *const u8, store_len: usize, outer: u32, inner: u32, region: u32) -> u64;
 
     fn ivs_write_glyphs(words: *const u32, words_len: usize, out: *mut u8, out_len: usize) -> u64;
@@ -85,6 +108,53 @@ pub fn build(axes: u32, mode: u32, job: &[u8], lent: &mut Lent<'_>, report: &mut
             lent.map.len(),
             lent.log.as_mut_ptr(),
             lent.log.len(),
+            report.as_mut_ptr(),
+        )
+    }
+}
+
+pub fn forecast(
+    axes: u32,
+    mode: u32,
+    job: &[u8],
+    work: &mut [u32],
+    pairs: &mut [Pair],
+    report: &mut [u64; 16],
+) -> u32 {
+    // SAFETY: as for `build`.
+    unsafe {
+        ivs_forecast(
+            axes,
+            mode,
+            job.as_ptr(),
+            job.len(),
+            work.as_mut_ptr(),
+            work.len(),
+            pairs.as_mut_ptr(),
+            pairs.len(),
+            report.as_mut_ptr(),
+        )
+    }
+}
+
+pub fn part(
+    axes: u32,
+    job: &[u8],
+    first: u32,
+    second: u32,
+    work: &mut [u32],
+    report: &mut [u64; 16],
+) -> u32 {
+    // SAFETY: as for `build`.
+    unsafe {
+        ivs_part(
+            axes,
+            job.as_ptr(),
+            job.len(),
+            first,
+            second,
+            work.as_mut_ptr(),
+            work.len(),
             report.as_mut_ptr(),
         )
     }

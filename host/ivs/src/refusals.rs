@@ -1,10 +1,32 @@
-//! Refusals, in numbers and in words.
+//! Refusals: the numbers of an answer, and in words as far as these go.
+//! [`Refused::explain`] says more, with the job at hand.
 
+use crate::building::{work_words, PAIRS};
+use crate::wording;
 use std::error::Error;
 use std::fmt;
 
 /// Bytes of a job's record.
 pub(crate) const RECORD: usize = 12;
+
+/// WORK_SHORT, of which there are two kinds.
+const WORK_SHORT: u32 = 4;
+
+/// Those of a record, of which SETS_FULL has nothing more to say.
+pub(crate) const UNKNOWN_REGION: u32 = 6;
+pub(crate) const REGION_TWICE: u32 = 7;
+const SETS_FULL: u32 = 9;
+pub(crate) const UNKNOWN_KIND: u32 = 30;
+pub(crate) const NOT_ZERO: u32 = 31;
+pub(crate) const AXIS_OUT_OF_TURN: u32 = 32;
+pub(crate) const AXIS_TOO_LATE: u32 = 33;
+pub(crate) const REGION_UNFINISHED: u32 = 34;
+
+/// That of the job's end.
+pub(crate) const UNFINISHED: u32 = 8;
+
+/// That of a set that is asked for.
+pub(crate) const NO_SET: u32 = 64;
 
 /// A call that was refused: nothing was written to what was lent, but for work and pairs.
 ///
@@ -17,14 +39,25 @@ pub(crate) const RECORD: usize = 12;
 ///     "6 UNKNOWN_REGION at record 0 (byte 0): the value names a region that has no axis records; \
 ///      add the region's axis records, or name another"
 /// );
+/// // An end record whose byte 9 is not 0: the byte is named.
+/// let job = [3, 0, 0, 0, 0, 0, 0, 0, 0, 8, 0, 0];
+/// let refused = ivs::pack(1, 0, &job).unwrap_err();
+/// assert_eq!((refused.number, refused.place, refused.byte), (31, 0, 9));
+/// assert_eq!(
+///     refused.to_string(),
+///     "31 NOT_ZERO at record 0 (byte 0), byte 9 of it: a byte that must be 0 is not; \
+///      write 0 there"
+/// );
 /// ```
 #[derive(Clone, Copy, Debug, PartialEq, Eq)]
 pub struct Refused {
-    /// The refusal number: 1 to 14 of a build, 20 to 22 of a reading, 40 to 42 of a
-    /// glyph map, 43 of a width table.
+    /// The refusal number: 1 to 14 and 30 to 34 of a job, 20 to 22 of a reading, 40 to 42 of a
+    /// glyph map, 43 of a width table, 64 of a set.
     pub number: u32,
-    /// The record's index from 0 for 5, 6, 7 and 9; the record count for 8; else 0.
+    /// The record's index from 0 for 6, 7, 9 and 30 to 34; the record count for 8; else 0.
     pub place: u64,
+    /// For 31 the byte within the record, from 0; else 0.
+    pub byte: u64,
     /// For 4 what was short, as lent to [`crate::build_into`]; else none.
     pub short: Option<Short>,
 }
@@ -38,162 +71,91 @@ pub enum Short {
     Pairs(usize),
 }
 
-/// WORK_SHORT, of which there are two kinds.
-pub(crate) const WORK_SHORT: u32 = 4;
-
-/// OUT_SHORT, the one refusal that [`crate::pack`] answers itself.
-pub(crate) const OUT_SHORT: u32 = 14;
-
 impl Refused {
     /// The refusal of that number, with no place.
+    ///
+    /// ```
+    /// assert_eq!(ivs::Refused::bare(20).name(), "BAD_STORE");
+    /// ```
     pub const fn bare(number: u32) -> Refused {
         Refused {
             number,
             place: 0,
+            byte: 0,
             short: None,
         }
     }
 
-    /// The refusal's name in docs/RULES.md.
-    pub fn name(&self) -> &'static str {
-        self.words().0
+    /// The refusal of a report (include/ivs.h).
+    pub(crate) fn of(report: &[u64; 16]) -> Refused {
+        Refused {
+            place: report[1],
+            byte: report[12],
+            ..Refused::bare(report[0] as u32)
+        }
     }
 
-    /// Name, what happened, what to do.
-    fn words(&self) -> (&'static str, &'static str, &'static str) {
-        match self.number {
-            1 => (
-                "BAD_AXES",
-                "the axis count is 0 or above 64",
-                "give 1 to 64 axes",
-            ),
-            2 => (
-                "BAD_MODE",
-                "the mode is neither 0 nor 1",
-                "give 0 (deduplicating) or 1 (implicit indices)",
-            ),
-            3 => (
-                "BAD_JOB_LENGTH",
-                "the job is no whole number of records of 12 bytes, or has more than 1,048,576",
-                "look whether the job was cut off, or make it smaller",
-            ),
-            WORK_SHORT => (
-                "WORK_SHORT",
-                match self.short {
-                    None => "the work or the pair records lent are too few",
-                    Some(Short::Work(_)) => "the words of work lent are too few",
-                    Some(Short::Pairs(_)) => "the pair records lent are too few",
-                },
-                "lend as many words as work_words says, and 1,048,576 pair records",
-            ),
-            5 => (
-                "BAD_RECORD",
-                "the record has an unknown kind, a byte other than 0 where 0 is due, or stands \
-                 where it must not",
-                "look at its bytes, and at the order: all axes of region 0, of region 1 and so \
-                 on, then sets",
-            ),
-            6 => (
-                "UNKNOWN_REGION",
-                "the value names a region that has no axis records",
-                "add the region's axis records, or name another",
-            ),
-            7 => (
-                "REGION_TWICE",
-                "the value's region has the coordinates of an earlier one of its set",
-                "keep one value for each region in a set, zeros counted",
-            ),
-            8 => (
-                "UNFINISHED",
-                "the job ends inside a set or a region",
-                "add the end record or the axis records that are missing",
-            ),
-            9 => (
-                "SETS_FULL",
-                "mode 1 takes 65,535 sets, and this ends one more",
-                "use mode 0, or fewer sets",
-            ),
-            10 => (
-                "SHAPES_FULL",
-                "the sets have more than 1,024 shapes",
-                "use mode 1, or split the job",
-            ),
-            11 => (
-                "IDS_SHORT",
-                "the ids lent are too few",
-                "lend a word for each set",
-            ),
-            12 => (
-                "MAP_SHORT",
-                "the map lent is too small",
-                "lend a word for each different set (or each set)",
-            ),
-            13 => (
-                "LOG_SHORT",
-                "the log lent is too small",
-                "lend 3 words for each shape but one (3,069 always do)",
-            ),
-            OUT_SHORT => (
-                "OUT_SHORT",
-                "the output lent is too small for the store",
-                "lend more bytes",
-            ),
-            20 => (
-                "BAD_STORE",
-                "the bytes are no item variation store, or end too early",
-                "look whether the store was cut off or damaged",
-            ),
-            21 => (
-                "NO_ROW",
-                "the store has no such row",
-                "ask for an outer and inner number of the map",
-            ),
-            22 => (
-                "NO_REGION",
-                "the store's list has no such region",
-                "ask for a region below the list's count",
-            ),
-            40 => (
-                "TOO_MANY_GLYPHS",
-                "there are more than 1,048,576 glyphs",
-                "give a word for each of at most so many",
-            ),
-            41 => (
-                "GLYPH_MAP_SHORT",
-                "the output lent is too small for the glyph map or the width table",
-                "lend more bytes (6 and 4 for each glyph always do; 20 and the store more)",
-            ),
-            42 => (
-                "BAD_GLYPH_MAP",
-                "the bytes are no glyph map, or an empty one, or end too early",
-                "look whether the map was cut off or damaged",
-            ),
-            43 => (
-                "BAD_WIDTHS",
-                "the bytes are no width table, or its store or its map stands outside them",
-                "look whether the table was cut off or damaged",
-            ),
-            _ => ("UNKNOWN", "the refusal is not known", "report it"),
+    /// With what was short of a call that was lent so many words of work for a job: the words
+    /// are tested before the pair records.
+    pub(crate) fn short_of(self, job: &[u8], work: usize) -> Refused {
+        let words = work_words(job.len() / RECORD);
+        let short = if work < words {
+            Short::Work(words)
+        } else {
+            Short::Pairs(PAIRS)
+        };
+        Refused {
+            short: (self.number == WORK_SHORT).then_some(short),
+            ..self
+        }
+    }
+
+    /// The refusal's name in docs/RULES.md.
+    ///
+    /// ```
+    /// assert_eq!(ivs::pack(0, 0, &[]).unwrap_err().name(), "BAD_AXES");
+    /// ```
+    pub fn name(&self) -> &'static str {
+        wording::of(self.number).0
+    }
+
+    /// Number, name and place.
+    pub(crate) fn head(&self) -> String {
+        let (number, name) = (self.number, self.name());
+        let (record, byte) = (self.place, RECORD as u64 * self.place);
+        match number {
+            UNKNOWN_REGION | REGION_TWICE | SETS_FULL | UNKNOWN_KIND..=REGION_UNFINISHED => {
+                format!("{number} {name} at record {record} (byte {byte})")
+            }
+            UNFINISHED => format!("{number} {name} after record {record} (byte {byte})"),
+            _ => format!("{number} {name}"),
+        }
+    }
+
+    /// What happened and what to do, of WORK_SHORT by what was short.
+    fn said(&self) -> String {
+        let (_, what, remedy) = wording::of(self.number);
+        match self.short {
+            None => format!("{what}; {remedy}"),
+            Some(Short::Work(words)) => {
+                let words = grouped(words);
+                format!("the words of work lent are too few; lend {words} of them")
+            }
+            Some(Short::Pairs(records)) => {
+                let records = grouped(records);
+                format!("the pair records lent are too few; lend {records} of them")
+            }
         }
     }
 }
 
 impl fmt::Display for Refused {
     fn fmt(&self, f: &mut fmt::Formatter<'_>) -> fmt::Result {
-        let (name, what, remedy) = self.words();
-        write!(f, "{} {name}", self.number)?;
-        let byte = RECORD as u64 * self.place;
-        match self.number {
-            5..=7 | 9 => write!(f, " at record {} (byte {byte})", self.place)?,
-            8 => write!(f, " after record {} (byte {byte})", self.place)?,
-            _ => {}
+        f.write_str(&self.head())?;
+        if self.number == NOT_ZERO {
+            write!(f, ", byte {} of it", self.byte)?;
         }
-        match self.short {
-            None => write!(f, ": {what}; {remedy}"),
-            Some(Short::Work(needed) | Short::Pairs(needed)) => {
-                write!(f, ": {what}; lend {} of them", grouped(needed))
-            }
-        }
+        write!(f, ": {}", self.said())
     }
 }
 

@@ -4,10 +4,11 @@
  *
  * A question is 12 words of 64 bits (what is asked, three numbers, the lengths of job,
  * work, pairs, out, ids, map and log, and whether the pairs hold anything), then what is
- * lent, the report of 16 words last. The answer is a word, then of a build everything lent
- * but the job, with a word before the pairs that says whether they hold anything. Pairs
- * that hold nothing are zeros, and are not sent. Of a glyph map written the output follows
- * the word; its words were lent as work. So of a width table, whose store is the job. */
+ * lent, the report of 16 words last. The answer is a word, then of a call that has a report
+ * everything lent but the job, with a word before the pairs that says whether they hold
+ * anything. Pairs that hold nothing are zeros, and are not sent. Of a glyph map written the
+ * output follows the word; its words were lent as work. So of a width table, whose store is
+ * the job. */
 typedef unsigned char u8;
 typedef unsigned int u32;
 typedef unsigned long u64;
@@ -18,6 +19,9 @@ typedef struct {
 u64 ivs_work_words(u64 records);
 u32 ivs_build(u32 axes, u32 mode, const u8 *job, u64 job_len, u32 *work, u64 work_len, pair *pairs, u64 pairs_len,
               u8 *out, u64 out_len, u32 *ids, u64 ids_len, u32 *map, u64 map_len, u32 *log, u64 log_len, u64 *report);
+u32 ivs_forecast(u32 axes, u32 mode, const u8 *job, u64 job_len, u32 *work, u64 work_len, pair *pairs, u64 pairs_len,
+                 u64 *report);
+u32 ivs_part(u32 axes, const u8 *job, u64 job_len, u32 first, u32 second, u32 *work, u64 work_len, u64 *report);
 u64 ivs_read(const u8 *store, u64 store_len, u32 outer, u32 inner, u32 region);
 u64 ivs_write_glyphs(const u32 *words, u64 words_len, u8 *out, u64 out_len);
 u64 ivs_read_glyph(const u8 *map, u64 map_len, u32 glyph);
@@ -85,6 +89,9 @@ static int holds(const u8 *at, u64 count) {
 #define ROOM (1ul << 30)
 #define PAIRS_ROOM (1ul << 25)
 
+/* What is asked. */
+enum { WORK_WORDS, BUILD, READ, WRITE_GLYPHS, READ_GLYPH, FORECAST, PART, WRITE_WIDTHS = 20, READ_WIDTH };
+
 /* The parts of a question, with the bytes of one of each. */
 enum { JOB, WORK, PAIRS, OUT, IDS, MAP, LOG, REPORT, PARTS };
 static const u64 size[PARTS] = {1, 4, sizeof(pair), 1, 4, 4, 4, 8};
@@ -118,6 +125,34 @@ static u64 build(const u64 *asked, const u64 *count, u8 **at) {
                      (u32 *)at[LOG], count[LOG], (u64 *)at[REPORT]);
 }
 
+static u64 forecast(const u64 *asked, const u64 *count, u8 **at) {
+    return ivs_forecast((u32)asked[1], (u32)asked[2], at[JOB], count[JOB], (u32 *)at[WORK], count[WORK],
+                        (pair *)at[PAIRS], count[PAIRS], (u64 *)at[REPORT]);
+}
+
+static u64 part(const u64 *asked, const u64 *count, u8 **at) {
+    return ivs_part((u32)asked[1], at[JOB], count[JOB], (u32)asked[2], (u32)asked[3], (u32 *)at[WORK], count[WORK],
+                    (u64 *)at[REPORT]);
+}
+
+static u64 answered(const u64 *asked, const u64 *count, u8 **at) {
+    switch (asked[0]) {
+    case WORK_WORDS: return ivs_work_words(asked[1]);
+    case BUILD: return build(asked, count, at);
+    case FORECAST: return forecast(asked, count, at);
+    case PART: return part(asked, count, at);
+    case WRITE_GLYPHS: return ivs_write_glyphs((u32 *)at[WORK], count[WORK], at[OUT], count[OUT]);
+    case WRITE_WIDTHS:
+        return ivs_write_widths(at[JOB], count[JOB], (u32 *)at[WORK], count[WORK], at[OUT], count[OUT]);
+    case READ_WIDTH: return ivs_read_width(at[JOB], count[JOB], (u32)asked[1], (u32)asked[2]);
+    case READ_GLYPH: return ivs_read_glyph(at[JOB], count[JOB], (u32)asked[1]);
+    default: return ivs_read(at[JOB], count[JOB], (u32)asked[1], (u32)asked[2], (u32)asked[3]);
+    }
+}
+
+/* Whether the call has a report. */
+static int reports(u64 what) { return what == BUILD || what == FORECAST || what == PART; }
+
 __attribute__((force_align_arg_pointer)) void _start(void) {
     u8 *room = (u8 *)system_call(9, 0, ROOM + PAIRS_ROOM, 3, 0x4022, -1, 0);
     if ((long)room < 0) leave(2);
@@ -140,25 +175,10 @@ __attribute__((force_align_arg_pointer)) void _start(void) {
             if (used > ROOM) leave(3);
             take(at[i], bytes[i]);
         }
-        if (asked[0] == 0) {
-            answer = ivs_work_words(asked[1]);
-        } else if (asked[0] == 1) {
-            answer = build(asked, count, at);
-        } else if (asked[0] == 3) {
-            answer = ivs_write_glyphs((u32 *)at[WORK], count[WORK], at[OUT], count[OUT]);
-        } else if (asked[0] == 4) {
-            answer = ivs_read_glyph(at[JOB], count[JOB], (u32)asked[1]);
-        } else if (asked[0] == 20) {
-            answer = ivs_write_widths(at[JOB], count[JOB], (u32 *)at[WORK], count[WORK], at[OUT], count[OUT]);
-        } else if (asked[0] == 21) {
-            answer = ivs_read_width(at[JOB], count[JOB], (u32)asked[1], (u32)asked[2]);
-        } else {
-            answer = ivs_read(at[JOB], count[JOB], (u32)asked[1], (u32)asked[2], (u32)asked[3]);
-        }
+        answer = answered(asked, count, at);
         give((u8 *)&answer, sizeof answer);
-        if (asked[0] == 3) give(at[OUT], bytes[OUT]);
-        if (asked[0] == 20) give(at[OUT], bytes[OUT]);
-        if (asked[0] != 1) continue;
+        if (asked[0] == WRITE_GLYPHS || asked[0] == WRITE_WIDTHS) give(at[OUT], bytes[OUT]);
+        if (!reports(asked[0])) continue;
         for (int i = WORK; i < PARTS; i++) {
             if (i == PAIRS) {
                 give_pairs(at[i], bytes[i]);

@@ -1,8 +1,9 @@
 //! The width table, OpenType's HVAR: an item variation store, and for each glyph the row
 //! that its width varies by.
 
+use crate::reading::reading;
 use crate::refusals::Refused;
-use crate::{raw, reading, Packed, Reading, GLYPHS};
+use crate::{raw, Packed, Reading, GLYPHS};
 
 /// Bytes of a table before its store.
 const HEAD: usize = 20;

@@ -11,8 +11,8 @@ const RECORDS: usize = 1_048_576;
 /// Start, peak and end on one axis, as raw F2Dot14 numbers (0x4000 is 1).
 pub type Tent = (i16, i16, i16);
 
-/// Writes a job. Whatever is taken is sound: the library refuses no job of a writer by 3
-/// or 5 to 8, when it is built with the writer's axis count.
+/// Writes a job. Whatever is taken is sound: the library refuses no job of a writer by 3,
+/// 6 to 8 or 30 to 34, when it is built with the writer's axis count.
 ///
 /// ```
 /// let mut job = ivs::JobWriter::new(1);
@@ -64,6 +64,10 @@ pub enum JobError {
 
 impl JobWriter {
     /// An empty job for so many axes, 1 to 64.
+    ///
+    /// ```
+    /// assert_eq!(ivs::JobWriter::new(2).finish(), []);
+    /// ```
     pub fn new(axes: usize) -> JobWriter {
         JobWriter {
             axes,
@@ -73,6 +77,14 @@ impl JobWriter {
     }
 
     /// Adds a region, one triple an axis, and answers its number.
+    ///
+    /// ```
+    /// let mut job = ivs::JobWriter::new(2);
+    /// assert_eq!(job.region(&[(0, 0x4000, 0x4000), (0, 0, 0)]), Ok(0));
+    /// assert_eq!(job.region(&[(-0x4000, -0x4000, 0), (0, 0, 0)]), Ok(1));
+    /// let wrong = ivs::JobError::Triples { given: 1, axes: 2 };
+    /// assert_eq!(job.region(&[(0, 0x4000, 0x4000)]), Err(wrong));
+    /// ```
     pub fn region(&mut self, tents: &[Tent]) -> Result<u8, JobError> {
         if self.axes == 0 || self.axes > AXES {
             return Err(JobError::Axes(self.axes));
@@ -94,6 +106,15 @@ impl JobWriter {
     }
 
     /// Adds a set: regions with their values. It may be empty.
+    ///
+    /// ```
+    /// let mut job = ivs::JobWriter::new(1);
+    /// let bold = job.region(&[(0, 0x4000, 0x4000)])?;
+    /// job.set(&[(bold, 10)])?;
+    /// job.set(&[])?;
+    /// assert_eq!(job.set(&[(bold, 1), (bold, 2)]), Err(ivs::JobError::RegionTwice(bold)));
+    /// # Ok::<(), ivs::JobError>(())
+    /// ```
     pub fn set(&mut self, values: &[(u8, i32)]) -> Result<(), JobError> {
         let mut named = [false; 256];
         for &(number, _) in values {
@@ -114,6 +135,13 @@ impl JobWriter {
     }
 
     /// The job's bytes.
+    ///
+    /// ```
+    /// let mut job = ivs::JobWriter::new(1);
+    /// job.set(&[])?;
+    /// assert_eq!(job.finish(), [3, 0, 0, 0, 0, 0, 0, 0, 0, 0, 0, 0]);
+    /// # Ok::<(), ivs::JobError>(())
+    /// ```
     pub fn finish(self) -> Vec<u8> {
         let mut job = Vec::with_capacity(RECORD * self.records());
         for (number, region) in (0..=u8::MAX).zip(&self.regions) {

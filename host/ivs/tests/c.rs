@@ -60,15 +60,38 @@ fn refusals_with_their_places() {
     let job = fs::read(root().join("examples/two-sets.job")).unwrap();
     let mut unknown = job.clone();
     unknown[2 * 12 + 1] = 9;
+    let mut not_zero = job.clone();
+    not_zero[3 * 12 + 9] = 9;
     for (job, said) in [
-        (&job[..5 * 12], "refused: 8 at 5\n"),
-        (&unknown[..], "refused: 6 at 2\n"),
-        (&vec![0; 12 * 1_048_577][..], "refused: 3 at 0\n"),
+        (&job[..5 * 12], "refused: 8 at 5, byte 0\n"),
+        (&unknown[..], "refused: 6 at 2, byte 0\n"),
+        (&not_zero[..], "refused: 31 at 3, byte 9\n"),
+        (&vec![0; 12 * 1_048_577][..], "refused: 3 at 0, byte 0\n"),
     ] {
         let output = packed(&program, job);
         assert_eq!(output.status.code(), Some(2));
         assert_eq!(String::from_utf8(output.stderr).unwrap(), said);
     }
+}
+
+/// A store of more than a mebibyte: what is lent goes by the forecast.
+#[test]
+fn a_large_store() {
+    let mut job = ivs::JobWriter::new(1);
+    for peak in 0..256 {
+        job.region(&[(0, peak, 0x4000)]).unwrap();
+    }
+    for set in 0..1_100 {
+        let values: Vec<(u8, i32)> = (0..=255).map(|region| (region, 70_000 + set)).collect();
+        job.set(&values).unwrap();
+    }
+    let job = job.finish();
+    let output = packed(&program("c_large"), &job);
+    assert_eq!(output.status.code(), Some(0));
+    let bytes = ivs::forecast(1, 0, &job).unwrap().store_bytes as usize;
+    assert!(bytes > 1 << 20);
+    assert_eq!(output.stdout[..6], *b"store ");
+    assert_eq!(output.stdout[6 + 2 * bytes], b'\n');
 }
 
 #[test]

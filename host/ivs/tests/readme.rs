@@ -64,7 +64,14 @@ fn lent() {
 #[test]
 fn refusals() {
     let (readme, header) = (file("README.md"), file("include/ivs.h"));
-    for number in (1..=14).chain(20..=22).chain(40..=43) {
+    let retired = |number: &u32| *number == 5;
+    let build = (1..=14).filter(|number| !retired(number));
+    for number in build
+        .chain(20..=22)
+        .chain(30..=34)
+        .chain(40..=43)
+        .chain([64])
+    {
         let name = ivs::Refused::bare(number).name();
         assert!(
             readme.contains(&format!("\n| {number} | {name} | ")),

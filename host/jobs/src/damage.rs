@@ -21,10 +21,23 @@ pub enum Damage {
     RecordRepeated,
     /// A record is left out.
     RecordDropped,
+    /// A record gets a kind that there is not.
+    KindUnknown,
+    /// A byte that must be 0 is not.
+    ZeroSet,
+    /// An axis record gets the number of another region or axis nearby.
+    AxisRenumbered,
+    /// The axis record that would be next stands behind the first record of the sets.
+    AxisLate,
+    /// The last axis record is left out.
+    AxisDropped,
+    /// A record stands once more at another place, there with none to all of the first three
+    /// of these.
+    Several,
 }
 
 /// All kinds of damage.
-pub const ALL: [Damage; 7] = [
+pub const ALL: [Damage; 13] = [
     Damage::ByteChanged,
     Damage::SmallByteChanged,
     Damage::Truncated,
@@ -32,6 +45,12 @@ pub const ALL: [Damage; 7] = [
     Damage::RecordsSwapped,
     Damage::RecordRepeated,
     Damage::RecordDropped,
+    Damage::KindUnknown,
+    Damage::ZeroSet,
+    Damage::AxisRenumbered,
+    Damage::AxisLate,
+    Damage::AxisDropped,
+    Damage::Several,
 ];
 
 /// The job with damage of a kind that the random numbers choose. A job without
@@ -48,6 +67,7 @@ pub fn of_kind(kind: Damage, rng: &mut Rng, job: &[u8]) -> Vec<u8> {
     if records == 0 {
         return bytes;
     }
+    let axes = job.chunks(RECORD).take_while(|r| r[0] == 1).count();
     let one = RECORD * rng.below(records);
     let other = RECORD * rng.below(records);
     match kind {
@@ -76,8 +96,56 @@ pub fn of_kind(kind: Damage, rng: &mut Rng, job: &[u8]) -> Vec<u8> {
         Damage::RecordDropped => {
             bytes.drain(one..one + RECORD);
         }
+        Damage::KindUnknown => kind_unknown(rng, &mut bytes[one..one + RECORD]),
+        Damage::ZeroSet => zero_set(rng, &mut bytes[one..one + RECORD]),
+        Damage::AxisRenumbered if axes > 0 => {
+            let one = RECORD * rng.below(axes);
+            renumbered(rng, &mut bytes[one..one + RECORD]);
+        }
+        Damage::AxisLate if 0 < axes && axes < records => {
+            // Of a job that is whole, the next is the first axis of a region.
+            let region = job[RECORD * (axes - 1) + 1].wrapping_add(1);
+            let at = RECORD * rng.between(axes + 1, records);
+            bytes.splice(at..at, [1, region, 0, 0, 0, 0, 0, 0, 0, 0, 0, 0]);
+        }
+        Damage::AxisDropped if axes > 0 => {
+            bytes.drain(RECORD * (axes - 1)..RECORD * axes);
+        }
+        Damage::Several => {
+            let mut record = job[one..one + RECORD].to_vec();
+            let hurts = [kind_unknown, zero_set, renumbered];
+            for hurt in hurts {
+                if rng.one_in(2) {
+                    hurt(rng, &mut record);
+                }
+            }
+            bytes.splice(other..other, record);
+        }
+        // A job that has nothing to be damaged so.
+        Damage::AxisRenumbered | Damage::AxisLate | Damage::AxisDropped => {}
     }
     bytes
+}
+
+/// The record gets a kind that there is not.
+fn kind_unknown(rng: &mut Rng, record: &mut [u8]) {
+    record[0] = rng.pick(&[0, 4, 5, 0x81, 255]);
+}
+
+/// A byte of the record that must be 0 is not.
+fn zero_set(rng: &mut Rng, record: &mut [u8]) {
+    let byte = match record[0] {
+        1 => rng.pick(&[3, 10, 11]),
+        2 => rng.pick(&[2, 3, 8, 9, 10, 11]),
+        _ => rng.between(1, 11),
+    };
+    record[byte] |= 1 << rng.below(8);
+}
+
+/// The record's region, or the byte behind it, becomes one more or one less.
+fn renumbered(rng: &mut Rng, record: &mut [u8]) {
+    let byte = rng.between(1, 2);
+    record[byte] = record[byte].wrapping_add(rng.pick(&[1, 255]));
 }
 
 /// Shows the job with every byte changed to every other value, cut off at every
@@ -148,14 +216,22 @@ mod tests {
                 let hurt = of_kind(kind, &mut Rng::new(seed), &job);
                 let changed = hurt.iter().zip(&job).filter(|(a, b)| a != b).count();
                 match kind {
-                    Damage::ByteChanged | Damage::SmallByteChanged => {
-                        assert_eq!((hurt.len(), changed), (job.len(), 1))
-                    }
                     Damage::Truncated => assert!(hurt.len() < job.len() && changed == 0),
                     Damage::RecordsCut => assert!(hurt.len() % RECORD == 0 && changed == 0),
                     Damage::RecordsSwapped => assert_eq!(hurt.len(), job.len()),
-                    Damage::RecordRepeated => assert_eq!(hurt.len(), job.len() + RECORD),
-                    Damage::RecordDropped => assert_eq!(hurt.len(), job.len() - RECORD),
+                    Damage::RecordRepeated | Damage::Several | Damage::AxisLate => {
+                        assert_eq!(hurt.len(), job.len() + RECORD)
+                    }
+                    Damage::RecordDropped | Damage::AxisDropped => {
+                        assert_eq!(hurt.len(), job.len() - RECORD)
+                    }
+                    Damage::ByteChanged
+                    | Damage::SmallByteChanged
+                    | Damage::KindUnknown
+                    | Damage::ZeroSet
+                    | Damage::AxisRenumbered => {
+                        assert_eq!((hurt.len(), changed), (job.len(), 1))
+                    }
                 }
             }
         }

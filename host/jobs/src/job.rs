@@ -61,7 +61,7 @@ impl Job {
 
     /// The job of these bytes, if they are the bytes of a job whose sets name only
     /// its regions and no coordinates twice. Another way to say
-    /// refusals 5 to 8: read without looking at anything that need not be read,
+    /// refusals 6 to 8 and 30 to 34: read without looking at anything that need not be read,
     /// then write again and compare.
     pub fn parse(axes: usize, bytes: &[u8]) -> Option<Job> {
         let records = || bytes.chunks(RECORD).filter(|r| r.len() == RECORD);

@@ -6,12 +6,14 @@
 //! * [`small`]: all jobs of a small kind, one after another.
 //! * [`edges`]: the large jobs at the limits of the rules.
 //! * [`glyphs`]: lists of words for glyph maps, which are no jobs.
+//! * [`forms`]: records that break one rule of their form or several.
 //! * [`damage`]: bytes changed, records cut off, swapped, repeated.
 //! * [`Rng`]: the random numbers behind all of it; [`hex`]: bytes as text.
 
 pub mod damage;
 pub mod edges;
 pub mod examples;
+pub mod forms;
 pub mod glyphs;
 pub mod hex;
 mod job;

@@ -5,12 +5,14 @@
 //! simpler: the code is meant to be believed by reading it beside the rules. Each
 //! part names the rules that it renders by their labels.
 //!
-//! [`build`] says what one build call must answer and write; [`read`] says what
-//! reading one value must answer.
+//! [`build`] says what one build call must answer and write, [`part`] where two sets
+//! of a job part; [`read`] says what reading one value must answer.
 
+mod forecast;
 pub mod glyphs;
 mod groups;
 mod merging;
+mod part;
 mod reading;
 mod records;
 mod refusals;
@@ -19,6 +21,7 @@ mod store;
 pub mod table;
 mod widths;
 
+pub use part::{part, Parted, Parting};
 pub use reading::{read, Reading};
 pub use refusals::{name, number, Refused};
 
@@ -81,7 +84,7 @@ pub struct Counts {
     pub size_before: u64,
     /// Modelled size after merging.
     pub size_after: u64,
-    /// The forecast.
+    /// The forecast of the store's bytes (A3).
     pub forecast: u64,
 }
 
@@ -112,20 +115,7 @@ pub fn work_words(records: usize) -> usize {
 
 /// One build call: what it answers, and what it writes when it is done.
 pub fn build(axes: u32, mode: u32, job: &[u8], sizes: &Sizes) -> Result<Done, Refused> {
-    let records = job.len() / records::RECORD;
-    // Before any record is looked at (T1).
-    if axes == 0 || axes > 64 {
-        return Err(Refused::at(number::BAD_AXES, 0));
-    }
-    if mode > 1 {
-        return Err(Refused::at(number::BAD_MODE, 0));
-    }
-    if job.len() % records::RECORD != 0 || records > RECORD_LIMIT {
-        return Err(Refused::at(number::BAD_JOB_LENGTH, 0));
-    }
-    if sizes.work < work_words(records) || sizes.pairs < PAIRS {
-        return Err(Refused::at(number::WORK_SHORT, 0));
-    }
+    early(axes, mode, job, sizes.work, sizes.pairs)?;
     // The records, then the end of the job (T2, T3).
     let said = records::check(axes as usize, mode, job)?;
     let numbered = sets::number(mode, &said);
@@ -150,7 +140,7 @@ pub fn build(axes: u32, mode: u32, job: &[u8], sizes: &Sizes) -> Result<Done, Re
         distinct_ids: numbered.sets.len() as u64,
         ..plan.counts
     };
-    let forecast = forecast(axes as u64, &counts, &plan.groups, laid.null_subtables);
+    let forecast = forecast::bytes(axes as u64, &plan.groups, mode == 1);
 
     if sizes.ids < numbered.ids.len() {
         return Err(Refused::at(number::IDS_SHORT, 0));
@@ -173,10 +163,22 @@ pub fn build(axes: u32, mode: u32, job: &[u8], sizes: &Sizes) -> Result<Done, Re
     })
 }
 
-/// The forecast (A3).
-fn forecast(axes: u64, counts: &Counts, groups: &[Group], null_subtables: u64) -> u64 {
-    let written: u64 = groups.iter().map(Group::cost).sum();
-    12 + 6 * axes * counts.regions_kept + written + 4 * null_subtables
+/// What is tested before any record is looked at (T1).
+fn early(axes: u32, mode: u32, job: &[u8], work: usize, pairs: usize) -> Result<(), Refused> {
+    let records = job.len() / records::RECORD;
+    if axes == 0 || axes > 64 {
+        return Err(Refused::at(number::BAD_AXES, 0));
+    }
+    if mode > 1 {
+        return Err(Refused::at(number::BAD_MODE, 0));
+    }
+    if job.len() % records::RECORD != 0 || records > RECORD_LIMIT {
+        return Err(Refused::at(number::BAD_JOB_LENGTH, 0));
+    }
+    if work < work_words(records) || pairs < PAIRS {
+        return Err(Refused::at(number::WORK_SHORT, 0));
+    }
+    Ok(())
 }
 
 /// The final groups with their sets in row order, and what led to them.

@@ -26,12 +26,7 @@ fn main() -> ExitCode {
             ExitCode::SUCCESS
         }
         Err(refused) => {
-            eprintln!(
-                "plain: refused: {} {} at {}",
-                refused.number,
-                plain::name(refused.number),
-                refused.place
-            );
+            eprintln!("plain: refused: {refused}");
             ExitCode::from(2)
         }
     }

@@ -1,4 +1,4 @@
-//! The job (J1 to J6), with refusals 5 to 9.
+//! The job (J1 to J6), with refusals 6 to 9 and 30 to 34.
 
 use crate::refusals::{number, Refused};
 
@@ -41,9 +41,7 @@ pub fn check(axes: usize, mode: u32, job: &[u8]) -> Result<Said, Refused> {
         job,
     };
     for place in 0..job.len() / RECORD {
-        reader
-            .record(place)
-            .map_err(|number| Refused::at(number, place))?;
+        reader.record(place)?;
     }
     // R8, placed at the record count (T5).
     if !reader.open.is_empty() || reader.in_region() {
@@ -60,57 +58,73 @@ pub fn check(axes: usize, mode: u32, job: &[u8]) -> Result<Said, Refused> {
 }
 
 impl Reader<'_> {
-    /// One record: its refusal number, or what it says is taken in.
-    fn record(&mut self, place: usize) -> Result<(), u32> {
+    /// One record: its refusal, or what it says is taken in.
+    fn record(&mut self, place: usize) -> Result<(), Refused> {
         let record = &self.job[RECORD * place..RECORD * (place + 1)];
-        let zero = |bytes: &[usize]| bytes.iter().all(|&i| record[i] == 0);
+        let refused = |number| Err(Refused::at(number, place));
+        if let Some((number, byte)) = self.form(record) {
+            return Err(Refused {
+                byte: byte as u64,
+                ..Refused::at(number, place)
+            });
+        }
         match record[0] {
             1 => {
-                let sound = zero(&[3, 10, 11]) && !self.axes_over && self.in_turn(record);
-                if !sound {
-                    return Err(number::BAD_RECORD);
-                }
                 let coordinate = |i: usize| i16::from_be_bytes([record[i], record[i + 1]]);
                 self.axis_records
                     .push([coordinate(4), coordinate(6), coordinate(8)]);
+                return Ok(());
             }
             2 => {
-                if !zero(&[2, 3, 8, 9, 10, 11]) || self.in_region() {
-                    return Err(number::BAD_RECORD);
-                }
                 let region = record[1] as usize;
                 if region >= self.regions() {
-                    return Err(number::UNKNOWN_REGION);
+                    return refused(number::UNKNOWN_REGION);
                 }
                 if self
                     .open
                     .iter()
                     .any(|&(earlier, _)| self.same(earlier, region))
                 {
-                    return Err(number::REGION_TWICE);
+                    return refused(number::REGION_TWICE);
                 }
                 let value = i32::from_be_bytes([record[4], record[5], record[6], record[7]]);
                 self.open.push((region, value));
-                self.axes_over = true;
             }
-            3 => {
-                if !zero(&[1, 2, 3, 4, 5, 6, 7, 8, 9, 10, 11]) || self.in_region() {
-                    return Err(number::BAD_RECORD);
-                }
+            _ => {
                 // The 65,536th (R9).
                 if self.mode == 1 && self.sets.len() == 65_535 {
-                    return Err(number::SETS_FULL);
+                    return refused(number::SETS_FULL);
                 }
                 self.sets.push(std::mem::take(&mut self.open));
-                self.axes_over = true;
             }
-            _ => return Err(number::BAD_RECORD),
         }
+        self.axes_over = true;
         Ok(())
     }
 
-    /// The axis record has the numbers that are next (J4). The 257th region's number does
-    /// not fit its byte.
+    /// What is wrong with the form of a record, and the byte that is named: R30 to R34, the
+    /// first of them that applies (T2, T6).
+    fn form(&self, record: &[u8]) -> Option<(u32, usize)> {
+        let must_be_zero: &[usize] = match record[0] {
+            1 => &[3, 10, 11],
+            2 => &[2, 3, 8, 9, 10, 11],
+            3 => &[1, 2, 3, 4, 5, 6, 7, 8, 9, 10, 11],
+            _ => return Some((number::UNKNOWN_KIND, 0)),
+        };
+        if let Some(&byte) = must_be_zero.iter().find(|&&byte| record[byte] != 0) {
+            return Some((number::NOT_ZERO, byte));
+        }
+        if record[0] == 1 {
+            if !self.in_turn(record) {
+                return Some((number::AXIS_OUT_OF_TURN, 0));
+            }
+            return self.axes_over.then_some((number::AXIS_TOO_LATE, 0));
+        }
+        self.in_region().then_some((number::REGION_UNFINISHED, 0))
+    }
+
+    /// The axis record has the numbers after those of the axis records before it, wherever
+    /// it stands (J4). The 257th region's number does not fit its byte.
     fn in_turn(&self, record: &[u8]) -> bool {
         let next = self.axis_records.len();
         record[1] as usize == next / self.axes && record[2] as usize == next % self.axes

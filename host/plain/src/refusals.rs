@@ -1,4 +1,4 @@
-//! Refusals by number, name and place.
+//! Refusals by number, name, place and byte.
 
 use std::fmt;
 
@@ -9,7 +9,6 @@ pub mod number {
     pub const BAD_MODE: u32 = 2;
     pub const BAD_JOB_LENGTH: u32 = 3;
     pub const WORK_SHORT: u32 = 4;
-    pub const BAD_RECORD: u32 = 5;
     pub const UNKNOWN_REGION: u32 = 6;
     pub const REGION_TWICE: u32 = 7;
     pub const UNFINISHED: u32 = 8;
@@ -22,6 +21,12 @@ pub mod number {
     pub const BAD_STORE: u32 = 20;
     pub const NO_ROW: u32 = 21;
     pub const NO_REGION: u32 = 22;
+    pub const UNKNOWN_KIND: u32 = 30;
+    pub const NOT_ZERO: u32 = 31;
+    pub const AXIS_OUT_OF_TURN: u32 = 32;
+    pub const AXIS_TOO_LATE: u32 = 33;
+    pub const REGION_UNFINISHED: u32 = 34;
+    pub const NO_SET: u32 = 64;
 }
 
 /// The name of a refusal number.
@@ -31,7 +36,6 @@ pub fn name(refusal: u32) -> &'static str {
         number::BAD_MODE => "BAD_MODE",
         number::BAD_JOB_LENGTH => "BAD_JOB_LENGTH",
         number::WORK_SHORT => "WORK_SHORT",
-        number::BAD_RECORD => "BAD_RECORD",
         number::UNKNOWN_REGION => "UNKNOWN_REGION",
         number::REGION_TWICE => "REGION_TWICE",
         number::UNFINISHED => "UNFINISHED",
@@ -44,32 +48,48 @@ pub fn name(refusal: u32) -> &'static str {
         number::BAD_STORE => "BAD_STORE",
         number::NO_ROW => "NO_ROW",
         number::NO_REGION => "NO_REGION",
+        number::UNKNOWN_KIND => "UNKNOWN_KIND",
+        number::NOT_ZERO => "NOT_ZERO",
+        number::AXIS_OUT_OF_TURN => "AXIS_OUT_OF_TURN",
+        number::AXIS_TOO_LATE => "AXIS_TOO_LATE",
+        number::REGION_UNFINISHED => "REGION_UNFINISHED",
+        number::NO_SET => "NO_SET",
         _ => "unknown",
     }
 }
 
-/// A refusal and its place.
+/// A refusal, its place and its byte.
 ///
-/// T5 says which place. All counts are 0 and nothing lent but work is touched (L1).
+/// T5 says which place, T6 which byte. All counts are 0 and nothing lent but work is
+/// touched (L1).
 #[derive(Clone, Copy, Debug, PartialEq, Eq)]
 pub struct Refused {
     /// The refusal number.
     pub number: u32,
     /// Where.
     pub place: u64,
+    /// The byte within the record.
+    pub byte: u64,
 }
 
 impl Refused {
-    pub(crate) fn at(number: u32, place: usize) -> Refused {
+    /// A refusal that names byte 0.
+    pub fn at(number: u32, place: usize) -> Refused {
         Refused {
             number,
             place: place as u64,
+            byte: 0,
         }
     }
 }
 
 impl fmt::Display for Refused {
     fn fmt(&self, f: &mut fmt::Formatter<'_>) -> fmt::Result {
-        write!(f, "{} {} at {}", self.number, name(self.number), self.place)
+        let Refused {
+            number,
+            place,
+            byte,
+        } = self;
+        write!(f, "{number} {} at {place}, byte {byte}", name(*number))
     }
 }

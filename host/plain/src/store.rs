@@ -13,7 +13,6 @@ pub struct Laid {
     /// The map word of each id.
     pub map: Vec<u32>,
     pub subtables: u64,
-    pub null_subtables: u64,
     pub regions_kept: u64,
 }
 
@@ -42,7 +41,6 @@ pub fn lay(axes: usize, numbered: &Numbered, groups: &[Group], implicit: bool) -
         bytes: place(&list, &subtables, null_subtables),
         map,
         subtables: subtables.len() as u64 + null_subtables,
-        null_subtables,
         regions_kept: kept.len() as u64,
     }
 }

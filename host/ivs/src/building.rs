@@ -1,0 +1,231 @@
+//! Building a store: in lent memory, and in memory of its own.
+
+use crate::forecast::forecast_with;
+use crate::raw;
+use crate::refusals::{Refused, RECORD};
+
+/// A record for a pair of groups that waits to be merged: room that is lent, with nothing
+/// in it for who lends it.
+#[repr(C)]
+#[derive(Clone, Copy, Debug, Default, PartialEq, Eq)]
+pub struct Pair {
+    /// The bytes that joining the two would save.
+    pub gain: u32,
+    /// The smaller of the two groups' numbers.
+    pub first: u32,
+    /// The other.
+    pub second: u32,
+}
+
+/// The pair records that a build needs, whatever its job is: 12 MiB.
+pub const PAIRS: usize = 1_048_576;
+
+/// Memory lent to a build.
+pub struct Lent<'a> {
+    /// As many words as [`work_words`] says; all zeros after a call that was not refused
+    /// by 1 to 4.
+    pub work: &'a mut [u32],
+    /// At least [`PAIRS`] records; all zeros after a call that was not refused by 1 to 4.
+    pub pairs: &'a mut [Pair],
+    /// The store's bytes.
+    pub out: &'a mut [u8],
+    /// The n-th word is the n-th set's id.
+    pub ids: &'a mut [u32],
+    /// For each id, outer x 65,536 + inner.
+    pub map: &'a mut [u32],
+    /// For each merge: first number, second number, gain.
+    pub log: &'a mut [u32],
+}
+
+/// The numbers of a done build, or of a forecast. What a build has written: `store_bytes` of
+/// out, a word of ids for each set, `distinct_ids` words of map, 3 x `merges` words of log.
+#[derive(Clone, Copy, Debug, Default, PartialEq, Eq)]
+pub struct Done {
+    /// Bytes of the store.
+    pub store_bytes: u64,
+    /// Subtables in the store, a null one included.
+    pub subtables: u64,
+    /// Regions kept.
+    pub regions_kept: u64,
+    /// Distinct ids.
+    pub distinct_ids: u64,
+    /// N: the groups before merging; 0 in mode 1.
+    pub shapes: u64,
+    /// Merges.
+    pub merges: u64,
+    /// Pairs weighed.
+    pub pairs: u64,
+    /// Modelled size before merging.
+    pub size_before: u64,
+    /// Modelled size after merging.
+    pub size_after: u64,
+    /// The forecast of the store's bytes: as many as there are.
+    pub forecast: u64,
+}
+
+/// The answer that a report has, of a build or of a forecast (include/ivs.h).
+pub(crate) fn done(report: &[u64; 16]) -> Result<Done, Refused> {
+    if report[0] != 0 {
+        return Err(Refused::of(report));
+    }
+    Ok(Done {
+        store_bytes: report[2],
+        subtables: report[3],
+        regions_kept: report[4],
+        distinct_ids: report[5],
+        shapes: report[6],
+        merges: report[7],
+        pairs: report[8],
+        size_before: report[9],
+        size_after: report[10],
+        forecast: report[11],
+    })
+}
+
+/// A store with everything that a build says of it.
+///
+/// ```
+/// let packed = ivs::pack(1, 0, &[])?;                // no regions and no sets
+/// assert_eq!(packed.store, [0, 1, 0, 0, 0, 8, 0, 0, 0, 1, 0, 0]);
+/// assert_eq!(packed.done, ivs::Done { store_bytes: 12, forecast: 12, ..Default::default() });
+/// # Ok::<(), ivs::Refused>(())
+/// ```
+#[derive(Clone, Debug, PartialEq, Eq)]
+pub struct Packed {
+    /// The numbers.
+    pub done: Done,
+    /// The store.
+    pub store: Vec<u8>,
+    /// The id of each set.
+    pub ids: Vec<u32>,
+    /// For each id, outer x 65,536 + inner.
+    pub map: Vec<u32>,
+    /// For each merge: first number, second number, gain.
+    pub log: Vec<u32>,
+}
+
+/// The words of work that a job of so many records needs; 0 above the record limit.
+///
+/// ```
+/// assert_eq!(ivs::work_words(1), 17);
+/// assert_eq!(ivs::work_words(1_048_576), 16 * 1_048_576 + 1_048_576);
+/// assert_eq!(ivs::work_words(1_048_577), 0);
+/// ```
+pub fn work_words(records: usize) -> usize {
+    raw::work_words(records)
+}
+
+/// One build in lent memory.
+///
+/// ```
+/// let mut writer = ivs::JobWriter::new(1);
+/// let bold = writer.region(&[(0, 0x4000, 0x4000)])?;
+/// writer.set(&[(bold, 10)])?;
+/// let job = writer.finish();
+///
+/// let mut work = vec![0; ivs::work_words(job.len() / 12)];
+/// let mut pairs = vec![ivs::Pair::default(); ivs::PAIRS];
+/// let (mut out, mut ids, mut map) = ([0xFF; 40], [0; 1], [0; 1]);
+/// let mut lent = ivs::Lent {
+///     work: &mut work,
+///     pairs: &mut pairs,
+///     out: &mut out,
+///     ids: &mut ids,
+///     map: &mut map,
+///     log: &mut [],
+/// };
+/// let done = ivs::build_into(1, 0, &job, &mut lent)?;
+/// assert_eq!((done.store_bytes, done.forecast), (31, 31));
+/// assert_eq!(lent.out[29..33], [0, 10, 0xFF, 0xFF]); // past the store nothing is written
+/// assert_eq!(ivs::build_into(1, 0, &job, &mut lent), Ok(done)); // the same memory, once more
+///
+/// lent.pairs = &mut lent.pairs[1..];
+/// let refused = ivs::build_into(1, 0, &job, &mut lent).unwrap_err();
+/// assert_eq!((refused.number, refused.short), (4, Some(ivs::Short::Pairs(1_048_576))));
+/// lent.work = &mut lent.work[1..];                   // tested before the pair records
+/// let refused = ivs::build_into(1, 0, &job, &mut lent).unwrap_err();
+/// assert_eq!(
+///     refused.to_string(),
+///     "4 WORK_SHORT: the words of work lent are too few; lend 57 of them"
+/// );
+/// # Ok::<(), Box<dyn std::error::Error>>(())
+/// ```
+pub fn build_into(axes: u32, mode: u32, job: &[u8], lent: &mut Lent<'_>) -> Result<Done, Refused> {
+    let mut report = [0; 16];
+    build_report(axes, mode, job, lent, &mut report);
+    done(&report).map_err(|refused| refused.short_of(job, lent.work.len()))
+}
+
+/// One build in lent memory, with the report as the library fills it (include/ivs.h).
+/// The answer is the refusal number, 0 for done.
+///
+/// ```
+/// let mut lent = ivs::Lent {
+///     work: &mut [],                                 // a job of no records needs none
+///     pairs: &mut vec![ivs::Pair::default(); ivs::PAIRS],
+///     out: &mut [0; 12],
+///     ids: &mut [],
+///     map: &mut [],
+///     log: &mut [],
+/// };
+/// let mut report = [9; 16];
+/// assert_eq!(ivs::build_report(1, 0, &[], &mut lent, &mut report), 0);
+/// assert_eq!((report[2], report[11], report[15]), (12, 12, 0)); // bytes, forecast, nothing
+/// assert_eq!(ivs::build_report(1, 7, &[], &mut lent, &mut report), 2);
+/// ```
+pub fn build_report(
+    axes: u32,
+    mode: u32,
+    job: &[u8],
+    lent: &mut Lent<'_>,
+    report: &mut [u64; 16],
+) -> u32 {
+    raw::build(axes, mode, job, lent, report)
+}
+
+/// One build in memory of its own, of which it takes as much as [`forecast`](crate::forecast)
+/// says: where many jobs follow one another, [`build_into`] can lend the same to all.
+///
+/// ```
+/// let mut job = ivs::JobWriter::new(1);
+/// let bold = job.region(&[(0, 0x4000, 0x4000)])?;
+/// for value in [10, -300, 10] {
+///     job.set(&[(bold, value)])?;
+/// }
+/// let job = job.finish();
+/// let packed = ivs::pack(1, 0, &job)?;
+/// assert_eq!(packed.ids, [0, 1, 0]);                 // the third set is the first again
+/// let word = packed.map[1];                          // outer x 65,536 + inner of id 1
+/// let value = ivs::read(&packed.store, word >> 16, word & 0xFFFF, 0)?;
+/// assert_eq!(value, ivs::Reading::Written(-300));
+///
+/// let refused = ivs::pack(1, 0, &job[..12 * 2]).unwrap_err();
+/// assert_eq!((refused.number, refused.name(), refused.place), (8, "UNFINISHED", 2));
+/// # Ok::<(), Box<dyn std::error::Error>>(())
+/// ```
+pub fn pack(axes: u32, mode: u32, job: &[u8]) -> Result<Packed, Refused> {
+    let mut work = vec![0; work_words(job.len() / RECORD)];
+    let mut pairs = vec![Pair::default(); PAIRS];
+    let told = forecast_with(axes, mode, job, &mut work, &mut pairs)?;
+    let sets = job.chunks_exact(RECORD).filter(|r| r[0] == 3).count();
+    let mut out = vec![0; told.store_bytes as usize];
+    let (mut ids, mut map) = (vec![0; sets], vec![0; told.distinct_ids as usize]);
+    let mut log = vec![0; 3 * told.shapes.saturating_sub(1) as usize];
+    let mut lent = Lent {
+        work: &mut work,
+        pairs: &mut pairs,
+        out: &mut out,
+        ids: &mut ids,
+        map: &mut map,
+        log: &mut log,
+    };
+    let done = build_into(axes, mode, job, &mut lent)?;
+    log.truncate(3 * done.merges as usize);
+    Ok(Packed {
+        done,
+        store: out,
+        ids,
+        map,
+        log,
+    })
+}
