@@ -21,6 +21,9 @@ places-once {base} {sets} {regions} {p} {q} a b =
     let order-same : p .order ≡ q .order = a .order-is ∙ ap₂ (λ (s r : ℕ). s + (r + 1) * regions) slots-same room-same ∙ sym (b .order-is) in
     let place-same : p .place ≡ q .place = a .place-is ∙ ap₂ (λ (s r : ℕ). s + 2 * r) order-same room-same ∙ sym (b .place-is) in
     let log-same : p .log ≡ q .log = a .log-is ∙ ap₂ (λ (s r : ℕ). s + 6 * r) place-same room-same ∙ sym (b .log-is) in
+    let counts-same : p .counts ≡ q .counts = a .counts-is ∙ ap₂ (λ (s r : ℕ). s + r) order-same room-same ∙ sym (b .counts-is) in
+    let costs-same : p .costs ≡ q .costs = a .costs-is ∙ ap₂ (λ (s r : ℕ). s + 2 * r) place-same room-same ∙ sym (b .costs-is) in
+    let columns-same : p .columns ≡ q .columns = a .columns-is ∙ ap₂ (λ (s r : ℕ). s + 3 * r) place-same room-same ∙ sym (b .columns-is) in
     λ i. record {
       sets = (a .sets-is ∙ sym (b .sets-is)) i;
       regions = (a .regions-is ∙ sym (b .regions-is)) i;
@@ -31,10 +34,14 @@ places-once {base} {sets} {regions} {p} {q} a b =
       kinds = (a .kinds-is ∙ sym (b .kinds-is)) i;
       slots = slots-same i;
       order = order-same i;
-      counts = (a .counts-is ∙ ap₂ (λ (s r : ℕ). s + r) order-same room-same ∙ sym (b .counts-is)) i;
+      counts = counts-same i;
+      homes = (a .homes-is ∙ counts-same ∙ sym (b .homes-is)) i;
       place = place-same i;
-      costs = (a .costs-is ∙ ap₂ (λ (s r : ℕ). s + 2 * r) place-same room-same ∙ sym (b .costs-is)) i;
-      columns = (a .columns-is ∙ ap₂ (λ (s r : ℕ). s + 3 * r) place-same room-same ∙ sym (b .columns-is)) i;
+      costs = costs-same i;
+      living = (a .living-is ∙ costs-same ∙ sym (b .living-is)) i;
+      columns = columns-same i;
+      spots = (a .spots-is ∙ columns-same ∙ sym (b .spots-is)) i;
+      finals = (a .finals-is ∙ columns-same ∙ sym (b .finals-is)) i;
       into = (a .into-is ∙ ap₂ (λ (s r : ℕ). s + 4 * r) place-same room-same ∙ sym (b .into-is)) i;
       log = log-same i;
       rows = (a .rows-is ∙ ap₂ (λ (s r : ℕ). s + 3 * (r - 1)) log-same room-same ∙ sym (b .rows-is)) i;
@@ -44,8 +51,8 @@ places-once {base} {sets} {regions} {p} {q} a b =
 count-is : {k : Packed} {p : Places} {e : Encoded} {w : List ℕ} → PackedAt k p e w → e .count ≡ length (k .finals)
 unfolding relabel finalsAt
 count-is {k} {p} {e} {w} h =
-    sym (length-tabulate 0 (e .count) (λ g. finalAt (p .regions) w (p .columns + 3 * g)))
-    ∙ sym (length-map (finalsAt (p .regions) (p .columns) (e .count) w) (λ (g : Final). record { shape = g .shape; ids = map (λ x. getD (k .ids) x 0) (g .ids) }))
+    sym (length-tabulate 0 (e .count) (λ g. finalAt (p .regions) w (p .finals + 3 * g)))
+    ∙ sym (length-map (finalsAt (p .regions) (p .finals) (e .count) w) (λ (g : Final). record { shape = g .shape; ids = map (λ x. getD (k .ids) x 0) (g .ids) }))
     ∙ ap (λ (l : List Final). length l) (h .finals-are)
 
 -- what two such have in common, of the same sets and the same places
@@ -53,7 +60,7 @@ pub record PackedOnce (k : Packed) (p : Places) (e e′ : Encoded) (w w′ : Lis
   pub numbers : e ≡ e′
   pub ids : seg (p .ids) (p .sets) w ≡ seg (p .ids) (p .sets) w′
   pub log : seg (p .log) (3 * e .merges) w ≡ seg (p .log) (3 * e′ .merges) w′
-  pub finals : relabel (λ x. getD (k .ids) x 0) (finalsAt (p .regions) (p .columns) (e .count) w) ≡ relabel (λ x. getD (k .ids) x 0) (finalsAt (p .regions) (p .columns) (e′ .count) w′)
+  pub finals : relabel (λ x. getD (k .ids) x 0) (finalsAt (p .regions) (p .finals) (e .count) w) ≡ relabel (λ x. getD (k .ids) x 0) (finalsAt (p .regions) (p .finals) (e′ .count) w′)
 
 pub packed-once : {k : Packed} {p : Places} {e e′ : Encoded} {w w′ : List ℕ} → PackedAt k p e w → PackedAt k p e′ w′ → PackedOnce k p e e′ w w′
 packed-once a b = record {
