@@ -8,7 +8,7 @@ use Rattle.finishing.proofs.finishing.write_out.Lts as lts
 use Rattle.writing.proofs.write_store.Reads as write-store-reads
 
 write-store-requires : tie.Need-write-store-requires
-write-store-requires c κs = let q = c .before .before .before .before .before .before .pre in (ready (q .0), (q .1 .0, q .1 .1))
+write-store-requires c κs = let q = c .before .before .before .before .before .before .before .before .pre in (ready (q .0), (q .1 .0, q .1 .1))
 
 same-length : tie.Need-same-length
 same-length c = search needs
