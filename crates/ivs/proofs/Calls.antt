@@ -28,8 +28,9 @@ use denote.Triple.Spec.{tripleOf}
 use denote.Triple.Statement.{Contract, Triple}
 use denote.Triple.Clauses.{Lasts, lasts}
 use Rattle.finishing.specs.Buffers.{buffers}
-use Rattle.packer.specs.Lending.{lending, leaves}
+use Rattle.packer.specs.Lending.{lending, leaves, noBuffers}
 use Rattle.packer.specs.Build.{Obeys}
+use Rattle.packer.specs.Foretold.{Foretells}
 use Rattle.ivs.specs.Answers.{numberOf, reportWords, filled, numberFew, byteWithin}
 use Rattle.pairs.specs.declared.Pair.{Pair}
 use Rattle.pairs.proofs.Pair as T
@@ -40,8 +41,10 @@ use Rattle.pairs.proofs.Loan.{Loan, both, Gives, gives, loan-call}
 use Rattle.pairs.proofs.Slices.{ref, Has, Sees, lent-mut, lent-see}
 use Rattle.pairs.proofs.Refs.{HasRef, at-ref, lent-ref}
 use Rattle.packer.proofs.build as build
+use Rattle.packer.proofs.forecast as forecast
 use Rattle.ivs.proofs.report.tell as tell
 use Rattle.packer.proofs.build.Symbol.{name as #packer·build}
+use Rattle.packer.proofs.forecast.Symbol.{name as #packer·forecast}
 use Rattle.ivs.proofs.report.tell.Symbol.{name as #ivs·tell}
 
 abbrev pub mach : Pair → Val
@@ -50,6 +53,9 @@ mach x = vstruct (vcons (vint w32 (x .gain)) (vcons (vint w32 (x .first)) (vcons
 module _ {M : Type 1} (𝓤 : URA M) (H : Heap 𝓤) (A : Atoms 𝓤) (mem : Memory → SProp 𝓤) (run : Routine → Fun 𝓤) where
   abbrev pub Build-of : Contract 𝓤
   Build-of = tripleOf 𝓤 H A build.signature (build.spec 𝓤 H A mem run)
+
+  abbrev pub Forecast-of : Contract 𝓤
+  Forecast-of = tripleOf 𝓤 H A forecast.signature (forecast.spec 𝓤 H A mem run)
 
   abbrev pub Tell-of : Contract 𝓤
   Tell-of = tripleOf 𝓤 H A tell.signature (tell.spec 𝓤 H A mem run)
@@ -196,6 +202,90 @@ module _ {M : Type 1} (𝓤 : URA M) (H : Heap 𝓤) (A : Atoms 𝓤) (W : Given
         fjoin ! $
         move ! (2 ∷ 0 ∷ []) $
         fjoin ! $
+        move ! (2 ∷ 0 ∷ []) $
+        fjoin ! $
+        move ! (2 ∷ 0 ∷ []) $
+        fjoin ! $
+        move ! (2 ∷ 0 ∷ []) $
+        fjoin ! $
+        owned ! u32 (Is u32) (uint-makes 𝓤 H A W w32) mode _ (refl, g-mode) $
+        fjoin ! $
+        owned ! u32 (Is u32) (uint-makes 𝓤 H A W w32) axes _ (refl, g-axes) $
+        fjoin ! $
+        move ! (1 ∷ 0 ∷ []) $
+        join ! $
+        frame ! $
+        done !)
+
+  module _ (C : Calls 𝓤 H) (fm : FmC 𝓤 H (W .laws) C) (known : Triple 𝓤 (C #packer·forecast) (Forecast-of 𝓤 H A mem run)) (κ : Lft) (θ : Share) (γ : GName) (β ι : ℕ) (ν : ℕ) (job : List ℕ) (κ₂ : Lft) (θ₂ : Share) (γ₂ : GName) (β₂ ι₂ : ℕ) (ν₂ : ℕ) (work : List ℕ) (κ₃ : Lft) (θ₃ : Share) (γ₃ : GName) (β₃ ι₃ : ℕ) (ν₃ : ℕ) (pairs : List Pair) (axes : ℕ) (mode : ℕ) where
+    abbrev Loan-forecast-see-mut-mut : (long₂ : length work ≡ ν₂) (long₃ : length pairs ≡ ν₃) (sized₂ : Room u32 ν₂) (sized₃ : Room T.the-row ν₃) → Loan 𝓤 H A
+    Loan-forecast-see-mut-mut long₂ long₃ sized₂ sized₃ = both 𝓤 H A W (lent-see u8 κ θ γ β ι 𝓤 H A W job ν) (both 𝓤 H A W (lent-mut u32 κ₂ θ₂ γ₂ β₂ ι₂ 𝓤 H A W work ν₂ long₂ sized₂) (lent-mut T.the-row κ₃ θ₃ γ₃ β₃ ι₃ 𝓤 H A W pairs ν₃ long₃ sized₃))
+
+    abbrev pub After-forecast-see-mut-mut : Val → Item 𝓤
+    After-forecast-see-mut-mut w = later (some (λ (r : Built). some (λ (x : Unit {0} × (List ℕ × List Pair)). given ((Unit {0} × ((length (x .1 .0) ≡ ν₂) × (length (x .1 .1) ≡ ν₃))) × (Foretells (lending axes mode job work pairs noBuffers) r (x .1 .0) (x .1 .1))) ((Sees u8 κ θ γ β ι 𝓤 ν job ⊛ (Has u32 κ₂ θ₂ γ₂ β₂ ι₂ 𝓤 ν₂ (x .1 .0) ⊛ Has T.the-row κ₃ θ₃ γ₃ β₃ ι₃ 𝓤 ν₃ (x .1 .1))) ⊛ ‵ (D.the-row .own r (w ∷ []))))))
+
+    abbrev at-forecast-see-mut-mut : (g : Unit {0} × ((ℕ × GName) × (ℕ × GName))) → Forecast-of 𝓤 H A mem run .Ghost
+    at-forecast-see-mut-mut g = (((κ, (g .1 .0 .0 ∷ [], (g .1 .1 .0 ∷ [], tt))), (θ, (fullShare, (fullShare, tt))), tt, (axes, (mode, (ref u8 κ θ γ β ι γ job, (ref u32 κ₂ θ₂ γ₂ β₂ ι₂ (g .1 .0 .1) work, (ref T.the-row κ₃ θ₃ γ₃ β₃ ι₃ (g .1 .1 .1) pairs, tt))))), (vint w32 axes ∷ [], (vint w32 mode ∷ [], (sliceVal (β, ι) ν ∷ [], (sliceVal (β₂, ι₂) ν₂ ∷ [], (sliceVal (β₃, ι₃) ν₃ ∷ [], tt)))))), tt)
+
+    leaves-forecast-see-mut-mut : (long₂ : length work ≡ ν₂) (long₃ : length pairs ≡ ν₃) (sized₂ : Room u32 ν₂) (sized₃ : Room T.the-row ν₃) → (g : Unit {0} × ((ℕ × GName) × (ℕ × GName))) → (w : Val) → ent 𝓤 (Forecast-of 𝓤 H A mem run .post (at-forecast-see-mut-mut g) w) (mean 𝓤 H A (Gives 𝓤 H A W (Loan-forecast-see-mut-mut long₂ long₃ sized₂ sized₃) D.the-row (λ x r. Foretells (lending axes mode job work pairs noBuffers) r (x .1 .0) (x .1 .1)) g w))
+    leaves-forecast-see-mut-mut long₂ long₃ sized₂ sized₃ g w =
+        qed W (later (some (λ (r : Built). ((‵ (flft (κ) θ) ⊛ ‵ (flft (g .1 .0 .0 ∷ []) fullShare) ⊛ ‵ (flft (g .1 .1 .0 ∷ []) fullShare) ⊛ ‵ ftrue) ⊛ ‵ (D.the-row .own r (w ∷ [])))
+        ⊛ some (λ (ws : Lasts forecast.ended (κ, (g .1 .0 .0 ∷ [], (g .1 .1 .0 ∷ [], tt))) (at-forecast-see-mut-mut g .0 .3)). ‵ (lasts forecast.ended (κ, (g .1 .0 .0 ∷ [], (g .1 .1 .0 ∷ [], tt))) (at-forecast-see-mut-mut g .0 .3) ws) ⊛ raw (fact 𝓤 (Foretells (lending axes mode job work pairs noBuffers) r (ws .1 .1 .1 .0) (ws .1 .1 .1 .1 .0)))))) ∷ []) ∵
+        updating ! $ await ! tt $ pick ! (λ r. split ! $ move ! (1 ∷ []) $ pick ! (λ ws. split ! $
+        move ! (1 ∷ []) $
+        heard ! (Foretells (lending axes mode job work pairs noBuffers) r (ws .1 .1 .1 .0) (ws .1 .1 .1 .1 .0)) (λ e.
+        fsplit ! $
+        move ! (1 ∷ []) $
+        fsplit ! $
+        move ! (1 ∷ []) $
+        fsplit ! $
+        move ! (1 ∷ []) $
+        fsplit ! $
+        fsplit ! $
+        move ! (1 ∷ []) $
+        feqL ! (λ l₁.
+        move ! (1 ∷ []) $
+        fsplit ! $
+        fsplit ! $
+        move ! (1 ∷ []) $
+        feqL ! (λ l₂.
+        move ! (6 ∷ []) $
+        split ! $
+        split ! $
+        move ! (1 ∷ []) $
+        split ! $
+        move ! (1 ∷ []) $
+        split ! $
+        at-once ! $
+        move ! (2 ∷ 7 ∷ []) $
+        join ! $
+        move ! (1 ∷ 5 ∷ []) $
+        join ! $
+        move ! (1 ∷ 0 ∷ []) $
+        join ! $
+        move ! (2 ∷ 0 ∷ []) $
+        join ! $
+        keep ! (0 ∷ 2 ∷ []) $ by ! (gives 𝓤 H A W (Loan-forecast-see-mut-mut long₂ long₃ sized₂ sized₃) D.the-row (λ x r. Foretells (lending axes mode job work pairs noBuffers) r (x .1 .0) (x .1 .1)) g w r ((tt, (ws .1 .1 .1 .0, ws .1 .1 .1 .1 .0))) ((tt, (l₁ ∙ long₂, l₂ ∙ long₃)), e)))))))
+
+    pub forecast-see-mut-mut : (long₂ : length work ≡ ν₂) (long₃ : length pairs ≡ ν₃) (sized₂ : Room u32 ν₂) (sized₃ : Room T.the-row ν₃) → axes < 2 ^ 32 → mode < 2 ^ 32 → ent 𝓤 (mean 𝓤 H A (Loan-forecast-see-mut-mut long₂ long₃ sized₂ sized₃ .held)) (H .⇛ (C #packer·forecast (vint w32 axes ∷ vint w32 mode ∷ sliceVal (β, ι) ν ∷ sliceVal (β₂, ι₂) ν₂ ∷ sliceVal (β₃, ι₃) ν₃ ∷ []) (λ w. mean 𝓤 H A (After-forecast-see-mut-mut w))))
+    forecast-see-mut-mut long₂ long₃ sized₂ sized₃ g-axes g-mode = loan-call 𝓤 H A W (Loan-forecast-see-mut-mut long₂ long₃ sized₂ sized₃) D.the-row (λ x r. Foretells (lending axes mode job work pairs noBuffers) r (x .1 .0) (x .1 .1)) C fm #packer·forecast (vint w32 axes ∷ vint w32 mode ∷ sliceVal (β, ι) ν ∷ sliceVal (β₂, ι₂) ν₂ ∷ sliceVal (β₃, ι₃) ν₃ ∷ []) (λ g.
+        qed W (Loan-forecast-see-mut-mut long₂ long₃ sized₂ sized₃ .goes g ∷ []) ∵
+        suffices ! (C #packer·forecast (vint w32 axes ∷ vint w32 mode ∷ sliceVal (β, ι) ν ∷ sliceVal (β₂, ι₂) ν₂ ∷ sliceVal (β₃, ι₃) ν₃ ∷ []) (Forecast-of 𝓤 H A mem run .post (at-forecast-see-mut-mut g))) (fm→monoC 𝓤 H (W .laws) C fm #packer·forecast (vint w32 axes ∷ vint w32 mode ∷ sliceVal (β, ι) ν ∷ sliceVal (β₂, ι₂) ν₂ ∷ sliceVal (β₃, ι₃) ν₃ ∷ []) (Forecast-of 𝓤 H A mem run .post (at-forecast-see-mut-mut g)) _ (leaves-forecast-see-mut-mut long₂ long₃ sized₂ sized₃ g)) $
+        suffices ! (Forecast-of 𝓤 H A mem run .pre (at-forecast-see-mut-mut g)) (known (at-forecast-see-mut-mut g)) $ split ! $
+        split ! $
+        move ! (2 ∷ []) $
+        split ! $
+        split ! $
+        move ! (2 ∷ []) $
+        split ! $
+        nothing ! $
+        move ! (1 ∷ 0 ∷ []) $
+        join ! $
+        move ! (2 ∷ 0 ∷ []) $
+        join ! $
+        move ! (3 ∷ 0 ∷ []) $
+        join ! $
+        nothing ! $
         move ! (2 ∷ 0 ∷ []) $
         fjoin ! $
         move ! (2 ∷ 0 ∷ []) $

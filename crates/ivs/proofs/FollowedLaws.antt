@@ -30,8 +30,8 @@ module _ (c : Lending) (work : List ℕ) (pairs : List Pair) (lent : Buffers) (m
   abbrev d : Lending
   d = building c work pairs lent
 
-  follows : (b : Built) → foretold c ≡ b → {number number′ : ℕ} {report report′ : List ℕ} → number ≡ numberOf b → report ≡ reportWords b
-      → number′ ≡ numberOf (answerOf (building c work pairs lent)) → report′ ≡ reportWords (answerOf (building c work pairs lent))
+  follows : (b : Built) → foretold c ≡ b → {number number′ : ℕ} {report report′ : List ℕ} → number ≡ numberOf b → report ≡ reportWords (c .job) b
+      → number′ ≡ numberOf (answerOf (building c work pairs lent)) → report′ ≡ reportWords (c .job) (answerOf (building c work pairs lent))
       → Followed (c .job) lent number report number′ report′
   unfolding numberOf reportWords
   follows (built.Refused n p) e {number} {number′} {report} {report′} f g h i =
@@ -39,12 +39,12 @@ module _ (c : Lending) (work : List ℕ) (pairs : List Pair) (lent : Buffers) (m
       let low = numbers d n p a .0 in
       record {
         done = λ z room. absurd (omega arith);
-        refused-alike = λ z. (h ∙ ap numberOf a ∙ sym f, i ∙ ap reportWords a ∙ sym g);
+        refused-alike = λ z. (h ∙ ap numberOf a ∙ sym f, i ∙ ap (reportWords (c .job)) a ∙ sym g);
       }
   follows (built.Done r) e {number} {number′} {report} {report′} f g h i = record {
     done = λ z room.
         let a : answerOf d ≡ Done r = foretold-law c .builds r e work pairs lent m (room-of (c .job) r report lent g room) in
-        (h ∙ ap numberOf a, i ∙ ap reportWords a ∙ sym g);
+        (h ∙ ap numberOf a, i ∙ ap (reportWords (c .job)) a ∙ sym g);
     refused-alike = λ z. absurd (z f);
   }
 
@@ -56,5 +56,5 @@ module _ (c : Lending) (work : List ℕ) (pairs : List Pair) (lent : Buffers) (m
       let r = reported u long′ in
       follows (foretold c) refl
       (t .number-is ∙ ap numberOf (t .foretells .answer))
-      (t .report-is ∙ sixteen (t .answer) old long ∙ ap reportWords (t .foretells .answer))
+      (t .report-is ∙ sixteen (c .job) (t .answer) old long ∙ ap (reportWords (c .job)) (t .foretells .answer))
       (r .number-is) (r .report-is)

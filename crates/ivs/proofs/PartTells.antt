@@ -1,5 +1,5 @@
 -- Where two sets part, taken apart into numbers. Assumes nothing.
-use mathlib.Core.Path.{_≡_, refl, sym, subst}
+use mathlib.Core.Path.{_≡_, refl, sym, subst, ap, _∙_}
 use mathlib.Core.Bool.{Bool, true, false, _&&_}
 use mathlib.Core.List.{List, [], _∷_}
 use Prim.Native.Nat.{ℕ, zero, suc, _+_, _-_, _≤_, _<_}
@@ -20,7 +20,8 @@ use Rattle.parting.specs.declared.answering.Parted.the-variants.{Refused, Equal
 use Rattle.parting.specs.Part.{named, partedIn, partedOf, partOf}
 use Rattle.ivs.specs.Answers.{refusedWords, filled}
 use Rattle.ivs.specs.PartWords.{partNumber, longValue, standingWords, partWords, partFew, partWithin}
-use Rattle.ivs.proofs.OutcomeRows.{early-few, walk-no, stops-only}
+use Rattle.refusing.proofs.WalkEnds.{walk-no, stops-only}
+use Rattle.ivs.proofs.OutcomeRows.{early-few}
 
 -- ---- refusal numbers are small
 
@@ -30,7 +31,7 @@ module _ (axes : ℕ) (job : List ℕ) (work : ℕ) where
   outcome-few n i e = go (earlyNo axes 0 (length job) work pairRecords) (early-few axes 0 (length job) work pairRecords) e
     where
       go : (k : ℕ) → k ≤ 4 → outcomeFrom k (recordsFrom axes 0 job job (recordCount job) 0 inAxes) ≡ refused n i → n < 4294967296
-      go zero h f = unfold outcomeFrom in omega (arith, walk-no axes 0 job (recordCount job) n i f .1)
+      go zero h f = unfold outcomeFrom in omega (arith, walk-no axes 0 job (recordCount job) n i f .high)
       go (suc k) h f = unfold outcomeFrom in (let z : suc k ≡ n = cc in omega arith)
 
   -- the byte that a refusal names is one of the job's
@@ -123,7 +124,7 @@ module _ (job w old : List ℕ) where
     told-more e h = rw e (refl, rw (i, j) at h)
 
 -- computed: larger at index 1, which region 3 of the job used first, by 7 and -5
-worked : partWords (Larger 1 3 (zeroWord + 7) (zeroWord - 5))
+worked : partWords [] (Larger 1 3 (zeroWord + 7) (zeroWord - 5))
     ≡ 0 ∷ 0 ∷ 2 ∷ 1 ∷ 3 ∷ 7 ∷ 0xFFFF_FFFF_FFFF_FFFB ∷ 0 ∷ 0 ∷ 0 ∷ 0 ∷ 0 ∷ 0 ∷ 0 ∷ 0 ∷ 0 ∷ []
 unfolding partWords standingWords longValue twos value
 worked = refl
