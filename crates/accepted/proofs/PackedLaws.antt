@@ -28,7 +28,7 @@ use Rattle.shapes.specs.declared.width.ColumnBits.the-variants.{None, One, Two,
 use Rattle.shapes.specs.Width.{widthOf, costOf}
 use Rattle.shapes.specs.Shape.{Shape, join}
 use Rattle.shapes.specs.Group.{Group}
-use Rattle.shapes.proofs.WidthLaws.{word-none, cost-most}
+use Rattle.shapes.proofs.WidthLaws.{none-cost, cost-most}
 use Rattle.shapes.proofs.ShapeLaws.{join-at}
 use Rattle.sets.specs.Set.{Set, Proper, wordOf}
 use Rattle.sets.specs.Ids.{distinct}
@@ -118,17 +118,13 @@ shape-widths regions s = record {
       (lt-or-ge r regions);
 }
 
-cost-zero : (w : ℕ) → w ≡ zeroWord → costOf (widthOf (value w)) ≡ 0
-unfolding costOf
-cost-zero w e = ap costOf (word-none w e)
-
 -- a shape that is as wide as the set's covers it
 covers-of : (regions : ℕ) (s : Set) (t : Shape) → Proper regions s → Words s → ((r : ℕ) → getD (shapeOf regions s) r 0 ≤ getD t r 0) → Covers t s
 covers-of regions s t p low h = record {
   word = λ r. rw (word-same s r) (word-low s r low);
   holds = λ r. rw (word-same s r) (⊎-elim
       (λ (l : r < regions). omega (arith, shape-at regions s r l, h r))
-      (λ l. omega (arith, cost-zero (wordOf s r) (word-past regions r s p l)))
+      (λ l. omega (arith, none-cost (wordOf s r) (word-past regions r s p l)))
       (lt-or-ge r regions));
 }
 

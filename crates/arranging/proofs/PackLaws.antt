@@ -8,6 +8,7 @@ use borrow.Author.Tests.{eq-eqb, ne-eqb}
 use lib.ListN.{length, getD}
 use Rattle.laws.specs.LentRange.{Only}
 use Rattle.laws.proofs.Cases.{same-or-not}
+use Rattle.laws.proofs.ListLaws.{none-long}
 use Rattle.laws.proofs.EveryLaws.{all-getD}
 use Rattle.laws.proofs.UpLaws.{up-at}
 use Rattle.laws.proofs.RangeLaws.{getD-seg}
@@ -119,14 +120,10 @@ module _ {axes starts : ℕ} {job w : List ℕ} {p : Places} {s : Said} (c : Col
   pub none-own : (mode : ℕ) → (mode ≡ 0 → ⊥) → p .sets ≡ 0 → (packedOf mode s ≡ own 0 []) × (coordsInUse s ≡ [])
   none-own mode z n =
       let long : length (s .sets) ≡ 0 = ap length (sym (c .sets-are)) ∙ sets-length 0 (p .sets) w ∙ n in
-      let none : s .sets ≡ [] = empty (s .sets) long in
-      let idle : s .used ≡ [] = empty (s .used) (c .no-use long) in
+      let none : s .sets ≡ [] = none-long (s .sets) long in
+      let idle : s .used ≡ [] = none-long (s .used) (c .no-use long) in
       (own-none none idle, coords-none idle)
     where
-      empty : {A : Type 0} (l : List A) → length l ≡ 0 → l ≡ []
-      empty [] e = refl
-      empty (x ∷ l) e = absurd (omega arith)
-
       coords-none : s .used ≡ [] → coordsInUse s ≡ []
       coords-none e = unfold coordsInUse in rw e
 

@@ -10,6 +10,7 @@ use Rattle.laws.specs.Bounded.{upTo}
 use Rattle.laws.specs.LentRange.{Only, seg}
 use Rattle.laws.specs.Sorting.{sorted, keep}
 use Rattle.laws.proofs.Cases.{lt-or-ge}
+use Rattle.laws.proofs.ListLaws.{none-long}
 use Rattle.laws.proofs.RangeLaws.{apart-part, only-trans, only-weaken, seg-ext}
 use Rattle.laws.proofs.EveryLaws.{all-imp}
 use Rattle.laws.proofs.SortLaws.{sorted-all, keep-same}
@@ -36,14 +37,10 @@ use Rattle.encoder.proofs.PlacesLaws.{room-none, room-some}
 
 -- ---- where no region is in use there is one shape
 
-empty : (s : List ℕ) → length s ≡ 0 → s ≡ []
-empty [] e = refl
-empty (x ∷ s) e = absurd (omega arith)
-
 one-at-most : (gs : List Group) → All (Long 0) gs → EachTwo (λ g h. g .shape ≡ h .shape → ⊥) gs → length gs ≤ 1
 one-at-most [] l b = omega arith
 one-at-most (g ∷ []) l b = omega arith
-one-at-most (g ∷ h ∷ gs) l b = absurd (b .0 .0 (empty (g .shape) (l .0) ∙ sym (empty (h .shape) (l .1 .0))))
+one-at-most (g ∷ h ∷ gs) l b = absurd (b .0 .0 (none-long (g .shape) (l .0) ∙ sym (none-long (h .shape) (l .1 .0))))
 
 groups-one : (regions : ℕ) (sets : List Set) → regions ≡ 0 → length (groupsOf regions sets) ≤ 1
 groups-one regions sets z =

@@ -26,6 +26,7 @@ use Rattle.ids.specs.LentScreened.{isKept, Screened}
 use Rattle.sets.proofs.IdLaws.{place-first, place-here}
 use Rattle.sets.proofs.HeldLaws.{Kept, kept-only, kept-trans, held-kept, held-ready, set-same, sets-same, most-same, sets-length, sets-at}
 use Rattle.ids.proofs.FirstLaws.{up-two, le-trans, le-total, line-has, line-length}
+use Rattle.ids.proofs.ScreenLaws.{is-kept}
 
 -- ---- lists
 
@@ -47,10 +48,6 @@ keep-none p (x ∷ l) h = keep-out p x l (h .0) ∙ keep-none p l (h .1)
 kept-is : (first : ℕ) (w : List ℕ) (k : ℕ) → isKept first w k ≡ true → getD w (first + k) 0 ≡ k
 unfolding isKept
 kept-is first w k e = eqb-true (getD w (first + k) 0) k e
-
-kept-if : (first : ℕ) (w : List ℕ) (k : ℕ) → getD w (first + k) 0 ≡ k → isKept first w k ≡ true
-unfolding isKept
-kept-if first w k e = eq-eqb (getD w (first + k) 0) k e
 
 module _ {w₀ : List ℕ} {index n at first ids : ℕ} (r : IdsFit w₀ index n at first ids) where
   abbrev sets : List Set
@@ -136,7 +133,7 @@ module _ {w₀ : List ℕ} {index n at first ids : ℕ} (r : IdsFit w₀ index n
         firsts-in = λ f h e. ⊎-elim
             (λ (k : getD w₁ (first + f) 0 ≡ f).
             let b : f < length (upTo n) = omega (arith, up-long n) in
-            let q = keep-has (isKept first w₁) (upTo n) f b (rw (up-at n f h) (kept-if first w₁ f k)) in
+            let q = keep-has (isKept first w₁) (upTo n) f b (rw (up-at n f h) (is-kept first w₁ f k)) in
             (q .0, q .1, q .2 ∙ up-at n f h))
             (λ d. let t = not-first f h d in absurd (omega (arith, first-same f h)))
             (same-or-not (getD w₁ (first + f) 0) f);
@@ -153,7 +150,7 @@ module _ {w₀ : List ℕ} {index n at first ids : ℕ} (r : IdsFit w₀ index n
       stands : (x : ℕ) → x < n → getD w₁ (first + x) 0 ≡ x → (p : ℕ) × (p < m) × (getD w₂ (at + p) 0 ≡ x)
       stands x h k =
           let b : x < length (upTo n) = omega (arith, up-long n) in
-          let q = keep-has (isKept first w₁) (upTo n) x b (rw (up-at n x h) (kept-if first w₁ x k)) in
+          let q = keep-has (isKept first w₁) (upTo n) x b (rw (up-at n x h) (is-kept first w₁ x k)) in
           let p = line-has (r .held) some low rising (q .0) (q .1) in
           let g : p .0 < m = omega (arith, p .1, many) in
           (p .0, g, sym (getD-seg at m w₂ (p .0) g) ∙ ap (λ (l : List ℕ). getD l (p .0) 0) line₀ ∙ p .2 ∙ q .2 ∙ up-at n x h)
@@ -231,7 +228,7 @@ module _ {w₀ : List ℕ} {index n at first ids : ℕ} (r : IdsFit w₀ index n
           -- every first is among those that are sorted
           kept-first : (x : ℕ) → x < n → (isKept first w₁ x && isFirst index n w₀ x) ≡ isFirst index n w₀ x
           kept-first x h = ⊎-elim
-              (λ (k : getD w₁ (first + x) 0 ≡ x). rw (kept-if first w₁ x k) refl)
+              (λ (k : getD w₁ (first + x) 0 ≡ x). rw (is-kept first w₁ x k) refl)
               (λ d. rw (no-first x (not-first x h d)) (none (isKept first w₁ x)))
               (same-or-not (getD w₁ (first + x) 0) x)
             where

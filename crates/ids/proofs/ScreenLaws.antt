@@ -32,7 +32,7 @@ kept-same : (first : ℕ) (u w : List ℕ) (n : ℕ) → ((k : ℕ) → k < n �
 unfolding isKept
 kept-same first u w n h = keep-same (isKept first w) (isKept first u) (upTo n) (all-imp (λ k l. ap (λ (v : ℕ). eqb v k) (h k l)) (upTo n) (up-all n))
 
-is-kept : (first : ℕ) (w : List ℕ) (k : ℕ) → getD w (first + k) 0 ≡ k → isKept first w k ≡ true
+pub is-kept : (first : ℕ) (w : List ℕ) (k : ℕ) → getD w (first + k) 0 ≡ k → isKept first w k ≡ true
 unfolding isKept
 is-kept first w k e = eq-eqb (getD w (first + k) 0) k e
 

@@ -2,6 +2,7 @@
 use crate::byte_wide;
 use crate::nth::Kind;
 use crate::region_of;
+use crate::two_bytes;
 use said::Refusal;
 ghost use mathlib.Core.Path.{_≡_};
 ghost use mathlib.Core.Bool.{true};
@@ -10,7 +11,7 @@ ghost use Prim.Native.Nat.{ℕ, _%_, _<_, _≤_};
 ghost use lib.ListN.{length};
 ghost use Rattle.said.specs.Records.{recordBytes, isKnown, firstNotZero, wrongByte};
 ghost use Rattle.said.specs.Refusals.{inTurn, formNo};
-ghost use Rattle.records.specs.Lent.{between};
+ghost use Rattle.records.specs.Lent.{between, valueRest, endRest};
 
 // The first byte from `from` up to `to` that is not 0; 0 where all are.
 fn not_zero(rec: &[u8], from: usize, to: usize) -> usize
@@ -39,6 +40,26 @@ fn not_zero_in(rec: &[u8], from: usize, to: usize, then: usize, end: usize) -> u
     not_zero(rec, then, end)
 }
 
+// What the bytes that must be 0 add up to, two by two: whether all are is told at once, and nearly always they are.
+fn value_rest(rec: &[u8]) -> u32
+    requires { ⌜ recordBytes ≤ length (now rec) ⌝ }
+    ensures { λ r. ⌜ r ≡ valueRest (now (rec .entry)) ⌝ }
+{
+    two_bytes(rec, 2) + two_bytes(rec, 8) + two_bytes(rec, 10)
+}
+
+fn end_rest(rec: &[u8]) -> u32
+    requires { ⌜ recordBytes ≤ length (now rec) ⌝ }
+    ensures { λ r. ⌜ r ≡ endRest (now (rec .entry)) ⌝ }
+{
+    two_bytes(rec, 1)
+        + two_bytes(rec, 3)
+        + two_bytes(rec, 5)
+        + two_bytes(rec, 7)
+        + two_bytes(rec, 9)
+        + two_bytes(rec, 10)
+}
+
 // The first byte that must be 0 and is not; 0 where all are.
 pub fn wrong_byte(rec: &[u8]) -> usize
     requires { ⌜ recordBytes ≤ length (now rec) ⌝ }
@@ -46,9 +67,15 @@ pub fn wrong_byte(rec: &[u8]) -> usize
 {
     let kind = rec[0];
     if kind == Kind::VALUE {
+        if value_rest(rec) == 0 {
+            return 0;
+        }
         return not_zero_in(rec, 2, 4, 8, 12);
     }
     if kind == Kind::END {
+        if end_rest(rec) == 0 {
+            return 0;
+        }
         return not_zero(rec, 1, 12);
     }
     if kind == Kind::AXIS {

@@ -87,10 +87,6 @@ pub and-second : (a b : Bool) → b ≡ false → a && b ≡ false
 and-second true b e = e
 and-second false b e = refl
 
-pub or-neither : (a b : Bool) → a || b ≡ false → (a ≡ false) × (b ≡ false)
-or-neither true b e = absurd (true-false refl e)
-or-neither false b e = (refl, e)
-
 -- a test that asks something of some records alone
 pub asked-fails : (a b : Bool) → not a || b ≡ false → (a ≡ true) × (b ≡ false)
 asked-fails true b e = (refl, e)

@@ -8,7 +8,7 @@ use native.Mathlib.Omega.{arith}
 use lib.ListN.{length}
 use lib.Dec.{eqb, ltb}
 use borrow.Author.Tests.{eq-eqb, ne-eqb, eqb-true, eqb-false, ltb-true, ltb-false, lt-ltb, le-ltb, not-false}
-use Rattle.laws.proofs.Cases.{and-true, same-or-not, true-false}
+use Rattle.laws.proofs.Cases.{and-true, or-neither, same-or-not, true-false}
 use Rattle.said.specs.Records.{kind, isAxis, isKnown, mustBeZero, wrongByte, regionOf, axisOf}
 use Rattle.said.specs.Refusals.{firstFailed, inTurn, formNo, valueNo, endNo}
 use Rattle.said.specs.Sets.{firstLike, has}
@@ -16,7 +16,7 @@ use Rattle.said.specs.Job.{Said}
 use Rattle.said.proofs.RecordLaws.{form-unknown, form-zero, form-turn, form-late, form-part, form-set, form-passed}
 use Rattle.refusing.specs.Exactly.{Exactly}
 use Rattle.refusing.specs.Counts.{AllZero, UnknownKind, NotZeroAt}
-use Rattle.refusing.proofs.FailedLaws.{Tests, this, failed, other, later, passed, and-both, or-neither, asked-fails, asked-holds}
+use Rattle.refusing.proofs.FailedLaws.{Tests, this, failed, other, later, passed, and-both, asked-fails, asked-holds}
 use Rattle.refusing.proofs.StepLaws.{valueTold, endTold}
 use Rattle.refusing.proofs.ZeroLaws.{zeros-all, all-zeros, zeros-not, not-zeros}
 

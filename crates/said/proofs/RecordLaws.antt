@@ -7,7 +7,7 @@ use native.Mathlib.Nat.{add-zero}
 use native.Mathlib.Omega.{arith}
 use lib.ListN.{getD}
 use lib.Dec.{eqb, ltb}
-use borrow.Author.Tests.{eq-eqb, ne-eqb, lt-ltb, le-ltb, eqb-true}
+use borrow.Author.Tests.{eq-eqb, ne-eqb, lt-ltb, le-ltb, eqb-true, not-true}
 use Rattle.laws.specs.Bytes.{be}
 use Rattle.laws.specs.Signed.{word, signed, zeroWord}
 use Rattle.laws.proofs.Cases.{and-true, true-false}
@@ -97,10 +97,6 @@ passed-else : (a b : Bool) → (a || b) ≡ true → a ≡ false → b ≡ true
 passed-else false b h e = h
 passed-else true b h e = absurd (true-false h e)
 
-not-then : (b : Bool) → not b ≡ true → b ≡ false
-not-then true h = sym h
-not-then false h = refl
-
 pub form-passed : (axes before : ℕ) (late : Bool) (r : List ℕ) → formNo axes before late r ≡ 0 → Formed axes before late r
 unfolding formNo inTurn
 form-passed axes before late r e =
@@ -121,7 +117,7 @@ form-passed axes before late r e =
       zeros = eqb-true (wrongByte r) 0 (b .0);
       region-next = λ x. eqb-true (regionOf r) (before / axes) (both x .0);
       axis-next = λ x. eqb-true (axisOf r) (before % axes) (both x .1);
-      early = λ x. not-then late (passed-then (isAxis r) (not late) (d .0) x);
+      early = λ x. not-true late (passed-then (isAxis r) (not late) (d .0) x);
       whole = λ x. eqb-true (before % axes) 0 (passed-else (isAxis r) (eqb (before % axes) 0) (f .0) x);
     }
 

@@ -17,7 +17,7 @@ use Rattle.laws.proofs.Cases.{and-true, lt-or-ge}
 use Rattle.laws.proofs.BoundedLaws.{length-tabulate, getD-tabulate}
 use Rattle.laws.proofs.RangeLaws.{only-refl, only-trans, only-set, length-seg, getD-seg}
 use Rattle.shapes.specs.Width.{widthOf, costOf}
-use Rattle.shapes.proofs.WidthLaws.{word-none}
+use Rattle.shapes.proofs.WidthLaws.{none-cost}
 use Rattle.sets.specs.Set.{Set, wordOf, Ascending}
 use Rattle.groups.specs.Groups.{shapeOf}
 use Rattle.sets.specs.Lent.{entries, entriesAt, countOf, setOf, Stored}
@@ -28,10 +28,6 @@ use Rattle.sets.proofs.SetLaws.{entries-cons, entries-none, word-head, word-tai
 -- the cost of the width of region k's value
 abbrev widthIn : Set → ℕ → ℕ
 widthIn s k = costOf (widthOf (value (wordOf s k)))
-
-none-cost : (w : ℕ) → w ≡ zeroWord → costOf (widthOf (value w)) ≡ 0
-unfolding costOf
-none-cost w e = rw (word-none w e)
 
 -- regions below k are done; the entries from the j-th on are the ones that name regions from k on
 pub record Shaping (from m at regions : ℕ) (old new : List ℕ) (j k : ℕ) : Type 0 where

@@ -12,7 +12,7 @@ use Rattle.shapes.proofs.Unique.{measured-once}
 use Rattle.slots.specs.declared.tables.MergeTables.{MergeTables}
 use Rattle.slots.specs.Lent.{shapeIn, groupIn, Sound, MeasuredIn, MeasuredAll, JoinedIn}
 use Rattle.slots.proofs.TableLaws.{slot-end}
-use Rattle.slots.proofs.SlotLaws.{shape-kept, shape-is}
+use Rattle.slots.proofs.SlotLaws.{shape-kept, shape-is, sets-is}
 
 pub measured-in-once : {t : MergeTables} {s : ℕ} {old u v : List ℕ} → MeasuredIn t s old u → MeasuredIn t s old v → u ≡ v
 measured-in-once {t} {s} {old} {u} {v} p q =
@@ -22,10 +22,6 @@ measured-in-once {t} {s} {old} {u} {v} p q =
 shape-seg : (t : MergeTables) (u v : List ℕ) (s : ℕ) → shapeIn t v s ≡ shapeIn t u s → seg (t .slots + s * t .regions) (t .regions) v ≡ seg (t .slots + s * t .regions) (t .regions) u
 unfolding shapeIn
 shape-seg t u v s e = e
-
-sets-is : (t : MergeTables) (w : List ℕ) (s : ℕ) → groupIn t w s .sets ≡ getD w (t .counts + s) 0
-unfolding groupIn
-sets-is t w s = refl
 
 -- slots of one shape have one cost
 costs-once : (t : MergeTables) (u v : List ℕ) (s : ℕ) → Sound t u → Sound t v → s < t .groups → shapeIn t v s ≡ shapeIn t u s

@@ -6,7 +6,7 @@ use mathlib.Core.Logic.{⊎-elim}
 use Prim.Native.Nat.{ℕ, zero, suc, _+_, _≤_, _<_}
 use native.Mathlib.Omega.{arith}
 use lib.Dec.{ltb}
-use borrow.Author.Tests.{eq-eqb, ne-eqb, ltb-true}
+use borrow.Author.Tests.{eq-eqb, ne-eqb, ltb-true, not-true}
 use Rattle.laws.proofs.Cases.{Which, which, same-or-not}
 use Rattle.laws.proofs.Cases.Which.{holds, fails}
 use Rattle.said.specs.Records.{kind, regionOf, recordAt}
@@ -24,10 +24,6 @@ use-kept l q p h = go (which (has q l))
     go (fails e) = (rw (with-new l q e, has-snoc p q l, h), rw (with-new l q e) (index-snoc-old p q l h))
 
 -- ---- records
-
-not-true : (b : Bool) → not b ≡ true → b ≡ false
-not-true true h = let z : _≡_ {A = ℕ} 0 1 = cc in absurd (omega arith)
-not-true false h = refl
 
 -- a value record that passes names a region that there is, and that its set has not named
 pub value-fine : (r : List ℕ) (regions : ℕ) (named : Bool) → valueNo r regions named ≡ 0 → (regionOf r < regions) × (named ≡ false)

@@ -16,7 +16,7 @@ use Rattle.laws.specs.Sorting.{sorted}
 use Rattle.laws.proofs.Cases.{Which, which, Tri, tri}
 use Rattle.laws.proofs.Cases.Which.{holds, fails}
 use Rattle.laws.proofs.Cases.Tri.{below, same, above}
-use Rattle.laws.proofs.EveryLaws.{all-imp, all-and, all-intro, two-imp, two-end, two-getD}
+use Rattle.laws.proofs.EveryLaws.{all-imp, all-and, all-intro, members, two-imp, two-end, two-getD}
 use Rattle.laws.proofs.SortLaws.{sorts, sorted-all, sorted-two}
 use Rattle.sets.specs.Set.{Set, Ascending, Proper}
 use Rattle.sets.specs.Order.{order}
@@ -35,9 +35,6 @@ module _ {A : Type 0} where
       (λ (e : x ≡ y). subst P (sym e) (h .0))
       (λ t. all-mem P l x (h .1) t)
       (List·Memᴰ·cases-cons m)
-
-  all-members : (l : List A) (d : A) → All (λ x. List·Memᴰ x l) l
-  all-members l d = all-intro (λ x. List·Memᴰ x l) l d (λ i h. at-mem l d i h)
 
   module _ (R : A → A → Type 0) (asym : (x y : A) → R x y → R y x → ⊥) where
     -- of a list behind x, what is x or in m is in m
@@ -109,7 +106,7 @@ distinct-members sets = all-imp
 
 pub distinct-in : (s t : List Set) → ((x : Set) → List·Memᴰ x s → List·Memᴰ x t) → All (λ x. List·Memᴰ x (distinct t)) (distinct s)
 distinct-in s t there = distinct-all (λ x. List·Memᴰ x (distinct t)) [] s tt
-    (all-imp (λ x m. all-mem (λ y. List·Memᴰ y (distinct t)) t x (distinct-members t) (there x m)) s (all-members s []))
+    (all-imp (λ x m. all-mem (λ y. List·Memᴰ y (distinct t)) t x (distinct-members t) (there x m)) s (members s))
 
 -- ---- sorted
 

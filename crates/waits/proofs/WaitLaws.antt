@@ -11,7 +11,7 @@ use borrow.Author.Tests.{eq-eqb, ne-eqb}
 use Rattle.laws.specs.Bag.{sum}
 use Rattle.laws.specs.LentRange.{Only, Outside}
 use Rattle.laws.proofs.Cases.{same-or-not, lt-or-ge}
-use Rattle.laws.proofs.BagLaws.{sum-next}
+use Rattle.laws.proofs.BagLaws.{sum-next, sum-zero}
 use Rattle.laws.proofs.Products.{product}
 use Rattle.shapes.specs.Group.{gain}
 use Rattle.pairs.specs.declared.Pair.{Pair}
@@ -161,14 +161,10 @@ pub record Offering (t : MergeTables) (k n m : ℕ) (w : List ℕ) (ps₀ ps : L
   pub few : n′ ≤ n + sum (alive t w) c
   pub rest : SameFrom ps₀ (room (t .groups)) ps
 
-sum-zero : (a : ℕ → ℕ) → sum a 0 ≡ 0
-unfolding sum
-sum-zero a = refl
-
 module _ {t : MergeTables} {k n : ℕ} {w : List ℕ} {ps₀ : List Pair} (h : Asked t k 0 n w ps₀) where
   pub offering-start : (m : ℕ) → Offering t k n m w ps₀ ps₀ n m 0
   offering-start m =
-      let z = sum-zero (alive t w) in
+      let z = sum-zero (alive t w) 0 (λ k l. absurd (omega arith)) in
       record { within = omega arith; waits = h .waits; weighed = omega arith; few = omega arith; rest = λ i _. refl }
 
   module _ {m n′ m′ c : ℕ} {ps : List Pair} (o : Offering t k n m w ps₀ ps n′ m′ c) where
