@@ -25,7 +25,8 @@ use Rattle.said.specs.LentOpen.{Open}
 use Rattle.said.proofs.SaidLaws.{room-of}
 use Rattle.said.proofs.RecordLaws.{first-passed}
 use Rattle.said.proofs.SoundLaws.{Bytes, Coordinates, WellSaid, well-said, fine-walk}
-use Rattle.encoder.specs.Packed.{Packed}
+use Rattle.sets.specs.Ids.{distinct}
+use Rattle.encoder.specs.Packed.{Packed, shared}
 use Rattle.finishing.specs.declared.answers.Report.{Report}
 use Rattle.finishing.specs.declared.answers.Built.the-variants.{Done}
 use Rattle.finishing.specs.Buffers.{Buffers, Lengths, lengths}
@@ -229,3 +230,16 @@ module _ (c : Lending) (r : Report) (a : Accepted c r) where
 
   pub id-at : (n : ℕ) → n < length (packedIn c (a .said) .ids) → getD (after c .lent .ids) n 0 ≡ getD (packedIn c (a .said) .ids) n 0
   id-at n h = ap (λ (l : List ℕ). getD l n 0) ids-is ∙ over-at (c .lent .ids) (packedIn c (a .said) .ids) n h
+
+-- ---- what mode 0 makes of the sets
+
+pub shared-is : (s : Said) → packedOf 0 s ≡ shared (length (s .used)) (s .sets)
+unfolding packedOf
+shared-is s = refl
+
+pub sets-are : (s : Said) → packedOf 0 s .sets ≡ distinct (s .sets)
+unfolding shared
+sets-are s = ap (λ (k : Packed). k .sets) (shared-is s)
+
+pub packed-is : (c : Lending) (s : Said) → c .mode ≡ 0 → packedIn c s ≡ packedOf 0 s
+packed-is c s m = ap (λ (k : ℕ). packedOf k s) m

@@ -31,7 +31,7 @@ use Rattle.finishing.specs.declared.answers.Built.the-variants.{Done}
 use Rattle.finishing.specs.Late.{storeFor, reportOf}
 use Rattle.call.specs.Lending.{Lending}
 use Rattle.call.specs.Build.{coordsInUse, packedOf, outcomeOf, answerOf, after}
-use Rattle.accepted.proofs.Accepted.{Accepted, accepted, packedIn, log-is, store-front, log-front}
+use Rattle.accepted.proofs.Accepted.{Accepted, accepted, packedIn, log-is, store-front, log-front, shared-is, sets-are, packed-is}
 use Rattle.demands.proofs.JoinSteps.{joins}
 use Rattle.demands.specs.Demand3.{homesOf, shapesJoined, MadeOf, Ruled, groupsSaid, Demand3, NoMerging}
 
@@ -91,11 +91,6 @@ groups-proper n all = record {
 
 -- ---- mode 0
 
--- what mode 0 makes of the sets
-pub shared-is : (s : Said) → packedOf 0 s ≡ shared (length (s .used)) (s .sets)
-unfolding packedOf
-shared-is s = refl
-
 module _ (s : Said) where
   log-is-rule : packedOf 0 s .log ≡ merged (groupsSaid s) .log
   unfolding shared
@@ -105,13 +100,9 @@ module _ (s : Said) where
   unfolding shared finalsOf
   finals-living = ap (λ (p : Packed). p .finals) (shared-is s)
 
-  sets-distinct : packedOf 0 s .sets ≡ distinct (s .sets)
-  unfolding shared
-  sets-distinct = ap (λ (p : Packed). p .sets) (shared-is s)
-
   store-of : (axes : ℕ) → storeFor axes (coordsInUse s) (packedOf 0 s) ≡ storeOf axes (coordsInUse s) (λ x. getD (distinct (s .sets)) x []) (packedOf 0 s .finals)
   unfolding storeFor
-  store-of axes = ap (λ (l : List Set). storeOf axes (coordsInUse s) (λ x. getD l x []) (packedOf 0 s .finals)) sets-distinct
+  store-of axes = ap (λ (l : List Set). storeOf axes (coordsInUse s) (λ x. getD l x []) (packedOf 0 s .finals)) (sets-are s)
 
   shared-rule : Ruled (groupsSaid s) (shared (length (s .used)) (s .sets) .groups) (length (shared (length (s .used)) (s .sets) .log))
       (shared (length (s .used)) (s .sets) .weighed) (shared (length (s .used)) (s .sets) .before) (shared (length (s .used)) (s .sets) .after)
@@ -126,17 +117,17 @@ module _ (s : Said) where
 
 -- a build in mode 0
 module _ (c : Lending) (r : Report) (a : Accepted c r) (m : c .mode ≡ 0) where
-  packed-is : packedIn c (a .said) ≡ packedOf 0 (a .said)
-  packed-is = ap (λ (k : ℕ). packedOf k (a .said)) m
+  packed-here : packedIn c (a .said) ≡ packedOf 0 (a .said)
+  packed-here = packed-is c (a .said) m
 
   ruled-here : Ruled (groupsSaid (a .said)) (r .groups) (r .merges) (r .weighed) (r .before) (r .after)
-  ruled-here = report-rule (a .said) (c .axes) r (a .report-is ∙ ap (reportOf (c .axes) (coordsInUse (a .said))) packed-is)
+  ruled-here = report-rule (a .said) (c .axes) r (a .report-is ∙ ap (reportOf (c .axes) (coordsInUse (a .said))) packed-here)
 
   log-is-here : packedIn c (a .said) .log ≡ merged (groupsSaid (a .said)) .log
-  log-is-here = ap (λ (p : Packed). p .log) packed-is ∙ log-is-rule (a .said)
+  log-is-here = ap (λ (p : Packed). p .log) packed-here ∙ log-is-rule (a .said)
 
   tables-of : r .subtables ≡ length (allRuns (packedOf 0 (a .said) .finals))
-  tables-of = unfold reportOf in ap (λ (t : Report). t .subtables) (a .report-is) ∙ ap (λ (p : Packed). length (allRuns (p .finals))) packed-is
+  tables-of = unfold reportOf in ap (λ (t : Report). t .subtables) (a .report-is) ∙ ap (λ (p : Packed). length (allRuns (p .finals))) packed-here
 
   demand : Demand3 c r
   demand = record {
@@ -146,7 +137,7 @@ module _ (c : Lending) (r : Report) (a : Accepted c r) (m : c .mode ≡ 0) where
     no-fold = λ j p e. merging.no-fold (length (a .said .used)) j (groupsSaid (a .said)) (groups-proper (length (a .said .used)) (a .said .sets)) p e;
     log-front = log-front c r a ∙ ap words log-is-here;
     finals-are = finals-living (a .said);
-    written = store-front c r a ∙ ap (storeFor (c .axes) (coordsInUse (a .said))) packed-is ∙ store-of (a .said) (c .axes);
+    written = store-front c r a ∙ ap (storeFor (c .axes) (coordsInUse (a .said))) packed-here ∙ store-of (a .said) (c .axes);
     subtables-are = tables-of;
   }
 

@@ -7,7 +7,7 @@ use native.Mathlib.Omega.{arith}
 use lib.ListN.{length, getD, length-append}
 use lib.Seq.{getD-append-seam}
 use Rattle.laws.specs.Every.{All}
-use Rattle.laws.proofs.EveryLaws.{all-imp}
+use Rattle.laws.proofs.EveryLaws.{all-imp, members}
 use Rattle.shapes.specs.Group.{Group}
 use Rattle.rule.specs.Model.{Living, Pair, Entry, State, gainOf, choice, entry, merge, follow, step, run, start, merged, total}
 use Rattle.rule.proofs.PairLaws.{pairs-all, each-pairs, chosen-has}
@@ -27,10 +27,6 @@ merge-log s c = refl
 step-some : (s : State) (c : Pair) → choice (s .living) ≡ some c → step s ≡ merge s c
 unfolding step follow
 step-some s c e = ap (follow s) e
-
-members : (l : List Living) → All (λ g. List·Memᴰ g l) l
-members [] = tt
-members (g ∷ l) = (List·Memᴰ·head refl, all-imp (λ h m. List·Memᴰ·tail m) l (members l))
 
 module _ (xs : List Group) where
   record Chosen (j : ℕ) : Type 0 where

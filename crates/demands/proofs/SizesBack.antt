@@ -17,7 +17,8 @@ use Rattle.finishing.specs.declared.answers.Built.the-variants.{Done}
 use Rattle.call.specs.Lending.{Lending}
 use Rattle.call.specs.Build.{packedOf, answerOf}
 use Rattle.demands.specs.Sized.{Sized}
-use Rattle.demands.proofs.Demand3.{demand3, shared-is}
+use Rattle.accepted.proofs.Accepted.{shared-is}
+use Rattle.demands.proofs.Demand3.{demand3}
 
 shared-after : (s : Said) → shared (length (s .used)) (s .sets) .after ≡ total (merged (groupsOf (length (s .used)) (s .sets)) .living)
 unfolding shared

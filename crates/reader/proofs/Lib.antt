@@ -1,3 +1,4 @@
+pub mod CastLaws
 pub mod StoreLaws
 pub mod MarkLaws
 pub mod ColumnLaws

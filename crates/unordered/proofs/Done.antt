@@ -23,28 +23,17 @@ use Rattle.finishing.specs.Late.{storeFor, reportOf}
 use Rattle.call.specs.Lending.{Lending}
 use Rattle.call.specs.Build.{coordsInUse, packedOf, outcomeOf, answerOf, after}
 use Rattle.accepted.proofs.PackedLaws.{WellPacked, shared-good}
-use Rattle.accepted.proofs.Accepted.{Accepted, accepted, packedIn, map-is, store-front, log-front, id-at}
+use Rattle.accepted.proofs.Accepted.{Accepted, accepted, packedIn, map-is, store-front, log-front, id-at, shared-is, sets-are, packed-is}
 use Rattle.unordered.proofs.Alike.{Fine}
 
 -- ---- the packed sets of mode 0
-
-pub shared-of : (s : Said) → packedOf 0 s ≡ shared (length (s .used)) (s .sets)
-unfolding packedOf
-shared-of s = refl
 
 shared-ids : (n : ℕ) (sets : List Set) → shared n sets .ids ≡ sharedIds sets
 unfolding shared
 shared-ids n sets = refl
 
-shared-sets : (n : ℕ) (sets : List Set) → shared n sets .sets ≡ distinct sets
-unfolding shared
-shared-sets n sets = refl
-
 ids-are : (s : Said) → packedOf 0 s .ids ≡ sharedIds (s .sets)
-ids-are s = ap (λ (k : Packed). k .ids) (shared-of s) ∙ shared-ids (length (s .used)) (s .sets)
-
-pub sets-are : (s : Said) → packedOf 0 s .sets ≡ distinct (s .sets)
-sets-are s = ap (λ (k : Packed). k .sets) (shared-of s) ∙ shared-sets (length (s .used)) (s .sets)
+ids-are s = ap (λ (k : Packed). k .ids) (shared-is s) ∙ shared-ids (length (s .used)) (s .sets)
 
 -- ---- a build that is done
 
@@ -60,11 +49,11 @@ pub record IsDone (axes : ℕ) (a : Lending) (s : Said) (c : Report) : Type 0 wh
   pub id-is : (n : ℕ) → n < length (s .sets) → getD (after a .lent .ids) n 0 ≡ place (getD (s .sets) n []) (distinct (s .sets))
 
 module _ (a : Lending) (c : Report) (mode : a .mode ≡ 0) (bytes : Bytes (a .job)) (z : Accepted a c) where
-  packed-is : packedIn a (z .said) ≡ packedOf 0 (z .said)
-  packed-is = ap (λ (m : ℕ). packedOf m (z .said)) mode
+  packed-here : packedIn a (z .said) ≡ packedOf 0 (z .said)
+  packed-here = packed-is a (z .said) mode
 
   ids-here : packedIn a (z .said) .ids ≡ sharedIds (z .said .sets)
-  ids-here = ap (λ (k : Packed). k .ids) packed-is ∙ ids-are (z .said)
+  ids-here = ap (λ (k : Packed). k .ids) packed-here ∙ ids-are (z .said)
 
   well : WellSaid (a .axes) (a .job) (length (a .job) / recordBytes) (z .said)
   well = well-said (a .axes) (a .mode) (a .job) (length (a .job) / recordBytes) (z .said) (z .entered .some) bytes (z .walked)
@@ -80,12 +69,12 @@ module _ (a : Lending) (c : Report) (mode : a .mode ≡ 0) (bytes : Bytes (a .jo
       let s = z .said in
       record {
         fine-sets = all-and (Ascending 0) (Proper (length (s .used))) (s .sets) (well .good .sets-rising) (well .good .sets-proper);
-        good = subst (WellPacked (length (s .used))) (sym (shared-of s)) (shared-good (length (s .used)) (s .sets) (well .good .sets-proper) (well .words-low));
-        report-is = z .report-is ∙ ap (reportOf (a .axes) (coordsInUse s)) packed-is;
-        map-room = subst (λ (k : Packed). length (k .sets) ≤ length (a .lent .map)) packed-is (z .room .map-fits);
-        store-is = store-front a c z ∙ ap (storeFor (a .axes) (coordsInUse s)) packed-is;
-        log-is = log-front a c z ∙ ap (λ (k : Packed). words (k .log)) packed-is;
-        map-is = map-is a c z ∙ ap (λ (k : Packed). stored (idWords 0 (allRuns (k .finals))) (a .lent .map)) packed-is;
+        good = subst (WellPacked (length (s .used))) (sym (shared-is s)) (shared-good (length (s .used)) (s .sets) (well .good .sets-proper) (well .words-low));
+        report-is = z .report-is ∙ ap (reportOf (a .axes) (coordsInUse s)) packed-here;
+        map-room = subst (λ (k : Packed). length (k .sets) ≤ length (a .lent .map)) packed-here (z .room .map-fits);
+        store-is = store-front a c z ∙ ap (storeFor (a .axes) (coordsInUse s)) packed-here;
+        log-is = log-front a c z ∙ ap (λ (k : Packed). words (k .log)) packed-here;
+        map-is = map-is a c z ∙ ap (λ (k : Packed). stored (idWords 0 (allRuns (k .finals))) (a .lent .map)) packed-here;
         id-is = id-at-set;
       }
 

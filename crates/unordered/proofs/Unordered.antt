@@ -19,12 +19,12 @@ use Rattle.finishing.specs.Late.{storeFor, reportOf}
 use Rattle.call.specs.Lending.{Lending}
 use Rattle.call.specs.Build.{regionBytes, coordsInUse, packedOf, outcomeOf, answerOf, after}
 use Rattle.accepted.proofs.PackedLaws.{WellPacked}
-use Rattle.accepted.proofs.Accepted.{coords-long}
+use Rattle.accepted.proofs.Accepted.{coords-long, shared-is, sets-are}
 use Rattle.unordered.specs.Same.{SameSets, placeOf, SameBuild}
 use Rattle.unordered.proofs.Alike.{Fine}
 use Rattle.unordered.proofs.Rows.{Renamed, shared-same}
 use Rattle.unordered.proofs.Stores.{store-same, report-same, word-same}
-use Rattle.unordered.proofs.Done.{shared-of, sets-are, IsDone, is-done}
+use Rattle.unordered.proofs.Done.{IsDone, is-done}
 
 module _ (axes : ℕ) (a b : Lending) (s t : Said) (c d : Report) (same : SameSets s t) (p : IsDone axes a s c) (q : IsDone axes b t d) where
   -- the id that the set of id x has in the other job
@@ -45,8 +45,8 @@ module _ (axes : ℕ) (a b : Lending) (s t : Said) (c d : Report) (same : SameSe
 
   renamed : Renamed other (packedOf 0 s) (packedOf 0 t)
   renamed =
-      subst (λ (k : Packed). Renamed other k (packedOf 0 t)) (sym (shared-of s))
-      (subst (Renamed other (shared n (s .sets))) (sym (shared-of t ∙ ap (λ (m : ℕ). shared m (t .sets)) used-same))
+      subst (λ (k : Packed). Renamed other k (packedOf 0 t)) (sym (shared-is s))
+      (subst (Renamed other (shared n (s .sets))) (sym (shared-is t ∙ ap (λ (m : ℕ). shared m (t .sets)) used-same))
       (shared-same n (s .sets) (t .sets) (p .fine-sets) fine-t (same .there) (same .back)))
 
   stores : storeFor axes (coordsInUse s) (packedOf 0 s) ≡ storeFor axes (coordsInUse t) (packedOf 0 t)

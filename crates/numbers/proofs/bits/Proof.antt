@@ -1,4 +1,5 @@
-use Rattle.numbers.proofs.BitLaws.{less-fits, less-cast, less-sub, less-is, more-cast, more-is}
+use Rattle.reader.proofs.CastLaws.{less-fits, less-cast, more-cast}
+use Rattle.numbers.proofs.BitLaws.{less-sub, less-is, more-is}
 use borrow.Author.Needs.{needs}
 use native.Mathlib.Omega.{arith}
 use Rattle.numbers.proofs.bits.Statement.{statement}

@@ -1,4 +1,5 @@
-use Rattle.rows_main.proofs.SizeLaws.{less-fits, less-cast, less-add, more-cast}
+use Rattle.reader.proofs.CastLaws.{less-fits, less-cast, more-cast}
+use Rattle.rows_main.proofs.SizeLaws.{less-add}
 use native.Mathlib.Omega.{arith}
 use borrow.Author.Needs.{needs}
 use Rattle.rows_main.proofs.size.Statement.{statement}
