@@ -1,11 +1,11 @@
 // Writes the subtables of the final groups. A group stands in work as three words: where its shape is, where the ids of its sets are,
 // and how many there are.
 use limits::Limits;
-use rows::SetList;
 use rows::columns;
 use rows::place;
-use rows::write_runs;
 use store::Finals;
+use subtables::SetList;
+use subtables::write_runs;
 ghost use mathlib.Core.Path.{_≡_};
 ghost use Prim.Native.Nat.{ℕ, _+_, _*_, _≤_, _<_};
 ghost use lib.ListN.{length};

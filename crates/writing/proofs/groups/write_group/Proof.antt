@@ -13,7 +13,7 @@ use Rattle.writing.proofs.groups.write_group.Reads as reads
 use Rattle.writing.proofs.groups.write_group.Lts as lts
 use Rattle.rows.proofs.columns.Reads as columns-reads
 use Rattle.rows.proofs.place.Reads as place-reads
-use Rattle.rows.proofs.write_runs.Reads as write-runs-reads
+use Rattle.subtables.proofs.write_runs.Reads as write-runs-reads
 
 slice-aggregate-columns : tie.Need-slice-aggregate-columns
 slice-aggregate-columns c = search needs
