@@ -23,10 +23,11 @@ use Rattle.job.specs.Lent.{tablesAt, Prepared, JobHeld, JobRead}
 use Rattle.said.specs.Refusals.{publishedWork}
 use Rattle.said.proofs.RegionLaws.{regions-length, like-below}
 use Rattle.values.proofs.HoldLaws.{stamps-none}
+use Rattle.entries.proofs.OrderLaws.{in-order-none}
 use Rattle.said.proofs.GoodLaws.{good-start}
 
 module _ (axes regions records : ℕ) (job old mid new : List ℕ) (few : records ≤ mostRecords) (room : 16 * records ≤ length old)
-    (small : regions * (6 * axes) ≤ 6 * records) (fits : regions ≤ records)
+    (small : regions * (6 * axes) ≤ 6 * records) (fits : regions ≤ records) (some : 0 < axes)
     (f : FirstsOf (5 * records) (5 * records + (3 * regions + regions * (6 * axes))) axes regions job old mid)
     (z : Zeroed (5 * records) (2 * regions) mid new) where
   high : (j : ℕ) → 5 * records + 2 * regions ≤ j → getD new j 0 ≡ getD mid j 0
@@ -37,6 +38,10 @@ module _ (axes regions records : ℕ) (job old mid new : List ℕ) (few : record
 
   first-is : (r : ℕ) → r < regions → getD new (5 * records + (3 * regions + regions * (6 * axes)) + r) 0 ≡ firstLike (regionList axes regions job) r
   first-is r l = high (5 * records + (3 * regions + regions * (6 * axes)) + r) (omega arith) ∙ f .is r l
+
+  -- a region's coordinates, as a set, take more than a word
+  regions-once : regions * 1 ≤ regions * (6 * axes)
+  regions-once = mul-le-mul-left regions (omega arith)
 
   pub prepared : Prepared axes regions records job old new
   unfolding tablesAt regionsOnly slotIn has entries firstLike
@@ -50,7 +55,9 @@ module _ (axes regions records : ℕ) (job old mid new : List ℕ) (few : record
           rw e (z .is (regions + q) (omega arith)));
       uses-are = record { slots = λ q l. z .is q (omega arith); table = λ k l. absurd (omega arith) };
       uses-count = refl;
-      begun-is = refl;
+      used-low = tt;
+      used-differ = tt;
+      begun-is = in-order-none;
       sets-count = refl;
       rows-are = λ x l. absurd (omega arith);
       bodies = λ x l. absurd (omega arith);
@@ -64,7 +71,7 @@ module _ (axes regions records : ℕ) (job old mid new : List ℕ) (few : record
       body-to = omega arith;
       used-to = omega arith;
       slot-to = omega arith;
-      stamp-to = omega arith;
+      spare-to = omega (arith, regions-once);
       first-to = omega (arith, z .only .long, f .only .long);
       few = few;
       regions-few = omega arith;

@@ -13,6 +13,7 @@ use Rattle.said.specs.Records.{recordAt, kind, valueKind, regionOf, valueWord}
 use Rattle.said.specs.Refusals.{unfinished, formNo, endNo}
 use Rattle.said.specs.Sets.{regionList, firstLike, has}
 use Rattle.said.specs.Job.{Said, inSets, Step, stop, on, unless, step, valueStep, endStep, afterValue, afterEnd, regionsOnly, refused, fine, ended, endedSets}
+use Rattle.values.proofs.BegunLaws.{begun-few}
 use Rattle.values.specs.Lent.{Holds, ValueFits, TookValue, EndedSet}
 use Rattle.job_scan.specs.declared.reading.SetsEnd.{SetsEnd}
 use Rattle.job_scan.specs.declared.reading.SoFar.{SoFar}
@@ -127,11 +128,10 @@ module _ (axes mode : ℕ) (job : List ℕ) (records from : ℕ) (t : SetTables)
     record-fits l = record {
       value-fits = record {
         firsts-low = n .reached .held .firsts-low;
-        rising = rw (n .reached .held .begun-is) (n .reached .held .good .rising);
         body-in = omega (arith, n .body-few, n .few, room .body-to);
         used-in = omega (arith, n .uses-few, n .few, room .used-to);
         slot-to = room .slot-to;
-        stamp-to = room .stamp-to;
+        stamp-to = omega (arith, room .spare-to);
         first-to = omega (arith, room .first-to, n .only .long);
         few = omega (arith, n .uses-few, n .few, room .few);
         regions-few = room .regions-few;
@@ -141,10 +141,10 @@ module _ (axes mode : ℕ) (job : List ℕ) (records from : ℕ) (t : SetTables)
         body-in = omega (arith, n .body-few, n .few, room .body-to);
         used-to = omega (arith, room .used-to);
         slot-to = room .slot-to;
-        stamp-to = room .stamp-to;
+        spare-to = omega (arith, room .spare-to, begun-few (n .reached .held));
         first-to = omega (arith, room .first-to, n .only .long);
         body-low = n .reached .held .start-low;
-        long-few = omega (arith, room .long-few, room .used-to, room .slot-to, room .stamp-to);
+        long-few = omega (arith, room .long-few, room .used-to, room .slot-to, room .spare-to);
       };
       few = omega (arith, n .few, room .few);
     }

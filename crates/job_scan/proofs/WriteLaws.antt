@@ -24,7 +24,7 @@ use Rattle.said.specs.Records.{regionLong, regionFrom}
 use Rattle.said.specs.Sets.{Region, coordinates, regionList, sameRegion, like, firstLike}
 use Rattle.job_scan.specs.Lent.{asSet, RegionAt, RegionsAt, FirstsOf}
 use Rattle.said.proofs.RegionLaws.{coords-length, regions-length, regions-at}
-use Rattle.values.proofs.EntryLaws.{entries-kept, entries-snoc}
+use Rattle.entries.proofs.EntryLaws.{entries-kept, entries-snoc}
 
 -- ---- a region as a set
 

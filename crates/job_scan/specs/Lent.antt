@@ -42,13 +42,13 @@ pub record FirstsOf (index first axes regions : ℕ) (job old new : List ℕ) : 
   pub only : Only ((index, 5 * regions + regions * (6 * axes)) ∷ []) old new
   pub is : (k : ℕ) → k < regions → getD new (first + k) 0 ≡ firstLike (regionList axes regions job) k
 
--- the tables stand one behind another, with room for n sets, n entries and n regions in use
+-- the tables stand one behind another, with room for n sets, n entries and n regions in use, and behind the stamps for the entries of one set
 pub record Room (t : SetTables) (n long : ℕ) : Type 0 where
   pub rows-to : t .rows + 2 * n ≤ t .body
   pub body-to : t .body + 2 * n ≤ t .used
   pub used-to : t .used + n ≤ t .slot
   pub slot-to : t .slot + t .regions ≤ t .stamp
-  pub stamp-to : t .stamp + t .regions ≤ t .first
+  pub spare-to : t .stamp + t .regions + 2 * t .regions ≤ t .first
   pub first-to : t .first + t .regions ≤ long
   pub few : n ≤ mostRecords
   pub regions-few : t .regions ≤ mostRecords
@@ -94,7 +94,7 @@ pub record EndFits (w : List ℕ) (t : SetTables) (sets start count : ℕ) : Typ
   pub body-in : start + 2 * count ≤ t .used
   pub used-to : t .used ≤ t .slot
   pub slot-to : t .slot + t .regions ≤ t .stamp
-  pub stamp-to : t .stamp + t .regions ≤ t .first
+  pub spare-to : t .stamp + t .regions + 2 * count ≤ t .first
   pub first-to : t .first + t .regions ≤ length w
   pub body-low : t .body ≤ start
   pub long-few : t .used ≤ 4294967295

@@ -1,4 +1,5 @@
 // The records of the sets: each refused at its place, or its set held in work.
+use entries::sort_entries;
 use limits::Limits;
 use records::Kind;
 use records::form_at;
@@ -127,12 +128,14 @@ fn end_no(mode: u32, sets: usize) -> usize
     0
 }
 
-// Writes the row of a set that has ended.
+// Ends a set: its entries are sorted, with the words behind the stamps for scratch, and its row is written.
 fn end_set(work: &mut [u32], t: SetTables, sets: usize, start: usize, count: usize)
     requires { ⌜ EndFits (now work) t sets start count ⌝ }
     ensures { λ _. ⌜ ((s : Said) (uses : ℕ) → t .used + uses ≤ t .slot → Holds (now (work .entry)) t s sets uses start count
         → EndedSet t s sets uses start count (now (work .entry)) (now (work .exit))) ⌝ }
 {
+    let spare = t.stamp + t.regions;
+    sort_entries(work, start, count, spare);
     let rows = t.rows;
     work[rows + 2 * sets] = start as u32;
     work[rows + 2 * sets + 1] = count as u32;

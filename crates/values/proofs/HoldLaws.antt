@@ -1,4 +1,4 @@
--- One more value, and the end of a set, in work. Assumes nothing.
+-- One more value in work. Assumes nothing.
 use mathlib.Core.Path.{_≡_, refl, sym, ap, _∙_}
 use mathlib.Core.Bool.{Bool, true, false, _||_}
 use mathlib.Core.List.{List, [], _∷_, _++_}
@@ -24,8 +24,11 @@ use Rattle.said.specs.LentGood.{SetsGood}
 use Rattle.said.specs.Records.{regionOf, valueWord}
 use Rattle.said.specs.Refusals.{unknownRegion, regionTwice, valueNo}
 use Rattle.said.proofs.RecordLaws.{value-unknown, value-twice, value-passed}
-use Rattle.values.proofs.EntryLaws.{entries-kept}
-use Rattle.said.proofs.GoodLaws.{good-value, good-end}
+use Rattle.entries.specs.Lent.{inOrder}
+use Rattle.entries.proofs.EntryLaws.{entries-kept}
+use Rattle.said.proofs.SaidLaws.{use-low}
+use Rattle.values.proofs.BegunLaws.{in-order-entry, use-differ}
+use Rattle.said.proofs.GoodLaws.{good-value}
 
 -- ---- stamps
 
@@ -66,14 +69,6 @@ stamps-put stamp regions mark q named w b room s = record {
 
 -- ---- one more value
 
--- the entries of the set are as they were
-pub rising-kept : {t : SetTables} {uses start count : ℕ} {w : List ℕ} (f : ValueFits w t uses start count) (q m : ℕ) (w₂ : List ℕ)
-    → Only ((t .slot, t .regions) ∷ (t .used + uses, 1) ∷ []) (set w (t .stamp + q) m) w₂ → Ascending 0 (entries start count w₂)
-rising-kept {t} {uses} {start} {count} {w} f q m w₂ o =
-    rw (entries-kept count start w w₂ (λ j x y.
-    o .kept j (record { apart = λ p. absurd (omega (arith, f .used-in, f .body-in)) }, (record { apart = λ p. absurd (omega (arith, f .body-in)) }, tt))
-    ∙ getD-set-other w (t .stamp + q) j m 0 (omega (arith, f .used-in, f .slot-to, f .body-in)))) (f .rising)
-
 module _ {t : SetTables} {s : Said} {sets uses start count : ℕ} {w : List ℕ} (h : Holds w t s sets uses start count) (f : ValueFits w t uses start count)
     (q v : ℕ) (b : q < t .regions) (mark : ℕ) (m : mark ≡ sets + 1) where
   abbrev w₁ : List ℕ
@@ -105,11 +100,8 @@ module _ {t : SetTables} {s : Said} {sets uses start count : ℕ} {w : List ℕ}
         (λ j x y. u .only .kept j (record { apart = λ p. omega (arith, f .slot-to) }, (record { apart = λ p. omega (arith, f .used-in, f .slot-to) }, tt)))
         (stamps-put (t .stamp) (t .regions) mark q (s .named) w b (omega (arith, f .stamp-to, f .first-to)) (rw m (h .stamps))))
 
-    begun₂ : entries start count w₂ ≡ s .begun
-    begun₂ = entries-kept count start w w₂ (λ j x y. kept₂ j (omega (arith, f .body-in))) ∙ h .begun-is
-
-    pub rising₂ : Ascending 0 (entries start count w₂)
-    rising₂ = rw begun₂ (h .good .rising)
+    begun₂ : inOrder (entries start count w₂) ≡ s .begun
+    begun₂ = ap inOrder (entries-kept count start w w₂ (λ j x y. kept₂ j (omega (arith, f .body-in)))) ∙ h .begun-is
 
     long₂ : length w₂ ≡ length w
     long₂ = u .only .long ∙ length-set w (t .stamp + q) mark
@@ -130,7 +122,7 @@ module _ {t : SetTables} {s : Said} {sets uses start count : ℕ} {w : List ℕ}
     after : (w′ : List ℕ) (count′ : ℕ) → has q (s .named) ≡ false
         → ((j : ℕ) → j < start → getD w′ j 0 ≡ getD w j 0) → ((j : ℕ) → t .first ≤ j → getD w′ j 0 ≡ getD w j 0)
         → Stamps w′ (t .stamp) (t .regions) (sets + 1) (q ∷ s .named) → Uses w′ (t .slot) (t .used) (t .regions) (withUse (s .used) q)
-        → entries start count′ w′ ≡ withValue (indexIn q (withUse (s .used) q)) v (s .begun)
+        → inOrder (entries start count′ w′) ≡ withValue (indexIn q (withUse (s .used) q)) v (s .begun)
         → Holds w′ t (afterValue s q v) sets uses′ start count′
     unfolding afterValue setOf
     after w′ count′ n low high stamps us begun =
@@ -143,6 +135,8 @@ module _ {t : SetTables} {s : Said} {sets uses start count : ℕ} {w : List ℕ}
           stamps = stamps;
           uses-are = us;
           uses-count = uses-are′;
+          used-low = use-low (s .used) q (t .regions) b (h .used-low);
+          used-differ = use-differ (s .used) q (h .used-differ);
           begun-is = begun;
           sets-count = h .sets-count;
           rows-are = λ x l. rw (start-same x l, count-same x l)
@@ -186,7 +180,7 @@ module _ {t : SetTables} {s : Said} {sets uses start count : ℕ} {w : List ℕ}
         no-is = refl;
         now-holds = λ n. after w₃ (count + 1) n low₃ high₃
             (stamps-kept (t .stamp) (t .regions) (sets + 1) (q ∷ s .named) w₂ w₃ (λ j x y. kept₃ j (omega (arith, f .used-in, f .slot-to))) stamps₂)
-            uses₃ (rw (ne-eqb v zeroWord z) (p .is ∙ rw (begun₂, u .index)));
+            uses₃ (rw (ne-eqb v zeroWord z) (ap inOrder (p .is) ∙ in-order-entry k v (entries start count w₂) ∙ rw (begun₂, u .index)));
         only = only-trans only₂ (only-weaken (λ j o. (record { apart = λ x. omega (arith, f .body-in, f .used-in, f .slot-to, f .stamp-to, o .0 .apart (omega arith)) }, tt)) (p .only));
         uses-few = uses-low;
         count-few = omega arith;
@@ -229,71 +223,3 @@ module _ {t : SetTables} {s : Said} {sets uses start count : ℕ} {w : List ℕ}
           uses-few = p .uses-few;
           count-few = p .count-few;
         }
-
--- ---- the end of a set
-
-module _ {t : SetTables} {s : Said} {sets uses start count : ℕ} {w : List ℕ} (h : Holds w t s sets uses start count)
-    (row : t .rows + 2 * sets + 2 ≤ t .body) (tail : start + 2 * count ≤ t .used) (used-in : t .used + uses ≤ t .slot)
-    (slot-to : t .slot + t .regions ≤ t .stamp) (stamp-to : t .stamp + t .regions ≤ t .first) (first-to : t .first + t .regions ≤ length w) where
-  abbrev e₁ : List ℕ
-  e₁ = set w (t .rows + 2 * sets) start
-
-  abbrev e₂ : List ℕ
-  e₂ = set e₁ (t .rows + 2 * sets + 1) count
-
-  end-high : (j : ℕ) → t .body ≤ j → getD e₂ j 0 ≡ getD w j 0
-  end-high j l = getD-set-other e₁ (t .rows + 2 * sets + 1) j count 0 (omega arith) ∙ getD-set-other w (t .rows + 2 * sets) j start 0 (omega arith)
-
-  end-low : (j : ℕ) → j < t .rows + 2 * sets → getD e₂ j 0 ≡ getD w j 0
-  end-low j l = getD-set-other e₁ (t .rows + 2 * sets + 1) j count 0 (omega arith) ∙ getD-set-other w (t .rows + 2 * sets) j start 0 (omega arith)
-
-  end-start : entriesAt (t .rows) sets e₂ ≡ start
-  end-start =
-      getD-set-other e₁ (t .rows + 2 * sets + 1) (t .rows + 2 * sets) count 0 (omega arith)
-      ∙ getD-set-same w (t .rows + 2 * sets) start 0 (omega (arith, h .start-low))
-
-  end-count : countOf (t .rows) sets e₂ ≡ count
-  end-count = getD-set-same e₁ (t .rows + 2 * sets + 1) count 0 (omega (arith, h .start-low, length-set w (t .rows + 2 * sets) start))
-
-  body-same : (a m : ℕ) → t .body ≤ a → entries a m e₂ ≡ entries a m w
-  body-same a m l = entries-kept m a w e₂ (λ j x y. end-high j (omega arith))
-
-  start-same : (x : ℕ) → x < sets → entriesAt (t .rows) x e₂ ≡ entriesAt (t .rows) x w
-  start-same x l = end-low (t .rows + 2 * x) (omega arith)
-
-  count-same : (x : ℕ) → x < sets → countOf (t .rows) x e₂ ≡ countOf (t .rows) x w
-  count-same x l = end-low (t .rows + 2 * x + 1) (omega arith)
-
-  pub end-holds : EndedSet t s sets uses start count w e₂
-  unfolding afterEnd setOf entries
-  end-holds = record {
-    now-holds = record {
-      regions-are = h .regions-are;
-      firsts = λ r l. end-high (t .first + r) (omega (arith, h .start-low)) ∙ h .firsts r l;
-      firsts-low = λ r l. rw (end-high (t .first + r) (omega (arith, h .start-low))) (h .firsts-low r l);
-      stamps = stamps-next (t .stamp) (t .regions) (sets + 1) (s .named) e₂
-          (stamps-kept (t .stamp) (t .regions) (sets + 1) (s .named) w e₂ (λ j x y. end-high j (omega (arith, h .start-low))) (h .stamps));
-      uses-are = record {
-        slots = λ q l. end-high (t .slot + q) (omega (arith, h .start-low)) ∙ h .uses-are .slots q l;
-        table = λ k l. end-high (t .used + k) (omega (arith, h .start-low)) ∙ h .uses-are .table k l;
-      };
-      uses-count = h .uses-count;
-      begun-is = refl;
-      sets-count = length-append (s .sets) (s .begun ∷ []) ∙ omega (arith, h .sets-count);
-      rows-are = below-more _ _
-          (λ x l. rw (start-same x l, count-same x l)
-          (body-same (entriesAt (t .rows) x w) (countOf (t .rows) x w) (h .bodies-low x l) ∙ h .rows-are x l
-          ∙ sym (List·getD-append (s .sets) (s .begun ∷ []) [] x (omega (arith, h .sets-count)))))
-          (rw (end-start, end-count) (body-same start count (h .start-low) ∙ h .begun-is ∙ sym (getD-at (s .sets) (s .begun) [] [] sets (h .sets-count))));
-      bodies = below-more _ _
-          (λ x l. rw (start-same x l, count-same x l) (omega (arith, h .bodies x l)))
-          (rw (end-start, end-count) (omega arith));
-      bodies-low = below-more _ _ (λ x l. rw (start-same x l) (h .bodies-low x l)) (rw end-start (h .start-low));
-      rows-low = omega (arith, h .start-low);
-      start-low = omega (arith, h .start-low);
-      good = good-end s (h .good);
-    };
-    only = only-trans
-        (only-set ((0, t .first) ∷ []) w (t .rows + 2 * sets) start (λ o. omega (arith, h .start-low, o .0 .apart (omega arith))))
-        (only-set ((0, t .first) ∷ []) e₁ (t .rows + 2 * sets + 1) count (λ o. omega (arith, h .start-low, o .0 .apart (omega arith))));
-  }

@@ -1,3 +1,4 @@
-pub mod EntryLaws
 pub mod UseLaws
+pub mod BegunLaws
 pub mod HoldLaws
+pub mod EndLaws

@@ -1,20 +1,21 @@
 -- What lent words hold of a job so far: the promises of `src/`, which no reader of docs/RULES.md needs.
 use mathlib.Core.Path.{_≡_}
 use mathlib.Core.Bool.{false}
-use mathlib.Core.List.{List, [], _∷_}
+use mathlib.Core.List.{List, [], _∷_, _++_}
 use Prim.Native.Nat.{ℕ, suc, _+_, _*_, _≤_, _<_}
 use lib.ListN.{length, getD}
 use Rattle.laws.specs.Pick.{pick}
+use Rattle.laws.specs.Every.{All, EachTwo}
 use Rattle.laws.specs.LentRange.{Only}
-use Rattle.sets.specs.Set.{Ascending}
 use Rattle.sets.specs.Lent.{entries, entriesAt, countOf, setOf}
+use Rattle.entries.specs.Lent.{inOrder}
 use lib.Dec.{eqb}
 use Rattle.said.specs.Records.{regionOf, valueWord}
 use Rattle.said.specs.Refusals.{valueNo}
 use Rattle.said.specs.Job.{Said, afterValue, afterEnd}
 use Rattle.limits.specs.Limits.{mostRecords}
 use Rattle.values.specs.declared.tables.SetTables.{SetTables}
-use Rattle.said.specs.Sets.{firstLike, has, withUse, indexIn, withEntry}
+use Rattle.said.specs.Sets.{firstLike, has, withUse, indexIn}
 use Rattle.said.specs.LentGood.{SetsGood}
 
 -- of the regions in use: at `slot` for each region its index and one, 0 where it is not in use; at `used` for each index its region
@@ -33,10 +34,10 @@ pub record UsedNow (slot used regions count q : ℕ) (l old new : List ℕ) (r :
   pub grown : r ≡ count → length (withUse l q) ≡ count + 1
   pub same : (r ≡ count → ⊥) → length (withUse l q) ≡ count
 
--- an entry was put into a set
+-- an entry was put behind those of a set
 pub record PutEntry (start count k v : ℕ) (old new : List ℕ) : Type 0 where
-  pub only : Only ((start, 2 * count + 2) ∷ []) old new
-  pub is : entries start (count + 1) new ≡ withEntry k v (entries start count old)
+  pub only : Only ((start + 2 * count, 2) ∷ []) old new
+  pub is : entries start (count + 1) new ≡ entries start count old ++ ((k, v) ∷ [])
 
 -- at `stamp` for each region the number of a set, the last `mark`: it is that where the set has named the region
 pub record Stamps (w : List ℕ) (stamp regions mark : ℕ) (named : List ℕ) : Type 0 where
@@ -44,7 +45,7 @@ pub record Stamps (w : List ℕ) (stamp regions mark : ℕ) (named : List ℕ) :
   pub here : (q : ℕ) → q < regions → eqb (getD w (stamp + q) 0) mark ≡ has q named
 
 -- Work holds what the records so far say: `sets` sets have ended, `uses` regions are in use, and the set that has not ended has `count`
--- entries from `start` on.
+-- entries from `start` on, as they came.
 pub record Holds (w : List ℕ) (t : SetTables) (s : Said) (sets uses start count : ℕ) : Type 0 where
   pub regions-are : length (s .regions) ≡ t .regions
   pub firsts : (r : ℕ) → r < t .regions → getD w (t .first + r) 0 ≡ firstLike (s .regions) r
@@ -52,7 +53,9 @@ pub record Holds (w : List ℕ) (t : SetTables) (s : Said) (sets uses start coun
   pub stamps : Stamps w (t .stamp) (t .regions) (sets + 1) (s .named)
   pub uses-are : Uses w (t .slot) (t .used) (t .regions) (s .used)
   pub uses-count : length (s .used) ≡ uses
-  pub begun-is : entries start count w ≡ s .begun
+  pub used-low : All (λ q. q < t .regions) (s .used)
+  pub used-differ : EachTwo (λ x y. x ≡ y → ⊥) (s .used)
+  pub begun-is : inOrder (entries start count w) ≡ s .begun
   pub sets-count : length (s .sets) ≡ sets
   pub rows-are : (x : ℕ) → x < sets → setOf (t .rows) x w ≡ getD (s .sets) x []
   pub bodies : (x : ℕ) → x < sets → entriesAt (t .rows) x w + 2 * countOf (t .rows) x w ≤ start
@@ -64,7 +67,6 @@ pub record Holds (w : List ℕ) (t : SetTables) (s : Said) (sets uses start coun
 -- what one more value asks of the tables
 pub record ValueFits (w : List ℕ) (t : SetTables) (uses start count : ℕ) : Type 0 where
   pub firsts-low : (r : ℕ) → r < t .regions → getD w (t .first + r) 0 < t .regions
-  pub rising : Ascending 0 (entries start count w)
   pub body-in : start + 2 * count + 2 ≤ t .used
   pub used-in : t .used + uses < t .slot
   pub slot-to : t .slot + t .regions ≤ t .stamp

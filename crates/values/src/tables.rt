@@ -4,8 +4,6 @@ ghost use mathlib.Core.Path.{_≡_};
 ghost use mathlib.Core.List.{List};
 ghost use Prim.Native.Nat.{ℕ, _+_, _*_, _<_, _≤_};
 ghost use lib.ListN.{length};
-ghost use Rattle.sets.specs.Set.{Ascending};
-ghost use Rattle.sets.specs.Lent.{entries};
 ghost use Rattle.values.specs.Lent.{Uses, UsedNow, UseKept, PutEntry};
 
 // Where the tables stand in work: rows and entries of the sets; regions in use by index; for each region its index and one, the last set
@@ -43,24 +41,11 @@ pub fn use_region(
     count
 }
 
-// Puts an entry into a set of `count` entries from `start` on, in its place by region index, from the end: regions usually come in order.
+// Puts an entry behind the `count` entries from `start` on: a set is sorted when it ends.
 pub fn put_entry(work: &mut [u32], start: usize, count: usize, k: u32, v: u32)
     requires { ⌜ start + 2 * count + 2 ≤ length (now work) ⌝ }
-    requires { ⌜ Ascending 0 (entries start count (now work)) ⌝ }
     ensures { λ _. ⌜ PutEntry start count k v (now (work .entry)) (now (work .exit)) ⌝ }
 {
-    let mut j = count;
-    while 0 < j {
-        let at = start + 2 * (j - 1);
-        if work[at] <= k {
-            work[at + 2] = k;
-            work[at + 3] = v;
-            return;
-        }
-        work[at + 2] = work[at];
-        work[at + 3] = work[at + 1];
-        j -= 1;
-    }
-    work[start] = k;
-    work[start + 1] = v;
+    work[start + 2 * count] = k;
+    work[start + 2 * count + 1] = v;
 }

@@ -30,7 +30,7 @@ same-length c = search needs
 
 returns : tie.Need-returns
 returns c = let a = c .before .before .before .before .before .before .before .before .before .before .args in
-    prepared (a .axes) (a .regions) (a .records) (a .job .now) (a .work .now) _ _ (omega (arith, c .before .before .before .before .before .before .before .before .before .before .pre)) (omega (arith, c .before .before .before .before .before .before .before .before .before .before .pre)) (omega (arith, c .before .before .before .before .before .before .before .before .before .before .pre)) (omega (arith, c .before .before .before .before .before .before .before .before .before .before .pre))
+    prepared (a .axes) (a .regions) (a .records) (a .job .now) (a .work .now) _ _ (omega (arith, c .before .before .before .before .before .before .before .before .before .before .pre)) (omega (arith, c .before .before .before .before .before .before .before .before .before .before .pre)) (omega (arith, c .before .before .before .before .before .before .before .before .before .before .pre)) (omega (arith, c .before .before .before .before .before .before .before .before .before .before .pre)) (omega (arith, c .before .before .before .before .before .before .before .before .before .before .pre))
     (c .before .before .before .before .before .before .find-firsts .ensures) (c .before .before .zero-part .ensures)
 
 pub prepare-spec : {M : Type 1} → statement M

@@ -1,7 +1,7 @@
 use mathlib.Core.Path.{_≡_, refl, sym, ap, _∙_}
 use Prim.Native.Nat.{ℕ, _+_, _-_, _*_}
 use lib.ListN.{length, getD, length-set}
-use Rattle.values.proofs.HoldLaws.{rising-kept, uses-marked, zero-put, value-put}
+use Rattle.values.proofs.HoldLaws.{uses-marked, zero-put, value-put}
 use native.Mathlib.Omega.{arith}
 use borrow.Author.Needs.{needs}
 use Rattle.values.proofs.values.put_value.Statement.{statement}
@@ -46,7 +46,7 @@ put-entry-requires : tie.Need-put-entry-requires
 put-entry-requires c κs = let f = c .before .before .before .before .before .before .before .pre .0 in
     let o = c .before .before .before .before .use-region .ensures .1 .only in
     let l = o .long ∙ length-set (c .before .before .before .before .before .before .before .args .work .now) _ _ in
-    (omega (arith, f .body-in, f .used-in, f .slot-to, f .stamp-to, f .first-to), rising-kept f (c .before .before .before .before .before .before .before .args .q) (c .before .before .before .before .before .before .before .args .mark) _ o)
+    omega (arith, f .body-in, f .used-in, f .slot-to, f .stamp-to, f .first-to)
 
 grown-requires-2 : tie.Need-grown-requires-2
 grown-requires-2 c κs = search needs

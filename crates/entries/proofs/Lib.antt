@@ -1,0 +1,5 @@
+pub mod EntryLaws
+pub mod OrderLaws
+pub mod MergeLaws
+pub mod HalfLaws
+pub mod Unique
