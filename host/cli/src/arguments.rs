@@ -1,6 +1,10 @@
 //! What can be said on the command line. The comments are the help's words.
 
+use crate::batch::Batch;
 use crate::check::Check;
+use crate::explain::Explain;
+use crate::manual::{Completions, Man};
+use crate::report::Report;
 use clap::{Args, Parser, Subcommand, ValueEnum};
 use std::path::PathBuf;
 
@@ -24,9 +28,14 @@ pub enum Command {
     Read(Read),
     Show(Show),
     Part(Part),
+    Explain(Explain),
+    Report(Report),
     Pack(Pack),
     Widths(Widths),
     Font(Font),
+    Batch(Batch),
+    Man(Man),
+    Completions(Completions),
 }
 
 impl Command {
@@ -39,9 +48,13 @@ impl Command {
             Command::Read(arguments) => arguments.json,
             Command::Show(arguments) => arguments.json,
             Command::Part(arguments) => arguments.json,
+            Command::Explain(arguments) => arguments.json,
+            Command::Report(arguments) => arguments.json,
             Command::Pack(arguments) => arguments.json,
             Command::Widths(arguments) => arguments.json,
             Command::Font(arguments) => arguments.command.json(),
+            Command::Batch(arguments) => arguments.json,
+            Command::Man(_) | Command::Completions(_) => false,
         }
     }
 }

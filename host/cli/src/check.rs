@@ -14,7 +14,7 @@ use crate::wrong::Wrong;
 use clap::Args;
 use ivs::Refused;
 use std::fmt::Write;
-use std::path::PathBuf;
+use std::path::{Path, PathBuf};
 
 /// Tells all that is wrong with a job or its text, and the bytes of its store in either mode
 #[derive(Args)]
@@ -31,28 +31,20 @@ pub struct Check {
 }
 
 pub fn run(arguments: &Check) -> Result<(), Failure> {
-    let found = match Input::read(&arguments.job, arguments.axes) {
-        Ok(input) => Found::of(&input),
-        Err(Failure::Text(_, wrong)) => Found::of_text(wrong),
-        Err(failure) => return Err(failure),
-    };
+    let bytes = files::read(&arguments.job)?;
+    let (found, _) = Found::read(&arguments.job, &bytes, arguments.axes)?;
     let file = arguments.job.display().to_string();
     files::print(&if arguments.json {
         format!("{}\n", found.json(&file))
     } else {
         found.said(&file)
     })?;
-    if found.is_fine() {
-        return Ok(());
-    }
     // All has been said, and the status is what a build would have.
-    Err(Failure::Some {
-        refused: found.wrong.is_empty(),
-    })
+    found.failure().map_or(Ok(()), Err)
 }
 
 /// What there is to say of a file.
-struct Found {
+pub struct Found {
     is_text: bool,
     /// Axes, regions and sets, of what is sound.
     counts: Option<[usize; 3]>,
@@ -68,6 +60,19 @@ struct Found {
 }
 
 impl Found {
+    /// What there is to say of a file, and the job, unless it is a text that is none.
+    pub fn read(
+        file: &Path,
+        bytes: &[u8],
+        axes: Option<u32>,
+    ) -> Result<(Found, Option<Input>), Failure> {
+        match Input::of(file, bytes.to_vec(), axes) {
+            Ok(input) => Ok((Found::of(&input), Some(input))),
+            Err(Failure::Text(_, wrong)) => Ok((Found::of_text(wrong), None)),
+            Err(failure) => Err(failure),
+        }
+    }
+
     fn of_text(wrong: Vec<Wrong>) -> Found {
         Found {
             is_text: true,
@@ -114,8 +119,33 @@ impl Found {
         found
     }
 
-    fn is_fine(&self) -> bool {
+    pub fn is_fine(&self) -> bool {
         self.wrong.is_empty() && self.refused.is_empty()
+    }
+
+    /// The status of what is not fine; what there is to say has been said.
+    pub fn failure(&self) -> Option<Failure> {
+        let refused = self.wrong.is_empty();
+        (!self.is_fine()).then_some(Failure::Some { refused })
+    }
+
+    /// Which modes take the job.
+    pub fn takes(&self) -> [bool; 2] {
+        let told = self.told.as_ref();
+        [0, 1].map(|mode| told.is_some_and(|told| told[mode].is_ok()))
+    }
+
+    /// The lines that are wrong.
+    pub fn lines(&self) -> impl Iterator<Item = usize> + '_ {
+        self.wrong.iter().map(Wrong::number)
+    }
+
+    /// The records that are refused, none for what is about no record.
+    pub fn places(&self) -> impl Iterator<Item = Option<u64>> + '_ {
+        let of_record = |refused: &Refused| refused.head().contains(" at record ");
+        self.refused
+            .iter()
+            .map(move |(refused, _)| (!self.is_text && of_record(refused)).then_some(refused.place))
     }
 
     fn said(&self, file: &str) -> String {
@@ -154,7 +184,7 @@ impl Found {
         text
     }
 
-    fn json(&self, file: &str) -> Json {
+    pub fn json(&self, file: &str) -> Json {
         let number = |at: usize| Json::from(self.counts.map(|counts| counts[at]));
         let refused = |(refused, words): &(Refused, String)| failure::number(refused, words);
         let told = match &self.told {

@@ -2,8 +2,10 @@
 //! the crate `ivs`; here are files, tables and words.
 
 mod arguments;
+mod batch;
 mod build;
 mod check;
+mod explain;
 mod f2dot14;
 mod failure;
 mod faults;
@@ -12,21 +14,25 @@ mod font;
 mod font_store;
 mod font_table;
 mod forecast;
+mod history;
 mod input;
 mod job;
 mod json;
 mod kind;
+mod manual;
 mod names;
 mod numbers;
 mod pack;
 mod part;
 mod places;
 mod read;
+mod report;
 mod sfnt;
 mod show;
 mod show_job;
 mod show_store;
 mod store;
+mod story;
 mod text;
 mod widths;
 mod words;
@@ -82,8 +88,13 @@ fn run(command: &Command) -> Result<(), Failure> {
         Command::Read(arguments) => read::run(arguments),
         Command::Show(arguments) => show::run(arguments),
         Command::Part(arguments) => part::run(arguments),
+        Command::Explain(arguments) => explain::run(arguments),
+        Command::Report(arguments) => report::run(arguments),
         Command::Pack(arguments) => pack::run(arguments),
         Command::Widths(arguments) => widths::run(arguments),
         Command::Font(arguments) => font::run(arguments),
+        Command::Batch(arguments) => batch::run(arguments),
+        Command::Man(_) => manual::man(),
+        Command::Completions(arguments) => manual::completions(arguments),
     }
 }

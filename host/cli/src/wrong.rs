@@ -32,6 +32,11 @@ impl Wrong {
         }
     }
 
+    /// The line's number.
+    pub fn number(&self) -> usize {
+        self.line
+    }
+
     pub fn json(&self) -> Json {
         object([
             ("line", self.line.into()),
