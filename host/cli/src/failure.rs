@@ -11,7 +11,7 @@ pub enum Failure {
     /// The library refused a file: its name, the refusal, and why in words.
     Refused(String, Refused, String),
     /// Of a file that was refused in both modes: its name, and each mode's refusal and words.
-    Both(String, [(Refused, String); 2]),
+    Both(String, Box<[(Refused, String); 2]>),
     /// A text that is no job: its name, and what is wrong with it.
     Text(String, Vec<Wrong>),
     /// Some of many were refused or went wrong, which has been said; whether all were refused.
@@ -36,9 +36,9 @@ impl Failure {
     pub fn json(&self) -> Option<Json> {
         Some(match self {
             Failure::Refused(file, refused, words) => of_file(file).and(number(refused, words)),
-            Failure::Both(file, [dedup, implicit]) => of_file(file).and(object([
-                ("dedup", number(&dedup.0, &dedup.1)),
-                ("implicit", number(&implicit.0, &implicit.1)),
+            Failure::Both(file, both) => of_file(file).and(object([
+                ("dedup", number(&both[0].0, &both[0].1)),
+                ("implicit", number(&both[1].0, &both[1].1)),
             ])),
             Failure::Text(file, wrong) => {
                 of_file(file).and(object([("wrong", list(wrong, Wrong::json))]))
@@ -69,10 +69,10 @@ impl fmt::Display for Failure {
     fn fmt(&self, f: &mut fmt::Formatter<'_>) -> fmt::Result {
         match self {
             Failure::Refused(file, _, why) => write!(f, "fenikezo: {file}: refused: {why}"),
-            Failure::Both(file, [dedup, implicit]) => write!(
+            Failure::Both(file, both) => write!(
                 f,
                 "fenikezo: {file}: refused: dedup: {}; implicit: {}",
-                dedup.1, implicit.1
+                both[0].1, both[1].1
             ),
             Failure::Text(file, wrong) => {
                 let lines = Wrong::first(wrong).map(|line| format!("fenikezo: {file}: {line}"));

@@ -38,7 +38,7 @@ pub fn refused(input: &Input, dedup: Refused, implicit: Refused) -> Failure {
         return input.refused(dedup);
     }
     let both = [dedup, implicit].map(|refused| (refused, input.words(&refused)));
-    Failure::Both(input.file.display().to_string(), both)
+    Failure::Both(input.file.display().to_string(), Box::new(both))
 }
 
 /// A column a mode, dashes where it is refused; then why it is, or which is smaller.
