@@ -98,11 +98,13 @@ fn has_directory(bytes: &[u8]) -> bool {
     u16_at(bytes, 4).is_some_and(|tables| tables > 0 && (0..tables).all(is_record))
 }
 
-/// Nothing but letters, blanks and ends of lines, in whatever encoding.
+/// Letters, blanks and ends of lines, in whatever encoding; one in ten may be something else,
+/// which the text's own errors name. What begins as a record or a store does is none.
 fn is_text(bytes: &[u8]) -> bool {
     let marked = bytes.starts_with(b"\xFF\xFE") || bytes.starts_with(b"\xFE\xFF");
-    let letter = |byte: &u8| matches!(byte, b'\t'..=b'\r' | b' '..=b'~' | 0x80..);
-    marked || bytes.iter().all(letter)
+    let letter = |byte: &&u8| matches!(byte, b'\t'..=b'\r' | b' '..=b'~' | 0x80..);
+    let letters = bytes.iter().filter(letter).count();
+    marked || bytes.first().is_some_and(|&first| first > 3) && 10 * letters > 9 * bytes.len()
 }
 
 #[cfg(test)]
@@ -116,6 +118,7 @@ mod tests {
         assert_eq!(of(b"r\xE9gion"), Kind::Text);
         assert_eq!(of(b"\xFF\xFEa\0"), Kind::Text);
         assert_eq!(of(b"OTTO is here"), Kind::Text);
+        assert_eq!(of(b"axes 1\nset \x01\n"), Kind::Text);
         assert_eq!(of(&[3, 0, 0, 0, 0, 0, 0, 0, 0, 0, 0, 0]), Kind::Job);
         assert_eq!(of(&[9, 0]), Kind::Job);
         let store = ivs::pack(1, 0, &[]).unwrap().store;

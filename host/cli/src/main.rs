@@ -21,6 +21,7 @@ mod json;
 mod kind;
 mod manual;
 mod names;
+mod near;
 mod numbers;
 mod pack;
 mod part;

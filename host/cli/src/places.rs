@@ -53,30 +53,34 @@ pub fn apart(outputs: &[&Path]) -> Result<(), String> {
             continue;
         };
         if let Some((_, input)) = read.iter().find(|(other, _)| *other == place) {
-            let words = "would be written over: give another output";
-            return Err(format!("{} {words}", one_or_both(input, path)));
+            let (name, other) = (name(input), also(input, path));
+            let comma = if other.is_empty() { "" } else { "," };
+            return Err(format!(
+                "{name}{other}{comma} would be written over: give another output"
+            ));
         }
         if let Some((_, other)) = seen.iter().find(|(other, _)| *other == place) {
-            return Err(format!(
-                "two outputs are to go to {}",
-                one_or_both(other, path)
-            ));
+            let (name, other) = (name(other), also(other, path));
+            return Err(format!("two outputs are to go to {name}{other}"));
         }
         seen.push((place, path));
     }
     Ok(())
 }
 
-/// Two names of one file.
-fn one_or_both(path: &Path, other: &Path) -> String {
-    let name = |path: &Path| match path.to_str() {
+fn name(path: &Path) -> String {
+    match path.to_str() {
         Some("-") => "standard output".to_string(),
         _ => path.display().to_string(),
-    };
-    if path == other {
-        return name(path);
     }
-    format!("{}, which is {} too,", name(path), name(other))
+}
+
+/// The other name of a file, if it has been given by two.
+fn also(path: &Path, other: &Path) -> String {
+    if path == other {
+        return String::new();
+    }
+    format!(", which is {} too", name(other))
 }
 
 /// Where an output goes; none where it may go twice, or nowhere.

@@ -3,6 +3,7 @@
 
 use crate::f2dot14;
 use crate::job::Job;
+use crate::near::nearest;
 use crate::wrong::Wrong;
 use ivs::{JobWriter, Tent};
 use std::collections::HashMap;
@@ -223,7 +224,7 @@ impl<'a> Parsing<'a> {
                 self.wrong(format!("'{word}': the value is no whole number of 32 bits"));
             }
             match self.known.get(name).copied() {
-                None => self.wrong(format!("no region '{name}' before this line")),
+                None => self.unknown(name),
                 Some(Named::Wrong) => {}
                 Some(Named::Region { number, first }) => {
                     if let Some(other) = named.insert(first, name) {
@@ -236,6 +237,17 @@ impl<'a> Parsing<'a> {
         if self.wrong.len() == before && !self.full {
             self.add_set(&values);
         }
+    }
+
+    /// A region that no line before has named, and what was meant.
+    fn unknown(&mut self, name: &str) {
+        // Looked for as long as it is said.
+        let names = self.names.iter().filter(|_| self.wrong.len() < Wrong::SAID);
+        let meant = match nearest(name, names.map(String::as_str)) {
+            Some(meant) => format!("; is it '{meant}'?"),
+            None => String::new(),
+        };
+        self.wrong(format!("no region '{name}' before this line{meant}"));
     }
 
     fn add_set(&mut self, values: &[(u8, i32)]) {
@@ -389,6 +401,18 @@ mod tests {
                 "line 9: 'a=2147483648': the value is no whole number of 32 bits",
                 "line 10: 'sets' begins no line; write 'axes N', 'region NAME START PEAK END ..' \
                  or 'set NAME=VALUE ..'",
+            ]
+        );
+    }
+
+    #[test]
+    fn what_was_meant() {
+        let text = "axes 1\nregion light 0 1 1\nset lihgt=1\nset \u{1B}=1\n";
+        assert_eq!(
+            wrong(text),
+            [
+                "line 3: no region 'lihgt' before this line; is it 'light'?",
+                "line 4: no region '\\u{1b}' before this line",
             ]
         );
     }

@@ -3,9 +3,6 @@
 use crate::json::{object, Json};
 use std::fmt;
 
-/// The most that are said; of the others it is said how many.
-const SAID: usize = 20;
-
 #[derive(Clone, Debug, PartialEq, Eq)]
 pub struct Wrong {
     /// The line's number, from 1.
@@ -16,19 +13,21 @@ pub struct Wrong {
 }
 
 impl Wrong {
+    /// The most that are said; of the others it is said how many.
+    pub const SAID: usize = 20;
+
     pub fn line(line: usize, what: String) -> Wrong {
         Wrong {
             line,
             column: None,
-            what,
+            what: printable(&what),
         }
     }
 
     pub fn at(line: usize, column: usize, what: String) -> Wrong {
         Wrong {
-            line,
             column: Some(column),
-            what,
+            ..Wrong::line(line, what)
         }
     }
 
@@ -47,11 +46,14 @@ impl Wrong {
 
     /// The first of them in words, and how many more there are.
     pub fn first(all: &[Wrong]) -> impl Iterator<Item = String> + '_ {
-        let more = match all.len().saturating_sub(SAID) {
+        let more = match all.len().saturating_sub(Wrong::SAID) {
             0 => None,
             more => Some(format!("and {more} more")),
         };
-        all.iter().take(SAID).map(Wrong::to_string).chain(more)
+        all.iter()
+            .take(Wrong::SAID)
+            .map(Wrong::to_string)
+            .chain(more)
     }
 }
 
@@ -63,4 +65,17 @@ impl fmt::Display for Wrong {
         }
         write!(f, ": {}", self.what)
     }
+}
+
+/// With control characters written out: a terminal would take them for its own.
+fn printable(words: &str) -> String {
+    let mut text = String::new();
+    for letter in words.chars() {
+        if letter.is_control() {
+            text.extend(letter.escape_default());
+        } else {
+            text.push(letter);
+        }
+    }
+    text
 }

@@ -192,3 +192,91 @@ fn a_large_job_opens_soon() {
     assert!(took < Duration::from_secs(60), "{took:?}");
     println!("opened in {took:?}");
 }
+
+/// The lightness of a colour `#rrggbb`, as WCAG has it.
+fn lightness(colour: &str) -> f64 {
+    let part = |at: usize| {
+        let value = u8::from_str_radix(&colour[at..at + 2], 16).unwrap();
+        let value = f64::from(value) / 255.0;
+        if value <= 0.040_45 {
+            value / 12.92
+        } else {
+            ((value + 0.055) / 1.055).powf(2.4)
+        }
+    };
+    0.2126 * part(1) + 0.7152 * part(3) + 0.0722 * part(5)
+}
+
+/// In light and in dark every ink can be read on every ground (4.5 to 1).
+#[test]
+fn inks_can_be_read() {
+    let page = include_str!("../src/page.html");
+    let schemes: Vec<&str> = page.split(":root {").skip(1).take(2).collect();
+    assert_eq!(schemes.len(), 2);
+    for scheme in schemes {
+        let colour = |name: &str| lightness(between(scheme, &format!("--{name}: "), ";"));
+        let grounds = ["paper", "field", "w1", "w2", "w4", "mark"].map(colour);
+        for (number, ground) in grounds.into_iter().enumerate() {
+            // Only what stands in cells has a coloured ground.
+            let inks = if number < 2 {
+                &["ink", "soft", "link", "bad", "warn"][..]
+            } else {
+                &["ink"]
+            };
+            for ink in inks {
+                let (a, b) = (colour(ink), ground);
+                let contrast = (a.max(b) + 0.05) / (a.min(b) + 0.05);
+                assert!(contrast >= 4.5, "{ink} on ground {number}: {contrast}");
+            }
+        }
+    }
+}
+
+/// All that can be pressed is a button, a link or a field, which the keyboard reaches; what
+/// rolls can be rolled by it; and all fields have a label.
+#[test]
+fn the_keyboard_reaches_all() {
+    let folder = folder("report_keys");
+    fs::write(folder.join("text"), TWO_SETS).unwrap();
+    done(&folder, "report text -o page.html");
+    let page = opened(&folder, "page.html");
+    let main = between(&page, "<main", "</main>");
+    let fields = main.matches("<input").count() + main.matches("<select").count();
+    assert_eq!((fields, main.matches("<label>").count()), (2, 2));
+    let rolls = main.matches("class=\"roll\"").count();
+    let reached = main
+        .matches("class=\"roll\" tabindex=\"0\" role=\"group\" aria-label=")
+        .count();
+    assert!(rolls > 0 && rolls == reached);
+    assert!(!page.contains("outline: none") && page.contains(":focus-visible"));
+    assert!(page.contains("<a class=\"skip\" href=\"#main\">"));
+}
+
+#[test]
+fn it_can_be_printed() {
+    let folder = folder("report_print");
+    fs::write(folder.join("text"), TWO_SETS).unwrap();
+    done(&folder, "report text -o page.html");
+    let profile = format!("--user-data-dir={}", folder.join("profile").display());
+    let status = Command::new("timeout")
+        .args([
+            "180",
+            "chromium",
+            "--headless",
+            "--no-sandbox",
+            "--disable-gpu",
+        ])
+        .args([
+            "--disable-dev-shm-usage",
+            &profile,
+            "--print-to-pdf=page.pdf",
+        ])
+        .arg(format!("file://{}/page.html", folder.display()))
+        .current_dir(&folder)
+        .output()
+        .unwrap();
+    assert!(status.status.success(), "{status:?}");
+    assert!(fs::read(folder.join("page.pdf"))
+        .unwrap()
+        .starts_with(b"%PDF"));
+}
