@@ -81,21 +81,27 @@ fn said(story: &Story<'_>, told: &Told) -> String {
         count(told.row_bytes, "byte", "bytes"),
         told.own_bytes
     );
-    if let Some(group) = told.group {
-        let _ = writeln!(text, "  it started in {}", story.group(group));
-        for merge in &told.merges {
-            let _ = writeln!(
-                text,
-                "  {} and {} were joined, which saved {}; what they became has the next free \
-                 number, {}",
-                story.group(merge.first),
-                story.group(merge.second),
-                count(merge.gain as usize, "byte", "bytes"),
-                merge.joined
-            );
-        }
-    }
+    text += &groups(story, told);
     let _ = writeln!(text, "  {}", story.subtable(told.outer));
+    text
+}
+
+/// The group that it started in, and those that it became.
+fn groups(story: &Story<'_>, told: &Told) -> String {
+    let Some(group) = told.group else {
+        return String::new();
+    };
+    let mut text = format!("  it started in {}\n", story.group(group));
+    for merge in &told.merges {
+        let _ = writeln!(
+            text,
+            "  {} and {} were joined, which saved {}; what they became has the next free number, {}",
+            story.group(merge.first),
+            story.group(merge.second),
+            count(merge.gain as usize, "byte", "bytes"),
+            merge.joined
+        );
+    }
     text
 }
 

@@ -172,6 +172,15 @@ fn show(arguments: &FontShow) -> Result<(), Failure> {
     files::print(&text)
 }
 
+/// Why a table of a font cannot be packed anew.
+fn unpacked(font: &Path, table: &str, wrong: Unpacked) -> Failure {
+    let table = format!("{}: {table}", font.display());
+    match wrong {
+        Unpacked::Refused(refused) => Failure::Refused(table, refused, refused.to_string()),
+        Unpacked::Other(words) => Failure::Other(format!("{table}: {words}")),
+    }
+}
+
 fn repack(arguments: &FontRepack) -> Result<(), Failure> {
     let bytes = files::read(&arguments.font)?;
     let font = parse(&arguments.font, &bytes)?;
@@ -183,15 +192,9 @@ fn repack(arguments: &FontRepack) -> Result<(), Failure> {
             json.push(object([("table", name.into()), ("stays", why.into())]));
             continue;
         }
-        let table = one.smaller(font.glyphs).map_err(|wrong| match wrong {
-            Unpacked::Refused(refused) => {
-                let table = format!("{}: {name}", arguments.font.display());
-                Failure::Refused(table, refused, refused.to_string())
-            }
-            Unpacked::Other(words) => {
-                Failure::Other(format!("{}: {name}: {words}", arguments.font.display()))
-            }
-        })?;
+        let table = one
+            .smaller(font.glyphs)
+            .map_err(|wrong| unpacked(&arguments.font, name, wrong))?;
         let _ = writeln!(
             said,
             "{name}: {} bytes, before {}",
