@@ -9,26 +9,34 @@ use std::path::Path;
 use std::process::Command;
 use std::time::{Duration, Instant};
 
-/// The page as the browser has it when its script is done.
-fn opened(folder: &Path, page: &str) -> String {
-    let page = format!("file://{}/{page}", folder.display());
-    let profile = format!("--user-data-dir={}", folder.join("profile").display());
-    let output = Command::new("timeout")
+/// Debian's chromium without a window, for three minutes at most.
+fn chromium(folder: &Path) -> Command {
+    let browser = interop::find("chromium", "/bin/chromium").unwrap();
+    let mut command = Command::new("timeout");
+    command
+        .arg("180")
+        .arg(browser)
         .args([
-            "180",
-            "chromium",
             "--headless",
             "--no-sandbox",
             "--disable-gpu",
-        ])
-        .args([
             "--disable-dev-shm-usage",
-            &profile,
-            "--virtual-time-budget=60000",
         ])
-        .args(["--dump-dom", &page])
+        .arg(format!(
+            "--user-data-dir={}",
+            folder.join("profile").display()
+        ))
+        .current_dir(folder);
+    command
+}
+
+/// The page as the browser has it when its script is done.
+fn opened(folder: &Path, page: &str) -> String {
+    let page = format!("file://{}/{page}", folder.display());
+    let output = chromium(folder)
+        .args(["--virtual-time-budget=60000", "--dump-dom", &page])
         .output()
-        .expect("Debian's chromium is among the peers (host/Makefile)");
+        .unwrap();
     let page = String::from_utf8(output.stdout).unwrap();
     let said = String::from_utf8_lossy(&output.stderr);
     assert!(page.contains("data-drawn=\"yes\""), "{page}\n{said}");
@@ -257,22 +265,9 @@ fn it_can_be_printed() {
     let folder = folder("report_print");
     fs::write(folder.join("text"), TWO_SETS).unwrap();
     done(&folder, "report text -o page.html");
-    let profile = format!("--user-data-dir={}", folder.join("profile").display());
-    let status = Command::new("timeout")
-        .args([
-            "180",
-            "chromium",
-            "--headless",
-            "--no-sandbox",
-            "--disable-gpu",
-        ])
-        .args([
-            "--disable-dev-shm-usage",
-            &profile,
-            "--print-to-pdf=page.pdf",
-        ])
+    let status = chromium(&folder)
+        .arg("--print-to-pdf=page.pdf")
         .arg(format!("file://{}/page.html", folder.display()))
-        .current_dir(&folder)
         .output()
         .unwrap();
     assert!(status.status.success(), "{status:?}");
