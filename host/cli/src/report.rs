@@ -62,8 +62,16 @@ pub fn run(arguments: &Report) -> Result<(), Failure> {
     if arguments.json {
         files::print_beside(&outputs, &format!("{json}\n"))?;
     }
-    // The page says what is wrong, and the status that something is.
-    found.failure().map_or(Ok(()), Err)
+    let Some(failure) = found.failure() else {
+        return Ok(());
+    };
+    for page in outputs {
+        let page = page.display();
+        files::complain(&format!(
+            "fenikezo: {file}: something is wrong, as {page} says"
+        ));
+    }
+    Err(failure)
 }
 
 /// The mode that is asked for, or that takes the job.

@@ -151,7 +151,10 @@ fn what_is_wrong_is_shown() {
     assert!(page.contains("<b>09</b> 09 09 09"), "{page}");
     fs::write(folder.join("text"), "axes 1\nset <b>=1\n").unwrap();
     let (_, said) = ended(&folder, "report text -o page.html", 1);
-    assert_eq!(said, "");
+    assert_eq!(
+        said,
+        "fenikezo: text: something is wrong, as page.html says\n"
+    );
     let page = opened(&folder, "page.html");
     assert!(
         page.contains("line 2: no region '&lt;b&gt;' before this line"),
