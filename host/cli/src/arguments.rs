@@ -1,9 +1,14 @@
 //! What can be said on the command line. The comments are the help's words.
 
+use crate::batch::Batch;
+use crate::check::Check;
+use crate::explain::Explain;
+use crate::manual::{Completions, Man};
+use crate::report::Report;
 use clap::{Args, Parser, Subcommand, ValueEnum};
 use std::path::PathBuf;
 
-const AFTER: &str = "\
+pub const AFTER: &str = "\
 A file '-' is standard input or standard output.
 Exit status: 0 done, 2 refused by number, 1 for anything else. No file is left half written.";
 
@@ -19,23 +24,50 @@ pub struct Arguments {
 pub enum Command {
     Build(Build),
     Forecast(Forecast),
+    Check(Check),
     Read(Read),
     Show(Show),
     Part(Part),
+    Explain(Explain),
+    Report(Report),
     Pack(Pack),
     Widths(Widths),
     Font(Font),
+    Batch(Batch),
+    Man(Man),
+    Completions(Completions),
+}
+
+impl Command {
+    /// Whether JSON is asked for.
+    pub fn json(&self) -> bool {
+        match self {
+            Command::Build(arguments) => arguments.json,
+            Command::Forecast(arguments) => arguments.json,
+            Command::Check(arguments) => arguments.json,
+            Command::Read(arguments) => arguments.json,
+            Command::Show(arguments) => arguments.json,
+            Command::Part(arguments) => arguments.json,
+            Command::Explain(arguments) => arguments.json,
+            Command::Report(arguments) => arguments.json,
+            Command::Pack(arguments) => arguments.json,
+            Command::Widths(arguments) => arguments.json,
+            Command::Font(arguments) => arguments.command.json(),
+            Command::Batch(arguments) => arguments.json,
+            Command::Man(_) | Command::Completions(_) => false,
+        }
+    }
 }
 
 /// Builds the store of a job, and prints the numbers of the build
 #[derive(Args)]
 #[command(after_help = AFTER)]
 pub struct Build {
-    /// The job: records of 12 bytes
+    /// The job: records of 12 bytes, or its text
     pub job: PathBuf,
-    /// The axis count that the job was written for, 1 to 64
+    /// The axis count that the job was written for, 1 to 64; a text has its own
     #[arg(long, value_name = "N")]
-    pub axes: u32,
+    pub axes: Option<u32>,
     /// Equal sets share an id, or every set has its own row in its order
     #[arg(long, value_enum, default_value = "dedup")]
     pub mode: Mode,
@@ -59,7 +91,9 @@ pub struct Build {
 /// The two modes (J2).
 #[derive(Clone, Copy, PartialEq, Eq, ValueEnum)]
 pub enum Mode {
+    #[value(alias = "0")]
     Dedup = 0,
+    #[value(alias = "1")]
     Implicit = 1,
 }
 
@@ -67,11 +101,11 @@ pub enum Mode {
 #[derive(Args)]
 #[command(after_help = AFTER)]
 pub struct Forecast {
-    /// The job: records of 12 bytes
+    /// The job: records of 12 bytes, or its text
     pub job: PathBuf,
-    /// The axis count that the job was written for, 1 to 64
+    /// The axis count that the job was written for, 1 to 64; a text has its own
     #[arg(long, value_name = "N")]
-    pub axes: u32,
+    pub axes: Option<u32>,
     /// Print the numbers as JSON, with the name of the smaller mode, null where both take as many bytes
     #[arg(long)]
     pub json: bool,
@@ -89,20 +123,35 @@ pub struct Read {
     pub inner: u32,
     /// The region's number in the store's list
     pub region: u32,
+    /// Print JSON
+    #[arg(long)]
+    pub json: bool,
 }
 
-/// Shows a job or a store as tables
+const SHOW: &str = "\
+Regions go by the text's names. Those of a job without a text are r0, r1 and so on, by their
+numbers in the job; those of a store are #0, #1 and so on, by their numbers in the store's list,
+which are others, or with --names those of the job's regions of the same coordinates.
+A file '-' is standard input.";
+
+/// Shows a job, its text or a store as tables
 #[derive(Args)]
-#[command(after_help = AFTER)]
+#[command(after_help = SHOW)]
 pub struct Show {
-    /// The job or the store
+    /// The job, its text, or the store
     pub file: PathBuf,
-    /// The axis count of a job; a store has its own
+    /// The axis count of a job; a text or a store has its own
     #[arg(long, value_name = "N")]
     pub axes: Option<u32>,
     /// Show a job in the text form that `pack` reads
-    #[arg(long, requires = "axes")]
+    #[arg(long)]
     pub text: bool,
+    /// The job or the text by whose names the regions of a store are called
+    #[arg(long, value_name = "JOB", conflicts_with = "text")]
+    pub names: Option<PathBuf>,
+    /// Print JSON
+    #[arg(long)]
+    pub json: bool,
 }
 
 /// Tells where two sets of a job part: the region, and both values
@@ -118,6 +167,9 @@ pub struct Part {
     /// The axis count of a job; a text has its own
     #[arg(long, value_name = "N")]
     pub axes: Option<u32>,
+    /// Print JSON
+    #[arg(long)]
+    pub json: bool,
 }
 
 const TEXT: &str = "\
@@ -125,6 +177,7 @@ The text, a line each, in which '#' starts a comment:
   axes N                            first, and once
   region NAME START PEAK END ..     a triple an axis, as in 0 0.5 1
   set NAME=VALUE NAME=VALUE ..      none for the empty set
+All that is wrong is told by its line, up to 20 things.
 Coordinates are taken to the nearest 1/16384 (F2Dot14).";
 
 /// Packs the text form of a job into the job's bytes
@@ -136,6 +189,9 @@ pub struct Pack {
     /// Where to write the job
     #[arg(short = 'o', long = "out", value_name = "JOB")]
     pub job: PathBuf,
+    /// Print what was packed as JSON
+    #[arg(long)]
+    pub json: bool,
 }
 
 /// Builds the width table (HVAR) of a job with a set for each glyph: in both modes, of which
@@ -143,17 +199,20 @@ pub struct Pack {
 #[derive(Args)]
 #[command(after_help = AFTER)]
 pub struct Widths {
-    /// The job: records of 12 bytes, a set a glyph
+    /// The job: records of 12 bytes, or its text, a set a glyph
     pub job: PathBuf,
-    /// The axis count that the job was written for, 1 to 64
+    /// The axis count that the job was written for, 1 to 64; a text has its own
     #[arg(long, value_name = "N")]
-    pub axes: u32,
+    pub axes: Option<u32>,
     /// The mode whose table is written, whichever is smaller
     #[arg(long, value_enum)]
     pub mode: Option<Mode>,
     /// Where to write the table
     #[arg(short = 'o', long = "out", value_name = "HVAR")]
     pub table: PathBuf,
+    /// Print the sizes as JSON
+    #[arg(long)]
+    pub json: bool,
 }
 
 /// Looks at a font's item variation stores, or packs them anew
@@ -169,12 +228,24 @@ pub enum FontCommand {
     Repack(FontRepack),
 }
 
+impl FontCommand {
+    fn json(&self) -> bool {
+        match self {
+            FontCommand::Show(arguments) => arguments.json,
+            FontCommand::Repack(arguments) => arguments.json,
+        }
+    }
+}
+
 /// Shows which tables of a font have a store, their bytes, and what they would take with ours
 #[derive(Args)]
 #[command(after_help = AFTER)]
 pub struct FontShow {
     /// The font: a TrueType or OpenType file
     pub font: PathBuf,
+    /// Print JSON
+    #[arg(long)]
+    pub json: bool,
 }
 
 const REPACK: &str = "\
@@ -191,4 +262,7 @@ pub struct FontRepack {
     /// Where to write the font
     #[arg(short = 'o', long = "out", value_name = "FONT")]
     pub out: PathBuf,
+    /// Print JSON
+    #[arg(long)]
+    pub json: bool,
 }

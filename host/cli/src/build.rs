@@ -3,15 +3,17 @@
 use crate::arguments::Build;
 use crate::failure::Failure;
 use crate::files;
+use crate::input::Input;
 use crate::numbers::{self, Number};
 use std::fmt::Write;
 use std::path::Path;
 
 pub fn run(arguments: &Build) -> Result<(), Failure> {
-    let places = places(arguments)?;
-    let job = files::read(&arguments.job)?;
-    let packed = ivs::pack(arguments.axes, arguments.mode as u32, &job)
-        .map_err(|refused| Failure::refused_job(&arguments.job, arguments.axes, &job, refused))?;
+    let places = places(arguments);
+    let input = Input::read(&arguments.job, arguments.axes)?;
+    let packed = ivs::pack(input.axes, arguments.mode as u32, &input.job)
+        .map_err(|refused| input.refused(refused))?;
+    input.warn();
     let outputs: Vec<(&Path, Vec<u8>)> = places
         .iter()
         .map(|&(path, part)| (path, part(&packed)))
@@ -23,36 +25,24 @@ pub fn run(arguments: &Build) -> Result<(), Failure> {
     } else {
         table(&numbers)
     };
-    // Standard output may be taken by a store, which the numbers must not spoil.
-    if outputs.iter().any(|(path, _)| files::is_standard(path)) {
-        eprint!("{said}");
-        return Ok(());
-    }
-    files::print(&said)
+    let outputs: Vec<&Path> = places.iter().map(|&(path, _)| path).collect();
+    files::print_beside(&outputs, &said)
 }
 
 type Part = fn(&ivs::Packed) -> Vec<u8>;
 
-/// Where each part goes. Two parts in one place would leave only the last of them.
-fn places(arguments: &Build) -> Result<Vec<(&Path, Part)>, Failure> {
+/// Where each part goes.
+fn places(arguments: &Build) -> Vec<(&Path, Part)> {
     let asked: [(&Option<_>, Part); 4] = [
         (&arguments.store, |packed| packed.store.clone()),
         (&arguments.ids, |packed| lines(&packed.ids, 1)),
         (&arguments.map, |packed| lines(&packed.map, 1)),
         (&arguments.log, |packed| lines(&packed.log, 3)),
     ];
-    let mut places: Vec<(&Path, Part)> = Vec::new();
-    for (path, part) in asked {
-        let Some(path) = path.as_deref() else {
-            continue;
-        };
-        if places.iter().any(|&(other, _)| other == path) {
-            let words = format!("two outputs are to go to {}", path.display());
-            return Err(Failure::Other(words));
-        }
-        places.push((path, part));
-    }
-    Ok(places)
+    let given = asked.into_iter();
+    given
+        .filter_map(|(path, part)| Some((path.as_deref()?, part)))
+        .collect()
 }
 
 /// Words as text, so many a line.

@@ -5,7 +5,7 @@ const ONE: f64 = 16_384.0;
 /// The nearest F2Dot14 number, if there is one: from -2 to just below 2.
 pub fn parse(text: &str) -> Option<i16> {
     // Rust also takes `inf` and `1e4`, which nobody means by a coordinate.
-    if !text.bytes().all(|byte| b"-.0123456789".contains(&byte)) {
+    if !text.bytes().all(|byte| b"+-.0123456789".contains(&byte)) {
         return None;
     }
     let number = text.parse::<f64>().ok()? * ONE;
@@ -46,8 +46,14 @@ mod tests {
     }
 
     #[test]
+    fn a_plus_is_taken() {
+        assert_eq!(parse("+1"), Some(0x4000));
+        assert_eq!(parse("+.5"), Some(0x2000));
+    }
+
+    #[test]
     fn what_is_no_coordinate() {
-        for text in ["", "-", "inf", "1e1", "2", "-2.1", "0x1", "1,5"] {
+        for text in ["", "-", "+", "+-1", "inf", "1e1", "2", "-2.1", "0x1", "1,5"] {
             assert_eq!(parse(text), None, "{text}");
         }
     }

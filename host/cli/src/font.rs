@@ -1,10 +1,12 @@
 //! `fenikezo font`: the item variation stores of a font, looked at and packed anew.
 
 use crate::arguments::{Font as Arguments, FontCommand, FontRepack, FontShow};
-use crate::failure::Failure;
+use crate::failure::{self, Failure};
 use crate::files;
 use crate::font_store::{self, Rows, Unpacked, TABLES};
 use crate::font_table::repacked;
+use crate::json::{object, Json};
+use crate::kind::{self, Kind};
 use crate::sfnt::Font;
 use crate::show_job::count;
 use std::fmt::Write;
@@ -75,67 +77,135 @@ fn stored<'a>(font: &Font<'a>) -> Vec<Stored<'a>> {
 }
 
 fn parse<'a>(path: &Path, bytes: &'a [u8]) -> Result<Font<'a>, Failure> {
-    let wrong = |words| Failure::Other(format!("{}: no font: {words}", path.display()));
+    let words = |words: String| match kind::of(bytes) {
+        Kind::Store => "no font but a store: look at it by 'fenikezo show'".to_string(),
+        Kind::Text => "no font but a text".to_string(),
+        _ => format!("no font: {words}"),
+    };
+    let wrong = |wrong| Failure::Other(format!("{}: {}", path.display(), words(wrong)));
     Font::parse(bytes).map_err(wrong)
+}
+
+/// What a table takes, and would take.
+struct Sizes {
+    name: &'static str,
+    bytes: usize,
+    /// Its store, as far as that can be told.
+    store: Option<usize>,
+    /// With ours, in either mode.
+    ours: [Result<usize, Unpacked>; 2],
+    stays: bool,
+}
+
+impl Sizes {
+    fn of(one: &Stored<'_>, glyphs: u32) -> Sizes {
+        Sizes {
+            name: one.name(),
+            bytes: one.table.len(),
+            store: font_store::extent(one.store),
+            ours: [0, 1].map(|mode| one.with_ours(glyphs, mode)),
+            stays: one.bound().is_some(),
+        }
+    }
+
+    fn line(&self) -> String {
+        let own = self
+            .store
+            .map_or("?".to_string(), |bytes| bytes.to_string());
+        let [dedup, implicit] = [&self.ours[0], &self.ours[1]].map(|ours| match ours {
+            Ok(bytes) => bytes.to_string(),
+            Err(Unpacked::Refused(refused)) => format!("refused {}", refused.number),
+            Err(Unpacked::Other(_)) => "-".to_string(),
+        });
+        let left = if self.stays { "  stays as it is" } else { "" };
+        format!(
+            "{:<6}{:>10}{own:>10}{dedup:>12}{implicit:>12}{left}\n",
+            self.name, self.bytes
+        )
+    }
+
+    fn json(&self) -> Json {
+        let ours = |mode: usize| match &self.ours[mode] {
+            Ok(bytes) => object([("bytes", (*bytes).into())]),
+            Err(Unpacked::Refused(refused)) => failure::number(refused, &refused.to_string()),
+            Err(Unpacked::Other(words)) => object([("failed", words.as_str().into())]),
+        };
+        object([
+            ("table", self.name.into()),
+            ("bytes", self.bytes.into()),
+            ("store", self.store.into()),
+            ("dedup", ours(0)),
+            ("implicit", ours(1)),
+            ("stays", self.stays.into()),
+        ])
+    }
 }
 
 fn show(arguments: &FontShow) -> Result<(), Failure> {
     let bytes = files::read(&arguments.font)?;
     let font = parse(&arguments.font, &bytes)?;
-    let mut text = format!(
-        "font: {}, {}\n",
-        count(font.glyphs as usize, "glyph", "glyphs"),
-        count(font.axes, "axis", "axes")
-    );
-    let heads = ["table", "bytes", "store", "dedup", "implicit"];
-    let _ = writeln!(
-        text,
-        "{:<6}{:>10}{:>10}{:>12}{:>12}",
-        heads[0], heads[1], heads[2], heads[3], heads[4]
-    );
-    for one in stored(&font) {
-        let own = font_store::extent(one.store).map_or("?".to_string(), |bytes| bytes.to_string());
-        let [dedup, implicit] = [0, 1].map(|mode| match one.with_ours(font.glyphs, mode) {
-            Ok(bytes) => bytes.to_string(),
-            Err(Unpacked::Refused(refused)) => format!("refused {}", refused.number),
-            Err(Unpacked::Other(_)) => "-".to_string(),
-        });
-        let left = one.bound().map_or("", |_| "  stays as it is");
-        let _ = writeln!(
-            text,
-            "{:<6}{:>10}{own:>10}{dedup:>12}{implicit:>12}{left}",
-            one.name(),
-            one.table.len()
-        );
+    let stored = stored(&font);
+    let sizes = stored.iter().map(|one| Sizes::of(one, font.glyphs));
+    if arguments.json {
+        let json = object([
+            ("glyphs", font.glyphs.into()),
+            ("axes", font.axes.into()),
+            (
+                "tables",
+                Json::List(sizes.map(|sizes| sizes.json()).collect()),
+            ),
+        ]);
+        return files::print(&format!("{json}\n"));
     }
+    let heads = ["table", "bytes", "store", "dedup", "implicit"];
+    let mut text = format!(
+        "font: {}, {}\n{:<6}{:>10}{:>10}{:>12}{:>12}\n",
+        count(font.glyphs as usize, "glyph", "glyphs"),
+        count(font.axes, "axis", "axes"),
+        heads[0],
+        heads[1],
+        heads[2],
+        heads[3],
+        heads[4]
+    );
+    text.extend(sizes.map(|sizes| sizes.line()));
     files::print(&text)
+}
+
+/// Why a table of a font cannot be packed anew.
+fn unpacked(font: &Path, table: &str, wrong: Unpacked) -> Failure {
+    let table = format!("{}: {table}", font.display());
+    match wrong {
+        Unpacked::Refused(refused) => Failure::Refused(table, refused, refused.to_string()),
+        Unpacked::Other(words) => Failure::Other(format!("{table}: {words}")),
+    }
 }
 
 fn repack(arguments: &FontRepack) -> Result<(), Failure> {
     let bytes = files::read(&arguments.font)?;
     let font = parse(&arguments.font, &bytes)?;
-    let (mut new, mut said) = (Vec::new(), String::new());
+    let (mut new, mut said, mut json) = (Vec::new(), String::new(), Vec::new());
     for one in stored(&font) {
         let name = one.name();
         if let Some(why) = one.bound() {
             let _ = writeln!(said, "{name}: left as it is, since {why}");
+            json.push(object([("table", name.into()), ("stays", why.into())]));
             continue;
         }
-        let table = one.smaller(font.glyphs).map_err(|wrong| match wrong {
-            Unpacked::Refused(refused) => {
-                let table = format!("{}: {name}", arguments.font.display());
-                Failure::Refused(table, refused.to_string())
-            }
-            Unpacked::Other(words) => {
-                Failure::Other(format!("{}: {name}: {words}", arguments.font.display()))
-            }
-        })?;
+        let table = one
+            .smaller(font.glyphs)
+            .map_err(|wrong| unpacked(&arguments.font, name, wrong))?;
         let _ = writeln!(
             said,
             "{name}: {} bytes, before {}",
             table.len(),
             one.table.len()
         );
+        json.push(object([
+            ("table", name.into()),
+            ("bytes", table.len().into()),
+            ("before", one.table.len().into()),
+        ]));
         new.push((*one.tag, table));
     }
     if new.is_empty() {
@@ -146,10 +216,8 @@ fn repack(arguments: &FontRepack) -> Result<(), Failure> {
         return Err(Failure::Other(words.trim_end().to_string()));
     }
     files::write(&[(arguments.out.as_path(), font.with(&new))])?;
-    // Standard output may be taken by the font, which this must not spoil.
-    if files::is_standard(&arguments.out) {
-        eprint!("{said}");
-        return Ok(());
+    if arguments.json {
+        said = format!("{}\n", object([("tables", Json::List(json))]));
     }
-    files::print(&said)
+    files::print_beside(&[&arguments.out], &said)
 }

@@ -1,37 +1,44 @@
 //! `fenikezo forecast`: both modes side by side, without building.
 
 use crate::arguments::Forecast;
-use crate::failure::Failure;
+use crate::failure::{self, Failure};
 use crate::files;
+use crate::input::Input;
+use crate::json::{object, Json};
 use crate::numbers;
+use crate::words::MODES;
 use ivs::{Done, Refused};
 use std::fmt::Write;
 
-/// The modes by number.
-const MODES: [&str; 2] = ["dedup", "implicit"];
-
-type Told = Result<Done, Refused>;
+pub type Told = Result<Done, Refused>;
 
 pub fn run(arguments: &Forecast) -> Result<(), Failure> {
-    let (file, axes) = (&arguments.job, arguments.axes);
-    let job = files::read(file)?;
-    let told = [0, 1].map(|mode| ivs::forecast(axes, mode, &job));
-    let why = |refused: &Refused| refused.explain(axes, &job);
+    let input = Input::read(&arguments.job, arguments.axes)?;
+    let told = both(&input);
     if let [Err(dedup), Err(implicit)] = &told {
-        return Err(Failure::Refused(
-            file.display().to_string(),
-            if dedup == implicit {
-                why(dedup)
-            } else {
-                format!("dedup: {}; implicit: {}", why(dedup), why(implicit))
-            },
-        ));
+        return Err(refused(&input, *dedup, *implicit));
     }
+    input.warn();
+    let why = |refused: &Refused| input.words(refused);
     files::print(&if arguments.json {
-        json(&told)
+        format!("{}\n", json(&told, why))
     } else {
         table(&told, why)
     })
+}
+
+/// What each mode says.
+pub fn both(input: &Input) -> [Told; 2] {
+    [0, 1].map(|mode| ivs::forecast(input.axes, mode, &input.job))
+}
+
+/// Of a job that both modes refuse, for the same reason or not.
+pub fn refused(input: &Input, dedup: Refused, implicit: Refused) -> Failure {
+    if dedup == implicit {
+        return input.refused(dedup);
+    }
+    let both = [dedup, implicit].map(|refused| (refused, input.words(&refused)));
+    Failure::Both(input.file.display().to_string(), Box::new(both))
 }
 
 /// A column a mode, dashes where it is refused; then why it is, or which is smaller.
@@ -69,23 +76,17 @@ fn table(told: &[Told; 2], why: impl Fn(&Refused) -> String) -> String {
     text
 }
 
-fn json(told: &[Told; 2]) -> String {
+/// Each mode's numbers or its refusal, and which is smaller.
+pub fn json(told: &[Told; 2], why: impl Fn(&Refused) -> String) -> Json {
     let mode = |told: &Told| match told {
         Ok(done) => numbers::json(&numbers::of(done)),
-        Err(refused) => format!(
-            "{{\"refused\": {}, \"name\": \"{}\", \"place\": {}, \"byte\": {}}}",
-            refused.number,
-            refused.name(),
-            refused.place,
-            refused.byte
-        ),
+        Err(refused) => failure::number(refused, &why(refused)),
     };
-    let smaller = smaller(told).map_or("null".to_string(), |mode| format!("\"{mode}\""));
-    format!(
-        "{{\"dedup\": {}, \"implicit\": {}, \"smaller\": {smaller}}}\n",
-        mode(&told[0]),
-        mode(&told[1])
-    )
+    object([
+        ("dedup", mode(&told[0])),
+        ("implicit", mode(&told[1])),
+        ("smaller", smaller(told).into()),
+    ])
 }
 
 /// The mode whose store takes fewer bytes, or that alone has one; none where both take as

@@ -1,5 +1,6 @@
 //! A job taken apart.
 
+use crate::names;
 use ivs::{Refused, Tent};
 
 const RECORD: usize = 12;
@@ -8,6 +9,8 @@ const SHAPES_FULL: u32 = 10;
 
 pub struct Job {
     pub axes: usize,
+    /// What the regions are called, by number.
+    pub names: Vec<String>,
     pub regions: Vec<Vec<Tent>>,
     /// Region numbers with values, in the order of their records.
     pub sets: Vec<Vec<(u8, i32)>>,
@@ -30,9 +33,11 @@ impl Job {
                 _ => sets.push(std::mem::take(&mut set)),
             }
         }
+        let regions: Vec<Vec<Tent>> = tents.chunks(axes).map(<[_]>::to_vec).collect();
         Ok(Job {
             axes,
-            regions: tents.chunks(axes).map(<[_]>::to_vec).collect(),
+            names: names::of_job(regions.len()),
+            regions,
             sets,
         })
     }

@@ -2,26 +2,42 @@
 //! the crate `ivs`; here are files, tables and words.
 
 mod arguments;
+mod batch;
 mod build;
+mod check;
+mod explain;
 mod f2dot14;
 mod failure;
+mod faults;
 mod files;
 mod font;
 mod font_store;
 mod font_table;
 mod forecast;
+mod history;
+mod input;
 mod job;
+mod json;
+mod kind;
+mod manual;
+mod names;
+mod near;
 mod numbers;
 mod pack;
 mod part;
+mod places;
 mod read;
+mod report;
 mod sfnt;
 mod show;
 mod show_job;
 mod show_store;
 mod store;
+mod story;
 mod text;
 mod widths;
+mod words;
+mod wrong;
 
 use arguments::{Arguments, Command};
 use clap::Parser;
@@ -31,17 +47,35 @@ use std::process::ExitCode;
 fn main() -> ExitCode {
     let arguments = match Arguments::try_parse() {
         Ok(arguments) => arguments,
-        Err(error) => {
-            // Clap's own status for bad usage is 2, which here means refused. Where even
-            // the message cannot be printed, the status still tells.
-            let _ = error.print();
-            return ExitCode::from(u8::from(error.use_stderr()));
-        }
+        Err(error) => return usage(&error),
     };
-    match run(&arguments.command) {
+    let failure = match run(&arguments.command) {
+        Ok(()) => return ExitCode::SUCCESS,
+        Err(failure) => failure,
+    };
+    if let Some(json) = failure.json().filter(|_| arguments.command.json()) {
+        // Where even that cannot be printed, the words and the status still tell.
+        let _ = files::print(&format!("{json}\n"));
+    }
+    let words = failure.to_string();
+    if !words.is_empty() {
+        files::complain(&words);
+    }
+    failure.status()
+}
+
+/// Help that was asked for, or what is wrong with the command line. Clap's own status for
+/// that is 2, which here means refused.
+fn usage(error: &clap::Error) -> ExitCode {
+    let words = error.render().to_string();
+    if error.use_stderr() {
+        files::complain(words.trim_end());
+        return ExitCode::FAILURE;
+    }
+    match files::print(&words) {
         Ok(()) => ExitCode::SUCCESS,
         Err(failure) => {
-            eprintln!("fenikezo: {failure}");
+            files::complain(&failure.to_string());
             failure.status()
         }
     }
@@ -51,11 +85,17 @@ fn run(command: &Command) -> Result<(), Failure> {
     match command {
         Command::Build(arguments) => build::run(arguments),
         Command::Forecast(arguments) => forecast::run(arguments),
+        Command::Check(arguments) => check::run(arguments),
         Command::Read(arguments) => read::run(arguments),
         Command::Show(arguments) => show::run(arguments),
         Command::Part(arguments) => part::run(arguments),
+        Command::Explain(arguments) => explain::run(arguments),
+        Command::Report(arguments) => report::run(arguments),
         Command::Pack(arguments) => pack::run(arguments),
         Command::Widths(arguments) => widths::run(arguments),
         Command::Font(arguments) => font::run(arguments),
+        Command::Batch(arguments) => batch::run(arguments),
+        Command::Man(_) => manual::man(),
+        Command::Completions(arguments) => manual::completions(arguments),
     }
 }

@@ -1,5 +1,7 @@
 //! The numbers of a build or a forecast, for tables and as JSON.
 
+use crate::json::Json;
+
 /// Words for a table, name for JSON, number.
 pub type Number = (&'static str, &'static str, u64);
 
@@ -20,10 +22,7 @@ pub fn of(done: &ivs::Done) -> [Number; 10] {
 }
 
 /// The numbers as a JSON object.
-pub fn json(numbers: &[Number]) -> String {
-    let fields: Vec<String> = numbers
-        .iter()
-        .map(|(_, name, number)| format!("\"{name}\": {number}"))
-        .collect();
-    format!("{{{}}}", fields.join(", "))
+pub fn json(numbers: &[Number]) -> Json {
+    let field = |&(_, name, number): &Number| (name.to_string(), number.into());
+    Json::Object(numbers.iter().map(field).collect())
 }

@@ -3,18 +3,40 @@
 use crate::arguments::Pack;
 use crate::failure::Failure;
 use crate::files;
+use crate::input::Input;
+use crate::json::object;
+use crate::kind::{self, Kind};
 use crate::text::{self, Parsed};
 use std::path::Path;
 
 pub fn run(arguments: &Pack) -> Result<(), Failure> {
     let bytes = files::read(&arguments.text)?;
-    let parsed = parsed(&arguments.text, &bytes)?;
-    files::write(&[(&arguments.job, parsed.job)])
+    if kind::of(&bytes) == Kind::Job {
+        let file = arguments.text.display();
+        return Err(Failure::Other(format!(
+            "{file} is no text, maybe a job already"
+        )));
+    }
+    if bytes.is_empty() {
+        return parsed(&arguments.text, &bytes).map(|_| ());
+    }
+    let input = Input::of(&arguments.text, bytes, None)?;
+    input.warn();
+    files::write(&[(&arguments.job, input.job.clone())])?;
+    if !arguments.json {
+        return Ok(());
+    }
+    let job = input.decode()?;
+    let json = object([
+        ("axes", job.axes.into()),
+        ("regions", job.regions.len().into()),
+        ("sets", job.sets.len().into()),
+        ("bytes", input.job.len().into()),
+    ]);
+    files::print_beside(&[&arguments.job], &format!("{json}\n"))
 }
 
 /// The job of a text, or what is wrong with the file.
 pub fn parsed(file: &Path, bytes: &[u8]) -> Result<Parsed, Failure> {
-    let wrong = |what: String| Failure::Other(format!("{}: {what}", file.display()));
-    let said = std::str::from_utf8(bytes).map_err(|error| wrong(error.to_string()))?;
-    text::parse(said).map_err(|(line, what)| wrong(format!("line {line}: {what}")))
+    text::parse(bytes).map_err(|wrong| Failure::Text(file.display().to_string(), wrong))
 }

@@ -2,39 +2,67 @@
 
 use crate::arguments::Show;
 use crate::failure::Failure;
-use crate::job::Job;
+use crate::input::Input;
+use crate::kind::{self, Kind};
 use crate::store::Store;
-use crate::{files, show_job, show_store, text};
-use std::path::Path;
+use crate::{files, names, show_job, show_store, text};
 
 pub fn run(arguments: &Show) -> Result<(), Failure> {
     let bytes = files::read(&arguments.file)?;
     // A store begins with its format, 0001, and no record of a job has kind 0.
-    if !arguments.text && bytes.first() == Some(&0) {
-        return store(&arguments.file, &bytes);
+    let is_store = bytes.first() == Some(&0) && kind::of(&bytes) != Kind::Font;
+    if is_store && !arguments.text {
+        return store(arguments, &bytes);
     }
-    let axes = arguments.axes.ok_or_else(|| {
+    if arguments.names.is_some() {
         let file = arguments.file.display();
-        Failure::Other(format!("{file} is a job: say --axes N"))
-    })?;
-    let job = Job::decode(axes, &bytes)
-        .map_err(|refused| Failure::refused_job(&arguments.file, axes, &bytes, refused))?;
-    files::print(&if arguments.text {
+        return Err(Failure::Other(format!(
+            "{file} is no store: leave out --names"
+        )));
+    }
+    let input = Input::of(&arguments.file, bytes, arguments.axes)?;
+    let job = input.decode()?;
+    input.warn();
+    files::print(&if arguments.json {
+        format!("{}\n", show_job::json(&job))
+    } else if arguments.text {
         text::text(&job)
     } else {
         show_job::table(&job)
     })
 }
 
-fn store(file: &Path, bytes: &[u8]) -> Result<(), Failure> {
-    let refused = |refused| Failure::refused(file, refused);
+fn store(arguments: &Show, bytes: &[u8]) -> Result<(), Failure> {
+    let refused = |refused| kind::refused_store(&arguments.file, bytes, refused);
     let store = Store::decode(bytes).map_err(refused)?;
-    files::print(&show_store::head(&store))?;
+    let job = match &arguments.names {
+        // The job's axis count is the store's, or they have nothing to do with each other.
+        Some(file) => {
+            let axes = arguments.axes.unwrap_or(store.axes as u32);
+            let bytes = files::read(file)?;
+            let axes = Some(axes).filter(|_| kind::of(&bytes) != Kind::Text);
+            Some(Input::of(file, bytes, axes)?.decode()?)
+        }
+        None => None,
+    };
+    let names = names::of_store(&store.regions, job.as_ref());
+    let subtable = |outer| store.subtable(outer).map_err(refused);
+    // Nothing is said of a store that is refused.
+    (0..store.subtables()).try_for_each(|outer| subtable(outer).map(|_| ()))?;
     // One after another: together they may be far more than the file, since the subtables
     // of a store that others wrote may share bytes.
+    if arguments.json {
+        files::print(&show_store::json_head(&store, &names))?;
+        for outer in 0..store.subtables() {
+            let json = show_store::json_subtable(&names, subtable(outer)?.as_ref());
+            files::print(&format!("{}{json}", if outer == 0 { "" } else { ", " }))?;
+        }
+        return files::print("]}\n");
+    }
+    files::print(&show_store::head(&store, &names))?;
     for outer in 0..store.subtables() {
-        let subtable = store.subtable(outer).map_err(refused)?;
-        files::print(&show_store::subtable(outer, subtable.as_ref()))?;
+        let text = show_store::subtable(outer, &names, subtable(outer)?.as_ref());
+        files::print(&text)?;
     }
     Ok(())
 }

@@ -1,25 +1,27 @@
 //! `fenikezo widths`.
 
 use crate::arguments::{Mode, Widths};
-use crate::failure::Failure;
+use crate::failure::{self, Failure};
 use crate::files;
+use crate::input::Input;
+use crate::json::{object, Json};
+use crate::words::MODES;
 use ivs::Refused;
 use std::fmt::Write;
 
 pub fn run(arguments: &Widths) -> Result<(), Failure> {
-    let job = files::read(&arguments.job)?;
+    let input = Input::read(&arguments.job, arguments.axes)?;
     let tables =
-        [Mode::Dedup, Mode::Implicit].map(|mode| (mode, table(arguments.axes, mode, &job)));
-    let (mode, table) = taken(&tables, arguments.mode)
-        .map_err(|refused| Failure::refused_job(&arguments.job, arguments.axes, &job, refused))?;
+        [Mode::Dedup, Mode::Implicit].map(|mode| (mode, table(input.axes, mode, &input.job)));
+    let (mode, table) = taken(&tables, arguments.mode).map_err(|refused| input.refused(refused))?;
+    input.warn();
     files::write(&[(arguments.table.as_path(), table.to_vec())])?;
-    let said = sizes(&tables, mode);
-    // Standard output may be taken by the table, which the sizes must not spoil.
-    if files::is_standard(&arguments.table) {
-        eprint!("{said}");
-        return Ok(());
-    }
-    files::print(&said)
+    let said = if arguments.json {
+        format!("{}\n", json(&input, &tables, mode))
+    } else {
+        sizes(&tables, mode)
+    };
+    files::print_beside(&[&arguments.table], &said)
 }
 
 type Built = Result<Vec<u8>, Refused>;
@@ -53,10 +55,7 @@ fn taken(tables: &[(Mode, Built); 2], asked: Option<Mode>) -> Result<(Mode, &[u8
 fn sizes(tables: &[(Mode, Built); 2], written: Mode) -> String {
     let mut text = String::new();
     for (mode, table) in tables {
-        let name = match mode {
-            Mode::Dedup => "dedup",
-            Mode::Implicit => "implicit",
-        };
+        let name = MODES[*mode as usize];
         let mark = if *mode == written { "  written" } else { "" };
         // Writing to a string cannot fail.
         let _ = match table {
@@ -70,4 +69,17 @@ fn sizes(tables: &[(Mode, Built); 2], written: Mode) -> String {
         };
     }
     text
+}
+
+/// Each mode's bytes or its refusal, and which is written.
+fn json(input: &Input, tables: &[(Mode, Built); 2], written: Mode) -> Json {
+    let table = |(_, table): &(Mode, Built)| match table {
+        Ok(table) => object([("bytes", table.len().into())]),
+        Err(refused) => failure::number(refused, &input.words(refused)),
+    };
+    object([
+        ("dedup", table(&tables[0])),
+        ("implicit", table(&tables[1])),
+        ("written", MODES[written as usize].into()),
+    ])
 }

@@ -145,6 +145,42 @@ fn stores_are_shown() {
 }
 
 #[test]
+fn as_json() {
+    let font = &fonts().unwrap()[2];
+    let folder = folder("font_json");
+    let json = |command: &mut Command| {
+        let output = command.arg("--json").output().unwrap();
+        assert_eq!(output.status.code(), Some(0), "{output:?}");
+        let json = String::from_utf8(output.stdout).unwrap();
+        let program = "import json, sys; json.loads(sys.argv[1])";
+        let read = Command::new("/usr/bin/python3")
+            .args(["-c", program, &json])
+            .status();
+        assert!(read.unwrap().success(), "{json}");
+        json
+    };
+    let shown = json(fenikezo().args(["font", "show"]).arg(font));
+    let first =
+        "{\"glyphs\": 1322, \"axes\": 1, \"tables\": [{\"table\": \"HVAR\", \"bytes\": 3392, ";
+    assert!(shown.starts_with(first), "{shown}");
+    assert!(shown.contains("\"implicit\": {\"bytes\": "), "{shown}");
+    assert!(shown.ends_with("\"stays\": true}]}\n"), "{shown}");
+    let mut command = fenikezo();
+    command
+        .args(["font", "repack"])
+        .arg(font)
+        .arg("-o")
+        .arg(folder.join("new"));
+    let packed = json(&mut command);
+    let first = "{\"tables\": [{\"table\": \"HVAR\", \"bytes\": 3384, \"before\": 3392}, ";
+    assert!(packed.starts_with(first), "{packed}");
+    assert!(
+        packed.contains("{\"table\": \"GDEF\", \"stays\": \"its rows are named "),
+        "{packed}"
+    );
+}
+
+#[test]
 fn what_is_no_font_is_said_and_nothing_is_written() {
     let folder = folder("no-font");
     let font = fs::read(&fonts().unwrap()[0]).unwrap();

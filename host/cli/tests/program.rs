@@ -142,12 +142,12 @@ fn a_forecast_where_one_mode_refuses() {
         told.contains("\nsubtables              -          1\n"),
         "{told}"
     );
-    let last = "\ndedup is refused: 10 SHAPES_FULL: the sets have more than 1,024 shapes; \
-                use mode 1, or split the job\n";
+    let last = "\ndedup is refused: 10 SHAPES_FULL: the sets have more than 1,024 shapes, \
+                too many for --mode dedup; --mode implicit takes them\n";
     assert!(told.ends_with(last), "{told}");
     let told = done(&folder, "forecast job --axes 1 --json");
-    let refused =
-        "{\"dedup\": {\"refused\": 10, \"name\": \"SHAPES_FULL\", \"place\": 0, \"byte\": 0}, ";
+    let refused = "{\"dedup\": {\"refused\": 10, \"name\": \"SHAPES_FULL\", \"place\": 0, \
+                   \"byte\": 0, \"words\": \"10 SHAPES_FULL: ";
     assert!(told.starts_with(refused), "{told}");
     assert!(told.ends_with(", \"smaller\": \"implicit\"}\n"), "{told}");
     fs::write(
@@ -168,13 +168,10 @@ fn a_forecast_where_one_mode_refuses() {
 fn a_forecast_where_both_refuse() {
     let folder = folder("forecast_both");
     fs::write(folder.join("job"), &example("two-sets.job")[..5 * 12]).unwrap();
-    for json in ["", " --json"] {
-        let said = failed(&folder, &format!("forecast job --axes 1{json}"), 2);
-        let why =
-            "fenikezo: job: refused: 8 UNFINISHED after record 5 (byte 60): the last set has \
-                   no end record; ";
-        assert!(said.starts_with(why), "{said}");
-    }
+    let said = failed(&folder, "forecast job --axes 1", 2);
+    let why = "fenikezo: job: refused: 8 UNFINISHED after record 5 (byte 60): the last set has \
+               no end record; ";
+    assert!(said.starts_with(why), "{said}");
 }
 
 #[test]
@@ -186,9 +183,9 @@ fn where_two_sets_part() {
     let alike = "set 0 and set 2 are equal\n";
     assert_eq!(done(&folder, "part text 0 2"), alike);
     assert_eq!(done(&folder, "part job 0 2 --axes 2"), alike);
-    let named = "set 0 and set 1 part at bold: 10 and -3\n";
+    let named = "set 0 and set 1 part at bold (0 1 1, 0 0 0): 10 and -3\n";
     assert_eq!(done(&folder, "part text 0 1"), named);
-    let numbered = "set 3 and set 0 part at region 1 (0 1 1, 0 0 0): 0 and 10\n";
+    let numbered = "set 3 and set 0 part at r1 (0 1 1, 0 0 0): 0 and 10\n";
     assert_eq!(done(&folder, "part job 3 0 --axes 2"), numbered);
     for file in ["text", "job --axes 2"] {
         let said = failed(&folder, &format!("part {file} 0 4"), 2);
@@ -196,7 +193,10 @@ fn where_two_sets_part() {
         assert!(said.contains(why), "{said}");
     }
     let said = failed(&folder, "part job 0 1", 1);
-    assert_eq!(said, "fenikezo: job is a job: say --axes N\n");
+    assert_eq!(
+        said,
+        "fenikezo: job is a job: say --axes N (it looks like 2)\n"
+    );
     let said = failed(&folder, "part job 0 1 --axes 1", 2);
     assert!(
         said.ends_with("; the job looks as if written for 2 axes\n"),
@@ -280,6 +280,6 @@ fn widths_of_a_shown_store() {
     done(&folder, "build job --axes 1 -o store");
     let shown = done(&folder, "show store");
     let words: Vec<&str> = shown.split_whitespace().collect();
-    let end = ["row", "r1:4", "r0:2", "0", "-70000", "-100"];
+    let end = ["row", "#1:4", "#0:2", "0", "-70000", "-100"];
     assert_eq!(words[words.len() - end.len()..], end);
 }

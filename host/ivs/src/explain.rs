@@ -183,8 +183,17 @@ fn nothing(record: &[u8], byte: u64) -> Option<&'static str> {
     })
 }
 
-/// The axis count that all axis records at the job's head agree on.
-fn written_for(job: &[u8]) -> Option<usize> {
+/// The axis count that all axis records at a job's head agree on: what the job was most likely
+/// written for.
+///
+/// ```
+/// let mut job = ivs::JobWriter::new(2);
+/// job.region(&[(0, 0x4000, 0x4000), (0, 0, 0)])?;
+/// assert_eq!(ivs::written_for(&job.finish()), Some(2));
+/// assert_eq!(ivs::written_for(&[]), None);
+/// # Ok::<(), ivs::JobError>(())
+/// ```
+pub fn written_for(job: &[u8]) -> Option<usize> {
     let head = job.chunks_exact(RECORD).take_while(|record| record[0] == 1);
     let numbers: Vec<(usize, usize)> = head
         .map(|record| (usize::from(record[1]), usize::from(record[2])))

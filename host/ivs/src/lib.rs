@@ -11,8 +11,8 @@
 //! * [`write_widths`], [`read_width`]: the width table of a store and such a map.
 //!
 //! No input makes a call go wrong: it is done exactly, or refused by number and place
-//! with nothing written; [`Refused::explain`] says what stands there and what was due. What
-//! was lent may hold anything before.
+//! with nothing written; [`Refused::explain`] says what stands there and what was due, and
+//! [`written_for`] guesses the axis count. What was lent may hold anything before.
 //!
 //! ```
 //! let mut job = ivs::JobWriter::new(1);
@@ -38,6 +38,7 @@ mod wording;
 mod writer;
 
 pub use building::{build_into, build_report, pack, work_words, Done, Lent, Packed, Pair, PAIRS};
+pub use explain::written_for;
 pub use forecast::{forecast, forecast_report, forecast_with};
 pub use glyphs::{read_glyph, write_glyphs, write_glyphs_into, GLYPHS};
 pub use part::{part, part_report, part_with, Parted, Parting};

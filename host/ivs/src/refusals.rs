@@ -119,8 +119,13 @@ impl Refused {
         wording::of(self.number).0
     }
 
-    /// Number, name and place.
-    pub(crate) fn head(&self) -> String {
+    /// Number, name and place: what every account of a refusal begins with.
+    ///
+    /// ```
+    /// let refused = ivs::pack(1, 0, &[0; 12]).unwrap_err();
+    /// assert_eq!(refused.head(), "30 UNKNOWN_KIND at record 0 (byte 0)");
+    /// ```
+    pub fn head(&self) -> String {
         let (number, name) = (self.number, self.name());
         let (record, byte) = (self.place, RECORD as u64 * self.place);
         match number {
