@@ -1,0 +1,4 @@
+pub mod FoldLaws
+pub mod NamedLaws
+pub mod RunsLaws
+pub mod GroupLaws
