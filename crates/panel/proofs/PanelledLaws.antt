@@ -124,6 +124,12 @@ module _ (p : Profile) (job : List ℕ) (o : Outcome) (limit : ℕ) (l : limit �
   unfolding panelled oddElse
   odd-passes z = rw (← l, ← e, eq-eqb (x .no) 0 z)
 
+-- no record stands before what was refused at place 0
+pub panelled-early : (p : Profile) (job : List ℕ) (o : Outcome) (n i : ℕ) → o ≡ refused n i → i ≡ 0 → panelled p job o ≡ refused n i
+unfolding panelled oddOf oddElse readRecords firstOf
+panelled-early Plain job o n i e z = e
+panelled-early Panel job o n i e z = rw (e, z)
+
 -- how many records were read
 pub read-fine : (n : ℕ) (o : Outcome) (s : Said) → o ≡ fine s → n ≡ readRecords n o
 unfolding readRecords
