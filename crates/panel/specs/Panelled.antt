@@ -1,4 +1,4 @@
--- A job as a profile takes it: the earliest bad record answers, and at one record document 01's checks come before the profile's (RULES T2, T6). What is
+-- A job as a profile takes it: the earliest bad record answers, and at one record the checks that every build makes come before the profile's (RULES T2, T7). What is
 -- read is as without it. Assumes nothing.
 use mathlib.Core.List.{List}
 use Prim.Native.Nat.{ℕ, zero, suc, _+_}

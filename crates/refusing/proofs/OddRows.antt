@@ -1,4 +1,4 @@
--- R70, R71: the panel's profile refuses at record i exactly where that record is fine by document 01's checks, all before it by both, and it is odd; every
+-- R70, R71: the panel's profile refuses at record i exactly where that record is fine by the checks that every build makes, all before it by both, and it is odd; every
 -- other refusal is as without the profile, and what it takes is taken as without it. Assumes nothing.
 use mathlib.Core.Path.{_≡_, refl, sym, ap, subst, _∙_}
 use mathlib.Core.Bool.{Bool, true, false, not, _||_}
@@ -145,7 +145,7 @@ module _ (axes mode : ℕ) (job : List ℕ) where
       given : EarliestOdd axes mode job i Why → panelled Panel job walked ≡ refused n i
       given b =
           let e = x .given (b .why) in
-          panelled-odd job walked i (reads .reached i (b .within) (b .all-fine)) (λ j h. takes-given job j (b .before-taken j h)) (λ z. let h = big (panelNo (recordAt job i)) e in omega arith)
+          panelled-odd job walked i (reads .reached i (b .within) (λ j h. b .all-fine j (omega arith))) (λ j h. takes-given job j (b .before-taken j h)) (λ z. let h = big (panelNo (recordAt job i)) e in omega arith)
           ∙ ap (λ (k : ℕ). refused k i) e
 
       go : panelled Panel job walked ≡ refused n i → panel.Way job walked → EarliestOdd axes mode job i Why

@@ -1,4 +1,4 @@
--- R70 and R71 by a job's bytes: where the panel's profile refuses a record that document 01's checks take (T2, T6). Assumes nothing.
+-- R70 and R71 by a job's bytes: where the panel's profile refuses a record that the checks of every build take (T2, T7). Assumes nothing.
 use mathlib.Core.Path.{_≡_}
 use mathlib.Core.Bool.{false}
 use mathlib.Core.List.{List}
@@ -22,7 +22,7 @@ pub record PanelTakes (job : List ℕ) (j : ℕ) : Type 0 where
   pub not-long : LongValue (recordAt job j) → ⊥
   pub not-bad : BadAxis (recordAt job j) → ⊥
 
--- record i is fine by document 01's checks, all before it by both, and this is so of it
+-- record i is fine by the checks of every build, all before it by both, and this is so of it
 pub record EarliestOdd (axes mode : ℕ) (job : List ℕ) (i : ℕ) (Why : Type 0) : Type 0 where
   pub within : i < recordCount job
   pub all-fine : AllFine axes mode job (suc i)

@@ -1,6 +1,6 @@
 //! `fenikezo build`.
 
-use crate::arguments::Build;
+use crate::arguments::{Build, Profile};
 use crate::failure::Failure;
 use crate::files;
 use crate::numbers::{self, Number};
@@ -10,7 +10,11 @@ use std::path::Path;
 pub fn run(arguments: &Build) -> Result<(), Failure> {
     let places = places(arguments)?;
     let job = files::read(&arguments.job)?;
-    let packed = ivs::pack(arguments.axes, arguments.mode as u32, &job)
+    let profile = match arguments.profile {
+        Profile::Plain => ivs::Profile::Plain,
+        Profile::Panel => ivs::Profile::Panel,
+    };
+    let packed = ivs::pack_for(profile, arguments.axes, arguments.mode as u32, &job)
         .map_err(|refused| Failure::refused_job(&arguments.job, arguments.axes, &job, refused))?;
     let outputs: Vec<(&Path, Vec<u8>)> = places
         .iter()

@@ -27,6 +27,9 @@ pub mod number {
     pub const AXIS_TOO_LATE: u32 = 33;
     pub const REGION_UNFINISHED: u32 = 34;
     pub const NO_SET: u32 = 64;
+    pub const LONG_VALUE: u32 = 70;
+    pub const BAD_REGION: u32 = 71;
+    pub const WIDE_SUBTABLE: u32 = 72;
 }
 
 /// The name of a refusal number.
@@ -54,6 +57,9 @@ pub fn name(refusal: u32) -> &'static str {
         number::AXIS_TOO_LATE => "AXIS_TOO_LATE",
         number::REGION_UNFINISHED => "REGION_UNFINISHED",
         number::NO_SET => "NO_SET",
+        number::LONG_VALUE => "LONG_VALUE",
+        number::BAD_REGION => "BAD_REGION",
+        number::WIDE_SUBTABLE => "WIDE_SUBTABLE",
         _ => "unknown",
     }
 }

@@ -19,7 +19,7 @@ use contract.Monad.{Fun, fact, factI}
 use contract.Running.{givenOf, tables, tablesOf}
 use types.Kit.{Given, Item, ‵, raw, later, _⊛_, ⋆, mean, Sq, runs, atRet, _$_, _∵_, !, qed, by, move, drop, use0, use1, split, join, pick, learn, rewrite, fsplit, fjoin, suffices, frame, await, now as at-once, done}
 use types.Part.{agg, whole, sub, look-in}
-use types.Run.{look, init, forget, stop, hop, fld, from, load, addr, and-then, no-more, assigns, calls, land, returns, enter, alloc1, alloc0, params1, pass1, pass0, free1, free0}
+use types.Run.{look, init, forget, stop, hop, fld, from, load, lit, addr, and-then, no-more, assigns, calls, land, returns, enter, alloc1, alloc0, params1, pass1, pass0, free1, free0}
 use sound.WpLaws.{FmC, fmOf, WpFn-mono}
 use denote.RattleType.{owns}
 use denote.Memory.{pointee}
@@ -38,14 +38,18 @@ use denote.Triple.Table.{entered, cited}
 use denote.Triple.Walked.{Stays, stay-ref, stay-slice, stay-none-slice, stay-none, walkOf, goes-ref, goes-slice, goes-none-slice, goes-none, Walks, ends-at, walked, walk-meets}
 use denote.Exit.{yes}
 use Rattle.finishing.specs.Buffers.{buffers}
-use Rattle.packer.specs.Lending.{lending, leaves}
+use Rattle.call.specs.Lending.{lending, leaves}
+use Rattle.packer.proofs.BuildLaws.{plain-obeys}
 use Rattle.ivs.specs.Answered.{Answered}
-use Rattle.ivs.proofs.TellLaws.{answer-few, answer-within}
+use Rattle.ivs.proofs.FewLaws.{answer-few, answer-within}
 use Rattle.pairs.specs.declared.Pair.{Pair}
 use Rattle.pairs.proofs.Pair as T
 use Rattle.finishing.specs.declared.answers.Built.{Built}
 use Rattle.finishing.proofs.answers.Built as D
 use Rattle.finishing.proofs.answers.Built.Laws as D′
+use Rattle.panel.proofs.Profile as E
+use Rattle.panel.proofs.Profile.Laws as E′
+use Rattle.panel.specs.declared.Profile.the-variants.{Plain}
 use Rattle.pairs.proofs.Slices.{ref, Has, Sees}
 use Rattle.pairs.proofs.Refs.{HasRef, at-ref}
 use Rattle.pairs.proofs.Clauses.{needs-none}
@@ -53,9 +57,9 @@ use Rattle.ivs.proofs.Calls.{Build-of, Tell-of, build-see-mut-mut-mut-m
 use Rattle.packer.proofs.build.Symbol as build-def
 use Rattle.packer.proofs.build.Symbol.{name as #packer·build}
 use Rattle.packer.proofs.build.Met as build-thm
-use Rattle.ivs.proofs.report.tell.Symbol as tell-def
-use Rattle.ivs.proofs.report.tell.Symbol.{name as #ivs·tell}
-use Rattle.ivs.proofs.report.tell.Met as tell-thm
+use Rattle.reporting.proofs.tell.Symbol as tell-def
+use Rattle.reporting.proofs.tell.Symbol.{name as #reporting·tell}
+use Rattle.reporting.proofs.tell.Met as tell-thm
 use Rattle.ivs.proofs.ivs_build.Key.{name as #ivs·ivs-build}
 use Rattle.ivs.proofs.ivs_build as ivs-build
 use Rattle.ivs.proofs.ivs_build.Statement as stated
@@ -156,7 +160,7 @@ module _ {M : Type 1} (𝓤 : URA M) (H : Heap 𝓤) (A : Atoms 𝓤) (W : Given
       qed W (Slice job ∷ Slice₂ work′ ∷ Slice₃ pairs′ ∷ Slice₄ out′ ∷ Slice₅ ids′ ∷ Slice₆ map′ ∷ Slice₇ log′ ∷ Slice₈ report′ ∷ []) ∵ suffices ! _ (ends-at 𝓤 H A ivs-build.ended stayed (ivs-build.clauses 𝓤 H A mem run) W bound (vint w32 r) r (tt, (tt, (tt, (work′, (pairs′, (out′, (ids′, (map′, (log′, (report′, tt)))))))))) (tt, (tt, (tt, (long₂, (long₃, (long₄, (long₅, (long₆, (long₇, (tt, tt))))))))))) $
       split ! $ move ! (2 ∷ []) $ split ! $ move ! (4 ∷ []) $ split ! $ move ! (6 ∷ []) $ split ! $ move ! (8 ∷ []) $ split ! $ move ! (10 ∷ []) $ split ! $ move ! (12 ∷ []) $ split ! $ move ! (14 ∷ []) $ split ! $ nothing ! $ move ! (2 ∷ 0 ∷ []) $ join ! $ move ! (3 ∷ 0 ∷ []) $ join ! $ move ! (4 ∷ 0 ∷ []) $ join ! $ move ! (5 ∷ 0 ∷ []) $ join ! $ move ! (6 ∷ 0 ∷ []) $ join ! $ move ! (7 ∷ 0 ∷ []) $ join ! $ move ! (8 ∷ 0 ∷ []) $ join ! $ move ! (9 ∷ 0 ∷ []) $ join ! $ owned ! u32 (Is u32) (uint-makes 𝓤 H A W w32) r _ (refl, g) $ nothing ! $ move ! (3 ∷ 0 ∷ []) $ fjoin ! $ move ! (3 ∷ 0 ∷ []) $ fjoin ! $ move ! (3 ∷ 0 ∷ []) $ fjoin ! $ move ! (3 ∷ 0 ∷ []) $ fjoin ! $ move ! (3 ∷ 0 ∷ []) $ fjoin ! $ move ! (3 ∷ 0 ∷ []) $ fjoin ! $ move ! (3 ∷ 0 ∷ []) $ fjoin ! $ move ! (3 ∷ 0 ∷ []) $ fjoin ! $ owned ! u32 (Is u32) (uint-makes 𝓤 H A W w32) mode _ (refl, g-mode) $ fjoin ! $ owned ! u32 (Is u32) (uint-makes 𝓤 H A W w32) axes _ (refl, g-axes) $ fjoin ! $ join ! $ move ! (1 ∷ 0 ∷ []) $ join ! $ frame ! $ use0 W (raw (fact 𝓤 (Answered (lending axes mode job work pairs (buffers out ids map log)) r (leaves work′ pairs′ (buffers out′ ids′ map′ log′)) report report′))) (factI 𝓤 (Answered (lending axes mode job work pairs (buffers out ids map log)) r (leaves work′ pairs′ (buffers out′ ids′ map′ log′)) report report′) (emp 𝓤) e) $ done !
 
-  module _ (𝓣 : AllCalls 𝓤 H) (known-build : Triple 𝓤 (𝓣 .C #packer·build) (Build-of 𝓤 H A mem run)) (known-tell : Triple 𝓤 (𝓣 .C #ivs·tell) (Tell-of 𝓤 H A mem run)) (sized : Room u8 ν) (sized₂ : Room u32 ν₂) (sized₃ : Room T.the-row ν₃) (sized₄ : Room u8 ν₄) (sized₅ : Room u32 ν₅) (sized₆ : Room u32 ν₆) (sized₇ : Room u32 ν₇) where
+  module _ (𝓣 : AllCalls 𝓤 H) (known-build : Triple 𝓤 (𝓣 .C #packer·build) (Build-of 𝓤 H A mem run)) (known-tell : Triple 𝓤 (𝓣 .C #reporting·tell) (Tell-of 𝓤 H A mem run)) (sized : Room u8 ν) (sized₂ : Room u32 ν₂) (sized₃ : Room T.the-row ν₃) (sized₄ : Room u8 ν₄) (sized₅ : Room u32 ν₅) (sized₆ : Room u32 ν₆) (sized₇ : Room u32 ν₇) where
     abbrev C : Calls 𝓤 H
     C = 𝓣 .C
 
@@ -169,27 +173,28 @@ module _ {M : Type 1} (𝓤 : URA M) (H : Heap 𝓤) (A : Atoms 𝓤) (W : Given
     small : (k : ℕ) → k ≤ ν → k < 2 ^ 64
     small k l = let r = sized .0 in omega arith
 
-    module _ (l₀ l₁ l₂ l₃ l₄ l₅ l₆ l₇ l₈ l₉ l₁₀ l₁₁ l₁₂ l₁₃ l₁₄ l₁₅ l₁₆ l₁₇ l₁₈ l₁₉ l₂₀ l₂₁ l₂₂ l₂₃ l₂₄ : ℕ) where
+    module _ (l₀ l₁ l₂ l₃ l₄ l₅ l₆ l₇ l₈ l₉ l₁₀ l₁₁ l₁₂ l₁₃ l₁₄ l₁₅ l₁₆ l₁₇ l₁₈ l₁₉ l₂₀ l₂₁ l₂₂ l₂₃ l₂₄ l₂₅ : ℕ) where
       abbrev En : Env 𝓤 H
-      En = (tyInt w32, l₀) ∷ (tyInt w32, l₁) ∷ (tyInt w32, l₂) ∷ (sliceTy (tyRef (named 0) imm (tyInt w8)), l₃) ∷ (sliceTy (tyRef (named 1) mut (tyInt w32)), l₄) ∷ (sliceTy (tyRef (named 2) mut (pointee (T.the-row .written))), l₅) ∷ (sliceTy (tyRef (named 3) mut (tyInt w8)), l₆) ∷ (sliceTy (tyRef (named 4) mut (tyInt w32)), l₇) ∷ (sliceTy (tyRef (named 5) mut (tyInt w32)), l₈) ∷ (sliceTy (tyRef (named 6) mut (tyInt w32)), l₉) ∷ (tyRef (named 7) mut (pointee (Array u64 tt 16 .written)), l₁₀) ∷ (D′.mir, l₁₁) ∷ (tyRef erased mut (tyInt w32), l₁₂) ∷ (sliceTy (tyRef erased mut (tyInt w32)), l₁₃) ∷ (tyRef erased mut (pointee (T.the-row .written)), l₁₄) ∷ (sliceTy (tyRef erased mut (pointee (T.the-row .written))), l₁₅) ∷ (tyRef erased mut (tyInt w8), l₁₆) ∷ (sliceTy (tyRef erased mut (tyInt w8)), l₁₇) ∷ (tyRef erased mut (tyInt w32), l₁₈) ∷ (sliceTy (tyRef erased mut (tyInt w32)), l₁₉) ∷ (tyRef erased mut (tyInt w32), l₂₀) ∷ (sliceTy (tyRef erased mut (tyInt w32)), l₂₁) ∷ (tyRef erased mut (tyInt w32), l₂₂) ∷ (sliceTy (tyRef erased mut (tyInt w32)), l₂₃) ∷ (tyRef erased mut (pointee (Array u64 tt 16 .written)), l₂₄) ∷ []
+      En = (tyInt w32, l₀) ∷ (tyInt w32, l₁) ∷ (tyInt w32, l₂) ∷ (sliceTy (tyRef (named 0) imm (tyInt w8)), l₃) ∷ (sliceTy (tyRef (named 1) mut (tyInt w32)), l₄) ∷ (sliceTy (tyRef (named 2) mut (pointee (T.the-row .written))), l₅) ∷ (sliceTy (tyRef (named 3) mut (tyInt w8)), l₆) ∷ (sliceTy (tyRef (named 4) mut (tyInt w32)), l₇) ∷ (sliceTy (tyRef (named 5) mut (tyInt w32)), l₈) ∷ (sliceTy (tyRef (named 6) mut (tyInt w32)), l₉) ∷ (tyRef (named 7) mut (pointee (Array u64 tt 16 .written)), l₁₀) ∷ (D′.mir, l₁₁) ∷ (E′.mir, l₁₂) ∷ (tyRef erased mut (tyInt w32), l₁₃) ∷ (sliceTy (tyRef erased mut (tyInt w32)), l₁₄) ∷ (tyRef erased mut (pointee (T.the-row .written)), l₁₅) ∷ (sliceTy (tyRef erased mut (pointee (T.the-row .written))), l₁₆) ∷ (tyRef erased mut (tyInt w8), l₁₇) ∷ (sliceTy (tyRef erased mut (tyInt w8)), l₁₈) ∷ (tyRef erased mut (tyInt w32), l₁₉) ∷ (sliceTy (tyRef erased mut (tyInt w32)), l₂₀) ∷ (tyRef erased mut (tyInt w32), l₂₁) ∷ (sliceTy (tyRef erased mut (tyInt w32)), l₂₂) ∷ (tyRef erased mut (tyInt w32), l₂₃) ∷ (sliceTy (tyRef erased mut (tyInt w32)), l₂₄) ∷ (tyRef erased mut (pointee (Array u64 tt 16 .written)), l₂₅) ∷ []
 
       abbrev Start : List (Item 𝓤)
-      Start = Slice job ∷ Slice₂ work ∷ Slice₃ pairs ∷ Slice₄ out ∷ Slice₅ ids ∷ Slice₆ map ∷ Slice₇ log ∷ Slice₈ report ∷ ‵ (froom (tyRef erased mut (pointee (Array u64 tt 16 .written))) l₂₄ 0) ∷ ‵ (fdies (tyRef erased mut (pointee (Array u64 tt 16 .written))) l₂₄) ∷ ‵ (froom (sliceTy (tyRef erased mut (tyInt w32))) l₂₃ 0) ∷ ‵ (fdies (sliceTy (tyRef erased mut (tyInt w32))) l₂₃) ∷ ‵ (froom (tyRef erased mut (tyInt w32)) l₂₂ 0) ∷ ‵ (fdies (tyRef erased mut (tyInt w32)) l₂₂) ∷ ‵ (froom (sliceTy (tyRef erased mut (tyInt w32))) l₂₁ 0) ∷ ‵ (fdies (sliceTy (tyRef erased mut (tyInt w32))) l₂₁) ∷ ‵ (froom (tyRef erased mut (tyInt w32)) l₂₀ 0) ∷ ‵ (fdies (tyRef erased mut (tyInt w32)) l₂₀) ∷ ‵ (froom (sliceTy (tyRef erased mut (tyInt w32))) l₁₉ 0) ∷ ‵ (fdies (sliceTy (tyRef erased mut (tyInt w32))) l₁₉) ∷ ‵ (froom (tyRef erased mut (tyInt w32)) l₁₈ 0) ∷ ‵ (fdies (tyRef erased mut (tyInt w32)) l₁₈) ∷ ‵ (froom (sliceTy (tyRef erased mut (tyInt w8))) l₁₇ 0) ∷ ‵ (fdies (sliceTy (tyRef erased mut (tyInt w8))) l₁₇) ∷ ‵ (froom (tyRef erased mut (tyInt w8)) l₁₆ 0) ∷ ‵ (fdies (tyRef erased mut (tyInt w8)) l₁₆) ∷ ‵ (froom (sliceTy (tyRef erased mut (pointee (T.the-row .written)))) l₁₅ 0) ∷ ‵ (fdies (sliceTy (tyRef erased mut (pointee (T.the-row .written)))) l₁₅) ∷ ‵ (froom (tyRef erased mut (pointee (T.the-row .written))) l₁₄ 0) ∷ ‵ (fdies (tyRef erased mut (pointee (T.the-row .written))) l₁₄) ∷ ‵ (froom (sliceTy (tyRef erased mut (tyInt w32))) l₁₃ 0) ∷ ‵ (fdies (sliceTy (tyRef erased mut (tyInt w32))) l₁₃) ∷ ‵ (froom (tyRef erased mut (tyInt w32)) l₁₂ 0) ∷ ‵ (fdies (tyRef erased mut (tyInt w32)) l₁₂) ∷ ‵ (froom (D′.mir) l₁₁ 0) ∷ ‵ (fdies (D′.mir) l₁₁) ∷ ‵ (fat fullShare (tyRef (named 7) mut (pointee (Array u64 tt 16 .written))) l₁₀ 0 (σ₈)) ∷ ‵ (fdies (tyRef (named 7) mut (pointee (Array u64 tt 16 .written))) l₁₀) ∷ ‵ (fat fullShare (sliceTy (tyRef (named 6) mut (tyInt w32))) l₉ 0 (σ₇)) ∷ ‵ (fdies (sliceTy (tyRef (named 6) mut (tyInt w32))) l₉) ∷ ‵ (fat fullShare (sliceTy (tyRef (named 5) mut (tyInt w32))) l₈ 0 (σ₆)) ∷ ‵ (fdies (sliceTy (tyRef (named 5) mut (tyInt w32))) l₈) ∷ ‵ (fat fullShare (sliceTy (tyRef (named 4) mut (tyInt w32))) l₇ 0 (σ₅)) ∷ ‵ (fdies (sliceTy (tyRef (named 4) mut (tyInt w32))) l₇) ∷ ‵ (fat fullShare (sliceTy (tyRef (named 3) mut (tyInt w8))) l₆ 0 (σ₄)) ∷ ‵ (fdies (sliceTy (tyRef (named 3) mut (tyInt w8))) l₆) ∷ ‵ (fat fullShare (sliceTy (tyRef (named 2) mut (pointee (T.the-row .written)))) l₅ 0 (σ₃)) ∷ ‵ (fdies (sliceTy (tyRef (named 2) mut (pointee (T.the-row .written)))) l₅) ∷ ‵ (fat fullShare (sliceTy (tyRef (named 1) mut (tyInt w32))) l₄ 0 (σ₂)) ∷ ‵ (fdies (sliceTy (tyRef (named 1) mut (tyInt w32))) l₄) ∷ ‵ (fat fullShare (sliceTy (tyRef (named 0) imm (tyInt w8))) l₃ 0 (σ)) ∷ ‵ (fdies (sliceTy (tyRef (named 0) imm (tyInt w8))) l₃) ∷ ‵ (fat fullShare (tyInt w32) l₂ 0 (vint w32 mode)) ∷ ‵ (fdies (tyInt w32) l₂) ∷ ‵ (fat fullShare (tyInt w32) l₁ 0 (vint w32 axes)) ∷ ‵ (fdies (tyInt w32) l₁) ∷ ‵ (froom (tyInt w32) l₀ 0) ∷ ‵ (fdies (tyInt w32) l₀) ∷ []
+      Start = Slice job ∷ Slice₂ work ∷ Slice₃ pairs ∷ Slice₄ out ∷ Slice₅ ids ∷ Slice₆ map ∷ Slice₇ log ∷ Slice₈ report ∷ ‵ (froom (tyRef erased mut (pointee (Array u64 tt 16 .written))) l₂₅ 0) ∷ ‵ (fdies (tyRef erased mut (pointee (Array u64 tt 16 .written))) l₂₅) ∷ ‵ (froom (sliceTy (tyRef erased mut (tyInt w32))) l₂₄ 0) ∷ ‵ (fdies (sliceTy (tyRef erased mut (tyInt w32))) l₂₄) ∷ ‵ (froom (tyRef erased mut (tyInt w32)) l₂₃ 0) ∷ ‵ (fdies (tyRef erased mut (tyInt w32)) l₂₃) ∷ ‵ (froom (sliceTy (tyRef erased mut (tyInt w32))) l₂₂ 0) ∷ ‵ (fdies (sliceTy (tyRef erased mut (tyInt w32))) l₂₂) ∷ ‵ (froom (tyRef erased mut (tyInt w32)) l₂₁ 0) ∷ ‵ (fdies (tyRef erased mut (tyInt w32)) l₂₁) ∷ ‵ (froom (sliceTy (tyRef erased mut (tyInt w32))) l₂₀ 0) ∷ ‵ (fdies (sliceTy (tyRef erased mut (tyInt w32))) l₂₀) ∷ ‵ (froom (tyRef erased mut (tyInt w32)) l₁₉ 0) ∷ ‵ (fdies (tyRef erased mut (tyInt w32)) l₁₉) ∷ ‵ (froom (sliceTy (tyRef erased mut (tyInt w8))) l₁₈ 0) ∷ ‵ (fdies (sliceTy (tyRef erased mut (tyInt w8))) l₁₈) ∷ ‵ (froom (tyRef erased mut (tyInt w8)) l₁₇ 0) ∷ ‵ (fdies (tyRef erased mut (tyInt w8)) l₁₇) ∷ ‵ (froom (sliceTy (tyRef erased mut (pointee (T.the-row .written)))) l₁₆ 0) ∷ ‵ (fdies (sliceTy (tyRef erased mut (pointee (T.the-row .written)))) l₁₆) ∷ ‵ (froom (tyRef erased mut (pointee (T.the-row .written))) l₁₅ 0) ∷ ‵ (fdies (tyRef erased mut (pointee (T.the-row .written))) l₁₅) ∷ ‵ (froom (sliceTy (tyRef erased mut (tyInt w32))) l₁₄ 0) ∷ ‵ (fdies (sliceTy (tyRef erased mut (tyInt w32))) l₁₄) ∷ ‵ (froom (tyRef erased mut (tyInt w32)) l₁₃ 0) ∷ ‵ (fdies (tyRef erased mut (tyInt w32)) l₁₃) ∷ ‵ (froom (E′.mir) l₁₂ 0) ∷ ‵ (fdies (E′.mir) l₁₂) ∷ ‵ (froom (D′.mir) l₁₁ 0) ∷ ‵ (fdies (D′.mir) l₁₁) ∷ ‵ (fat fullShare (tyRef (named 7) mut (pointee (Array u64 tt 16 .written))) l₁₀ 0 (σ₈)) ∷ ‵ (fdies (tyRef (named 7) mut (pointee (Array u64 tt 16 .written))) l₁₀) ∷ ‵ (fat fullShare (sliceTy (tyRef (named 6) mut (tyInt w32))) l₉ 0 (σ₇)) ∷ ‵ (fdies (sliceTy (tyRef (named 6) mut (tyInt w32))) l₉) ∷ ‵ (fat fullShare (sliceTy (tyRef (named 5) mut (tyInt w32))) l₈ 0 (σ₆)) ∷ ‵ (fdies (sliceTy (tyRef (named 5) mut (tyInt w32))) l₈) ∷ ‵ (fat fullShare (sliceTy (tyRef (named 4) mut (tyInt w32))) l₇ 0 (σ₅)) ∷ ‵ (fdies (sliceTy (tyRef (named 4) mut (tyInt w32))) l₇) ∷ ‵ (fat fullShare (sliceTy (tyRef (named 3) mut (tyInt w8))) l₆ 0 (σ₄)) ∷ ‵ (fdies (sliceTy (tyRef (named 3) mut (tyInt w8))) l₆) ∷ ‵ (fat fullShare (sliceTy (tyRef (named 2) mut (pointee (T.the-row .written)))) l₅ 0 (σ₃)) ∷ ‵ (fdies (sliceTy (tyRef (named 2) mut (pointee (T.the-row .written)))) l₅) ∷ ‵ (fat fullShare (sliceTy (tyRef (named 1) mut (tyInt w32))) l₄ 0 (σ₂)) ∷ ‵ (fdies (sliceTy (tyRef (named 1) mut (tyInt w32))) l₄) ∷ ‵ (fat fullShare (sliceTy (tyRef (named 0) imm (tyInt w8))) l₃ 0 (σ)) ∷ ‵ (fdies (sliceTy (tyRef (named 0) imm (tyInt w8))) l₃) ∷ ‵ (fat fullShare (tyInt w32) l₂ 0 (vint w32 mode)) ∷ ‵ (fdies (tyInt w32) l₂) ∷ ‵ (fat fullShare (tyInt w32) l₁ 0 (vint w32 axes)) ∷ ‵ (fdies (tyInt w32) l₁) ∷ ‵ (froom (tyInt w32) l₀ 0) ∷ ‵ (fdies (tyInt w32) l₀) ∷ []
 
       body : Sq W Start (runs C Λ En code-mir.t-1 (atRet En Post))
       body =
-          assigns ! (addr ! (from ! (fld ! refl (hop ! (look-in ! 48 (sub ! 0 refl (whole !))) (stop !))))) (from ! (stop !)) (init ! 32 refl (tt, tt)) $
-          assigns ! (agg ! (and-then ! (load ! (from ! (stop !)) (look ! 32 refl)) (and-then ! (load ! (from ! (fld ! refl (stop !))) (look-in ! 48 (sub ! 1 refl (whole !)))) (no-more !)))) (from ! (stop !)) (init ! 30 refl (tt, (tt, (record { fits = sized₂ .0 }, tt)))) $
-          assigns ! (addr ! (from ! (fld ! refl (hop ! (look-in ! 46 (sub ! 0 refl (whole !))) (stop !))))) (from ! (stop !)) (init ! 28 refl (tt, tt)) $
-          assigns ! (agg ! (and-then ! (load ! (from ! (stop !)) (look ! 28 refl)) (and-then ! (load ! (from ! (fld ! refl (stop !))) (look-in ! 46 (sub ! 1 refl (whole !)))) (no-more !)))) (from ! (stop !)) (init ! 26 refl (tt, (tt, (record { fits = sized₃ .0 }, tt)))) $
-          assigns ! (addr ! (from ! (fld ! refl (hop ! (look-in ! 44 (sub ! 0 refl (whole !))) (stop !))))) (from ! (stop !)) (init ! 24 refl (tt, tt)) $
-          assigns ! (agg ! (and-then ! (load ! (from ! (stop !)) (look ! 24 refl)) (and-then ! (load ! (from ! (fld ! refl (stop !))) (look-in ! 44 (sub ! 1 refl (whole !)))) (no-more !)))) (from ! (stop !)) (init ! 22 refl (tt, (tt, (record { fits = sized₄ .0 }, tt)))) $
-          assigns ! (addr ! (from ! (fld ! refl (hop ! (look-in ! 42 (sub ! 0 refl (whole !))) (stop !))))) (from ! (stop !)) (init ! 20 refl (tt, tt)) $
-          assigns ! (agg ! (and-then ! (load ! (from ! (stop !)) (look ! 20 refl)) (and-then ! (load ! (from ! (fld ! refl (stop !))) (look-in ! 42 (sub ! 1 refl (whole !)))) (no-more !)))) (from ! (stop !)) (init ! 18 refl (tt, (tt, (record { fits = sized₅ .0 }, tt)))) $
-          assigns ! (addr ! (from ! (fld ! refl (hop ! (look-in ! 40 (sub ! 0 refl (whole !))) (stop !))))) (from ! (stop !)) (init ! 16 refl (tt, tt)) $
-          assigns ! (agg ! (and-then ! (load ! (from ! (stop !)) (look ! 16 refl)) (and-then ! (load ! (from ! (fld ! refl (stop !))) (look-in ! 40 (sub ! 1 refl (whole !)))) (no-more !)))) (from ! (stop !)) (init ! 14 refl (tt, (tt, (record { fits = sized₆ .0 }, tt)))) $
-          assigns ! (addr ! (from ! (fld ! refl (hop ! (look-in ! 38 (sub ! 0 refl (whole !))) (stop !))))) (from ! (stop !)) (init ! 12 refl (tt, tt)) $
-          assigns ! (agg ! (and-then ! (load ! (from ! (stop !)) (look ! 12 refl)) (and-then ! (load ! (from ! (fld ! refl (stop !))) (look-in ! 38 (sub ! 1 refl (whole !)))) (no-more !)))) (from ! (stop !)) (init ! 10 refl (tt, (tt, (record { fits = sized₇ .0 }, tt)))) $
+          assigns ! (agg ! (and-then ! (lit ! tt) (no-more !))) (from ! (stop !)) (init ! 34 refl (EL.lawful E.the-type E′.the-laws 𝓤 H A W tt .typed Plain _ (EL.owes E.the-type E′.the-laws Plain tt) .0)) $
+          assigns ! (addr ! (from ! (fld ! refl (hop ! (look-in ! 50 (sub ! 0 refl (whole !))) (stop !))))) (from ! (stop !)) (init ! 32 refl (tt, tt)) $
+          assigns ! (agg ! (and-then ! (load ! (from ! (stop !)) (look ! 32 refl)) (and-then ! (load ! (from ! (fld ! refl (stop !))) (look-in ! 50 (sub ! 1 refl (whole !)))) (no-more !)))) (from ! (stop !)) (init ! 30 refl (tt, (tt, (record { fits = sized₂ .0 }, tt)))) $
+          assigns ! (addr ! (from ! (fld ! refl (hop ! (look-in ! 48 (sub ! 0 refl (whole !))) (stop !))))) (from ! (stop !)) (init ! 28 refl (tt, tt)) $
+          assigns ! (agg ! (and-then ! (load ! (from ! (stop !)) (look ! 28 refl)) (and-then ! (load ! (from ! (fld ! refl (stop !))) (look-in ! 48 (sub ! 1 refl (whole !)))) (no-more !)))) (from ! (stop !)) (init ! 26 refl (tt, (tt, (record { fits = sized₃ .0 }, tt)))) $
+          assigns ! (addr ! (from ! (fld ! refl (hop ! (look-in ! 46 (sub ! 0 refl (whole !))) (stop !))))) (from ! (stop !)) (init ! 24 refl (tt, tt)) $
+          assigns ! (agg ! (and-then ! (load ! (from ! (stop !)) (look ! 24 refl)) (and-then ! (load ! (from ! (fld ! refl (stop !))) (look-in ! 46 (sub ! 1 refl (whole !)))) (no-more !)))) (from ! (stop !)) (init ! 22 refl (tt, (tt, (record { fits = sized₄ .0 }, tt)))) $
+          assigns ! (addr ! (from ! (fld ! refl (hop ! (look-in ! 44 (sub ! 0 refl (whole !))) (stop !))))) (from ! (stop !)) (init ! 20 refl (tt, tt)) $
+          assigns ! (agg ! (and-then ! (load ! (from ! (stop !)) (look ! 20 refl)) (and-then ! (load ! (from ! (fld ! refl (stop !))) (look-in ! 44 (sub ! 1 refl (whole !)))) (no-more !)))) (from ! (stop !)) (init ! 18 refl (tt, (tt, (record { fits = sized₅ .0 }, tt)))) $
+          assigns ! (addr ! (from ! (fld ! refl (hop ! (look-in ! 42 (sub ! 0 refl (whole !))) (stop !))))) (from ! (stop !)) (init ! 16 refl (tt, tt)) $
+          assigns ! (agg ! (and-then ! (load ! (from ! (stop !)) (look ! 16 refl)) (and-then ! (load ! (from ! (fld ! refl (stop !))) (look-in ! 42 (sub ! 1 refl (whole !)))) (no-more !)))) (from ! (stop !)) (init ! 14 refl (tt, (tt, (record { fits = sized₆ .0 }, tt)))) $
+          assigns ! (addr ! (from ! (fld ! refl (hop ! (look-in ! 40 (sub ! 0 refl (whole !))) (stop !))))) (from ! (stop !)) (init ! 12 refl (tt, tt)) $
+          assigns ! (agg ! (and-then ! (load ! (from ! (stop !)) (look ! 12 refl)) (and-then ! (load ! (from ! (fld ! refl (stop !))) (look-in ! 40 (sub ! 1 refl (whole !)))) (no-more !)))) (from ! (stop !)) (init ! 10 refl (tt, (tt, (record { fits = sized₇ .0 }, tt)))) $
           move ! (5 ∷ 6 ∷ []) $
           join ! $
           move ! (5 ∷ 0 ∷ []) $
@@ -202,10 +207,10 @@ module _ {M : Type 1} (𝓤 : URA M) (H : Heap 𝓤) (A : Atoms 𝓤) (W : Given
           join ! $
           move ! (1 ∷ 0 ∷ []) $
           join ! $
-          use1 W (later (raw (C #packer·build (vint w32 axes ∷ vint w32 mode ∷ σ ∷ σ₂ ∷ σ₃ ∷ σ₄ ∷ σ₅ ∷ σ₆ ∷ σ₇ ∷ []) (λ w. mean 𝓤 H A (After-build-see-mut-mut-mut-mut-mut-mut 𝓤 H A W mem run C fm known-build κ θ γ β ι ν job κ₂ θ₂ γ₂ β₂ ι₂ ν₂ work κ₃ θ₃ γ₃ β₃ ι₃ ν₃ pairs κ₄ θ₄ γ₄ β₄ ι₄ ν₄ out κ₅ θ₅ γ₅ β₅ ι₅ ν₅ ids κ₆ θ₆ γ₆ β₆ ι₆ ν₆ map κ₇ θ₇ γ₇ β₇ ι₇ ν₇ log axes mode w))))) (build-see-mut-mut-mut-mut-mut-mut 𝓤 H A W mem run C fm known-build κ θ γ β ι ν job κ₂ θ₂ γ₂ β₂ ι₂ ν₂ work κ₃ θ₃ γ₃ β₃ ι₃ ν₃ pairs κ₄ θ₄ γ₄ β₄ ι₄ ν₄ out κ₅ θ₅ γ₅ β₅ ι₅ ν₅ ids κ₆ θ₆ γ₆ β₆ ι₆ ν₆ map κ₇ θ₇ γ₇ β₇ ι₇ ν₇ log axes mode refl refl refl refl refl refl sized₂ sized₃ sized₄ sized₅ sized₆ sized₇ g-axes g-mode) $ await ! tt $
-          calls ! fm (After-build-see-mut-mut-mut-mut-mut-mut 𝓤 H A W mem run C fm known-build κ θ γ β ι ν job κ₂ θ₂ γ₂ β₂ ι₂ ν₂ work κ₃ θ₃ γ₃ β₃ ι₃ ν₃ pairs κ₄ θ₄ γ₄ β₄ ι₄ ν₄ out κ₅ θ₅ γ₅ β₅ ι₅ ν₅ ids κ₆ θ₆ γ₆ β₆ ι₆ ν₆ map κ₇ θ₇ γ₇ β₇ ι₇ ν₇ log axes mode) (and-then ! (load ! (from ! (stop !)) (look ! 48 refl)) (and-then ! (load ! (from ! (stop !)) (look ! 46 refl)) (and-then ! (load ! (from ! (stop !)) (look ! 44 refl)) (and-then ! (load ! (from ! (stop !)) (look ! 24 refl)) (and-then ! (load ! (from ! (stop !)) (look ! 20 refl)) (and-then ! (load ! (from ! (stop !)) (look ! 16 refl)) (and-then ! (load ! (from ! (stop !)) (look ! 12 refl)) (and-then ! (load ! (from ! (stop !)) (look ! 8 refl)) (and-then ! (load ! (from ! (stop !)) (look ! 4 refl)) (no-more !)))))))))) (λ r-b. await ! tt $ pick ! (λ b. pick ! (λ x-b. learn ! (λ e-b. split ! $ move ! (1 ∷ []) $ facts ! D.the-row (Is D.the-row) (shows 𝓤 H A D.the-row) b (r-b ∷ []) (λ g-b.
-          land ! (from ! (stop !)) (init ! 28 refl (EL.lawful D.the-type D′.the-laws 𝓤 H A W tt .typed b _ g-b .0)) $
-          rewrite ! 28 (λ (u : Val). ‵ (fat fullShare (D′.mir) l₁₁ 0 u)) (spelt-D b r-b g-b) refl $
+          use1 W (later (raw (C #packer·build (EL.val E.the-type E′.the-laws Plain ∷ vint w32 axes ∷ vint w32 mode ∷ σ ∷ σ₂ ∷ σ₃ ∷ σ₄ ∷ σ₅ ∷ σ₆ ∷ σ₇ ∷ []) (λ w. mean 𝓤 H A (After-build-see-mut-mut-mut-mut-mut-mut 𝓤 H A W mem run C fm known-build κ θ γ β ι ν job κ₂ θ₂ γ₂ β₂ ι₂ ν₂ work κ₃ θ₃ γ₃ β₃ ι₃ ν₃ pairs κ₄ θ₄ γ₄ β₄ ι₄ ν₄ out κ₅ θ₅ γ₅ β₅ ι₅ ν₅ ids κ₆ θ₆ γ₆ β₆ ι₆ ν₆ map κ₇ θ₇ γ₇ β₇ ι₇ ν₇ log Plain axes mode w))))) (build-see-mut-mut-mut-mut-mut-mut 𝓤 H A W mem run C fm known-build κ θ γ β ι ν job κ₂ θ₂ γ₂ β₂ ι₂ ν₂ work κ₃ θ₃ γ₃ β₃ ι₃ ν₃ pairs κ₄ θ₄ γ₄ β₄ ι₄ ν₄ out κ₅ θ₅ γ₅ β₅ ι₅ ν₅ ids κ₆ θ₆ γ₆ β₆ ι₆ ν₆ map κ₇ θ₇ γ₇ β₇ ι₇ ν₇ log Plain axes mode refl refl refl refl refl refl sized₂ sized₃ sized₄ sized₅ sized₆ sized₇ (EL.owes E.the-type E′.the-laws Plain tt) g-axes g-mode) $ await ! tt $
+          calls ! fm (After-build-see-mut-mut-mut-mut-mut-mut 𝓤 H A W mem run C fm known-build κ θ γ β ι ν job κ₂ θ₂ γ₂ β₂ ι₂ ν₂ work κ₃ θ₃ γ₃ β₃ ι₃ ν₃ pairs κ₄ θ₄ γ₄ β₄ ι₄ ν₄ out κ₅ θ₅ γ₅ β₅ ι₅ ν₅ ids κ₆ θ₆ γ₆ β₆ ι₆ ν₆ map κ₇ θ₇ γ₇ β₇ ι₇ ν₇ log Plain axes mode) (and-then ! (load ! (from ! (stop !)) (look ! 28 refl)) (and-then ! (load ! (from ! (stop !)) (look ! 50 refl)) (and-then ! (load ! (from ! (stop !)) (look ! 48 refl)) (and-then ! (load ! (from ! (stop !)) (look ! 46 refl)) (and-then ! (load ! (from ! (stop !)) (look ! 24 refl)) (and-then ! (load ! (from ! (stop !)) (look ! 20 refl)) (and-then ! (load ! (from ! (stop !)) (look ! 16 refl)) (and-then ! (load ! (from ! (stop !)) (look ! 12 refl)) (and-then ! (load ! (from ! (stop !)) (look ! 8 refl)) (and-then ! (load ! (from ! (stop !)) (look ! 4 refl)) (no-more !))))))))))) (λ r-b. await ! tt $ pick ! (λ b. pick ! (λ x-b. learn ! (λ e-b. split ! $ move ! (1 ∷ []) $ facts ! D.the-row (Is D.the-row) (shows 𝓤 H A D.the-row) b (r-b ∷ []) (λ g-b.
+          land ! (from ! (stop !)) (init ! 30 refl (EL.lawful D.the-type D′.the-laws 𝓤 H A W tt .typed b _ g-b .0)) $
+          rewrite ! 30 (λ (u : Val). ‵ (fat fullShare (D′.mir) l₁₁ 0 u)) (spelt-D b r-b g-b) refl $
           split ! $
           move ! (1 ∷ []) $
           split ! $
@@ -217,26 +222,26 @@ module _ {M : Type 1} (𝓤 : URA M) (H : Heap 𝓤) (A : Atoms 𝓤) (W : Given
           split ! $
           move ! (1 ∷ []) $
           split ! $
-          assigns ! (addr ! (from ! (hop ! (look ! 36 refl) (stop !)))) (from ! (stop !)) (init ! 8 refl (tt, tt)) $
+          assigns ! (addr ! (from ! (hop ! (look ! 38 refl) (stop !)))) (from ! (stop !)) (init ! 8 refl (tt, tt)) $
           move ! (7 ∷ 6 ∷ []) $
           join ! $
-          use1 W (later (raw (C #ivs·tell (σ₈ ∷ σ ∷ EL.val D.the-type D′.the-laws b ∷ []) (λ w. mean 𝓤 H A (After-tell-mut-see 𝓤 H A W mem run C fm known-tell κ₈ θ₈ γ₈ β₈ ι₈ ν₈ report κ θ γ β ι ν job b w))))) (tell-mut-see 𝓤 H A W mem run C fm known-tell κ₈ θ₈ γ₈ β₈ ι₈ ν₈ report κ θ γ β ι ν job b (at-D b r-b g-b) (answer-few (lending axes mode job work pairs (buffers out ids map log)) b (e-b .1 .answer), answer-within (lending axes mode job work pairs (buffers out ids map log)) b (e-b .1 .answer))) $ await ! tt $
-          calls ! fm (After-tell-mut-see 𝓤 H A W mem run C fm known-tell κ₈ θ₈ γ₈ β₈ ι₈ ν₈ report κ θ γ β ι ν job b) (and-then ! (load ! (from ! (stop !)) (look ! 7 refl)) (and-then ! (load ! (from ! (stop !)) (look ! 49 refl)) (and-then ! (load ! (from ! (stop !)) (look ! 33 refl)) (no-more !)))) (λ r-n. await ! tt $ pick ! (λ n. pick ! (λ x-n. learn ! (λ e-n. split ! $ move ! (1 ∷ []) $ facts ! u32 (Is u32) (shows 𝓤 H A u32) n (r-n ∷ []) (λ g-n.
-          land ! (from ! (stop !)) (init ! 55 refl (uint-lawful 𝓤 H A W w32 .typed n _ g-n .0)) $
-          rewrite ! 55 (λ (u : Val). ‵ (fat fullShare (tyInt w32) l₀ 0 u)) (ap only (g-n .0)) refl $
+          use1 W (later (raw (C #reporting·tell (σ₈ ∷ σ ∷ EL.val D.the-type D′.the-laws b ∷ []) (λ w. mean 𝓤 H A (After-tell-mut-see 𝓤 H A W mem run C fm known-tell κ₈ θ₈ γ₈ β₈ ι₈ ν₈ report κ θ γ β ι ν job b w))))) (tell-mut-see 𝓤 H A W mem run C fm known-tell κ₈ θ₈ γ₈ β₈ ι₈ ν₈ report κ θ γ β ι ν job b (at-D b r-b g-b) (answer-few (lending axes mode job work pairs (buffers out ids map log)) b (plain-obeys (lending axes mode job work pairs (buffers out ids map log)) b _ (e-b .1) .answer), answer-within (lending axes mode job work pairs (buffers out ids map log)) b (plain-obeys (lending axes mode job work pairs (buffers out ids map log)) b _ (e-b .1) .answer))) $ await ! tt $
+          calls ! fm (After-tell-mut-see 𝓤 H A W mem run C fm known-tell κ₈ θ₈ γ₈ β₈ ι₈ ν₈ report κ θ γ β ι ν job b) (and-then ! (load ! (from ! (stop !)) (look ! 7 refl)) (and-then ! (load ! (from ! (stop !)) (look ! 51 refl)) (and-then ! (load ! (from ! (stop !)) (look ! 35 refl)) (no-more !)))) (λ r-n. await ! tt $ pick ! (λ n. pick ! (λ x-n. learn ! (λ e-n. split ! $ move ! (1 ∷ []) $ facts ! u32 (Is u32) (shows 𝓤 H A u32) n (r-n ∷ []) (λ g-n.
+          land ! (from ! (stop !)) (init ! 57 refl (uint-lawful 𝓤 H A W w32 .typed n _ g-n .0)) $
+          rewrite ! 57 (λ (u : Val). ‵ (fat fullShare (tyInt w32) l₀ 0 u)) (ap only (g-n .0)) refl $
           split ! $
-          returns ! (look ! 56 refl) $
-          forget ! 56 refl $ forget ! 54 refl $ forget ! 52 refl $ forget ! 50 refl $ forget ! 48 refl $ forget ! 46 refl $ forget ! 44 refl $ forget ! 42 refl $ forget ! 40 refl $ forget ! 38 refl $ forget ! 36 refl $ forget ! 34 refl $ forget ! 32 refl $ forget ! 30 refl $ forget ! 28 refl $ forget ! 26 refl $ forget ! 24 refl $ forget ! 22 refl $ forget ! 20 refl $ forget ! 18 refl $ forget ! 16 refl $ forget ! 14 refl $ forget ! 12 refl $ forget ! 10 refl $ forget ! 8 refl $
-          move ! (56 ∷ 57 ∷ []) $ free1 ! $ move ! (54 ∷ 55 ∷ []) $ free1 ! $ move ! (52 ∷ 53 ∷ []) $ free1 ! $ move ! (50 ∷ 51 ∷ []) $ free1 ! $ move ! (48 ∷ 49 ∷ []) $ free1 ! $ move ! (46 ∷ 47 ∷ []) $ free1 ! $ move ! (44 ∷ 45 ∷ []) $ free1 ! $ move ! (42 ∷ 43 ∷ []) $ free1 ! $ move ! (40 ∷ 41 ∷ []) $ free1 ! $ move ! (38 ∷ 39 ∷ []) $ free1 ! $ move ! (36 ∷ 37 ∷ []) $ free1 ! $ move ! (34 ∷ 35 ∷ []) $ free1 ! $ move ! (32 ∷ 33 ∷ []) $ free1 ! $ move ! (30 ∷ 31 ∷ []) $ free1 ! $ move ! (28 ∷ 29 ∷ []) $ free1 ! $ move ! (26 ∷ 27 ∷ []) $ free1 ! $ move ! (24 ∷ 25 ∷ []) $ free1 ! $ move ! (22 ∷ 23 ∷ []) $ free1 ! $ move ! (20 ∷ 21 ∷ []) $ free1 ! $ move ! (18 ∷ 19 ∷ []) $ free1 ! $ move ! (16 ∷ 17 ∷ []) $ free1 ! $ move ! (14 ∷ 15 ∷ []) $ free1 ! $ move ! (12 ∷ 13 ∷ []) $ free1 ! $ move ! (10 ∷ 11 ∷ []) $ free1 ! $ move ! (8 ∷ 9 ∷ []) $ free1 ! $ free0 ! $
+          returns ! (look ! 58 refl) $
+          forget ! 58 refl $ forget ! 56 refl $ forget ! 54 refl $ forget ! 52 refl $ forget ! 50 refl $ forget ! 48 refl $ forget ! 46 refl $ forget ! 44 refl $ forget ! 42 refl $ forget ! 40 refl $ forget ! 38 refl $ forget ! 36 refl $ forget ! 34 refl $ forget ! 32 refl $ forget ! 30 refl $ forget ! 28 refl $ forget ! 26 refl $ forget ! 24 refl $ forget ! 22 refl $ forget ! 20 refl $ forget ! 18 refl $ forget ! 16 refl $ forget ! 14 refl $ forget ! 12 refl $ forget ! 10 refl $ forget ! 8 refl $
+          move ! (58 ∷ 59 ∷ []) $ free1 ! $ move ! (56 ∷ 57 ∷ []) $ free1 ! $ move ! (54 ∷ 55 ∷ []) $ free1 ! $ move ! (52 ∷ 53 ∷ []) $ free1 ! $ move ! (50 ∷ 51 ∷ []) $ free1 ! $ move ! (48 ∷ 49 ∷ []) $ free1 ! $ move ! (46 ∷ 47 ∷ []) $ free1 ! $ move ! (44 ∷ 45 ∷ []) $ free1 ! $ move ! (42 ∷ 43 ∷ []) $ free1 ! $ move ! (40 ∷ 41 ∷ []) $ free1 ! $ move ! (38 ∷ 39 ∷ []) $ free1 ! $ move ! (36 ∷ 37 ∷ []) $ free1 ! $ move ! (34 ∷ 35 ∷ []) $ free1 ! $ move ! (32 ∷ 33 ∷ []) $ free1 ! $ move ! (30 ∷ 31 ∷ []) $ free1 ! $ move ! (28 ∷ 29 ∷ []) $ free1 ! $ move ! (26 ∷ 27 ∷ []) $ free1 ! $ move ! (24 ∷ 25 ∷ []) $ free1 ! $ move ! (22 ∷ 23 ∷ []) $ free1 ! $ move ! (20 ∷ 21 ∷ []) $ free1 ! $ move ! (18 ∷ 19 ∷ []) $ free1 ! $ move ! (16 ∷ 17 ∷ []) $ free1 ! $ move ! (14 ∷ 15 ∷ []) $ free1 ! $ move ! (12 ∷ 13 ∷ []) $ free1 ! $ move ! (10 ∷ 11 ∷ []) $ free1 ! $ move ! (8 ∷ 9 ∷ []) $ free1 ! $ free0 ! $
           move ! (1 ∷ 7 ∷ 6 ∷ 5 ∷ 4 ∷ 2 ∷ 3 ∷ 0 ∷ []) $
-          by ! (exits (x-b .1 .0) (e-b .0 .1 .0) (x-b .1 .1 .0) (e-b .0 .1 .1 .0) (x-b .1 .1 .1 .0) (e-b .0 .1 .1 .1 .0) (x-b .1 .1 .1 .1 .0) (e-b .0 .1 .1 .1 .1 .0) (x-b .1 .1 .1 .1 .1 .0) (e-b .0 .1 .1 .1 .1 .1 .0) (x-b .1 .1 .1 .1 .1 .1) (e-b .0 .1 .1 .1 .1 .1 .1) (x-n .0) n (g-n .1) (record { answer = b; obeys = e-b .1; number-is = e-n .1 .0; report-is = e-n .1 .1 }))))))))))))
+          by ! (exits (x-b .1 .0) (e-b .0 .1 .0) (x-b .1 .1 .0) (e-b .0 .1 .1 .0) (x-b .1 .1 .1 .0) (e-b .0 .1 .1 .1 .0) (x-b .1 .1 .1 .1 .0) (e-b .0 .1 .1 .1 .1 .0) (x-b .1 .1 .1 .1 .1 .0) (e-b .0 .1 .1 .1 .1 .1 .0) (x-b .1 .1 .1 .1 .1 .1) (e-b .0 .1 .1 .1 .1 .1 .1) (x-n .0) n (g-n .1) (record { answer = b; obeys = plain-obeys (lending axes mode job work pairs (buffers out ids map log)) b _ (e-b .1); number-is = e-n .1 .0; report-is = e-n .1 .1 }))))))))))))
 
     walk : ent 𝓤 (onEntry 𝓤 H A ivs-build.signature (κ, (κ₂, (κ₃, (κ₄, (κ₅, (κ₆, (κ₇, (κ₈, tt)))))))) (θ, (θ₂, (θ₃, (θ₄, (θ₅, (θ₆, (θ₇, (θ₈, tt)))))))) (bound .0 .3) (bound .0 .4)) (WpFn 𝓤 H C Λ code.function (vint w32 axes ∷ vint w32 mode ∷ σ ∷ σ₂ ∷ σ₃ ∷ σ₄ ∷ σ₅ ∷ σ₆ ∷ σ₇ ∷ σ₈ ∷ []) Post)
     walk =
         qed W ((‵ (flft κ θ) ⊛ ‵ (flft κ₂ θ₂) ⊛ ‵ (flft κ₃ θ₃) ⊛ ‵ (flft κ₄ θ₄) ⊛ ‵ (flft κ₅ θ₅) ⊛ ‵ (flft κ₆ θ₆) ⊛ ‵ (flft κ₇ θ₇) ⊛ ‵ (flft κ₈ θ₈) ⊛ ‵ ftrue) ∷ ‵ (owns (u32 ∷ u32 ∷ ShrSlice (named 0) κ u8 ∷ MutSlice (named 1) κ₂ u32 ∷ MutSlice (named 2) κ₃ T.the-row ∷ MutSlice (named 3) κ₄ u8 ∷ MutSlice (named 4) κ₅ u32 ∷ MutSlice (named 5) κ₆ u32 ∷ MutSlice (named 6) κ₇ u32 ∷ MutRef (named 7) κ₈ (Array u64 tt 16) ∷ []) (bound .0 .3) (bound .0 .4)) ∷ []) ∵ enter ! C Λ code.function (vint w32 axes ∷ vint w32 mode ∷ σ ∷ σ₂ ∷ σ₃ ∷ σ₄ ∷ σ₅ ∷ σ₆ ∷ σ₇ ∷ σ₈ ∷ []) _ $
-        alloc1 ! (λ l₀. alloc1 ! (λ l₁. alloc1 ! (λ l₂. alloc1 ! (λ l₃. alloc1 ! (λ l₄. alloc1 ! (λ l₅. alloc1 ! (λ l₆. alloc1 ! (λ l₇. alloc1 ! (λ l₈. alloc1 ! (λ l₉. alloc1 ! (λ l₁₀. alloc1 ! (λ l₁₁. alloc1 ! (λ l₁₂. alloc1 ! (λ l₁₃. alloc1 ! (λ l₁₄. alloc1 ! (λ l₁₅. alloc1 ! (λ l₁₆. alloc1 ! (λ l₁₇. alloc1 ! (λ l₁₈. alloc1 ! (λ l₁₉. alloc1 ! (λ l₂₀. alloc1 ! (λ l₂₁. alloc1 ! (λ l₂₂. alloc1 ! (λ l₂₃. alloc1 ! (λ l₂₄. alloc0 ! $ params1 ! $
-        pass1 ! (init ! 46 refl (tt, record { fits = g-axes })) $ pass1 ! (init ! 44 refl (tt, record { fits = g-mode })) $ pass1 ! (init ! 42 refl (tt, (tt, (record { fits = sized .0 }, tt)))) $ pass1 ! (init ! 40 refl (tt, (tt, (record { fits = sized₂ .0 }, tt)))) $ pass1 ! (init ! 38 refl (tt, (tt, (record { fits = sized₃ .0 }, tt)))) $ pass1 ! (init ! 36 refl (tt, (tt, (record { fits = sized₄ .0 }, tt)))) $ pass1 ! (init ! 34 refl (tt, (tt, (record { fits = sized₅ .0 }, tt)))) $ pass1 ! (init ! 32 refl (tt, (tt, (record { fits = sized₆ .0 }, tt)))) $ pass1 ! (init ! 30 refl (tt, (tt, (record { fits = sized₇ .0 }, tt)))) $ pass1 ! (init ! 28 refl (tt, tt)) $ pass0 ! $
-        move ! (51 ∷ []) $
+        alloc1 ! (λ l₀. alloc1 ! (λ l₁. alloc1 ! (λ l₂. alloc1 ! (λ l₃. alloc1 ! (λ l₄. alloc1 ! (λ l₅. alloc1 ! (λ l₆. alloc1 ! (λ l₇. alloc1 ! (λ l₈. alloc1 ! (λ l₉. alloc1 ! (λ l₁₀. alloc1 ! (λ l₁₁. alloc1 ! (λ l₁₂. alloc1 ! (λ l₁₃. alloc1 ! (λ l₁₄. alloc1 ! (λ l₁₅. alloc1 ! (λ l₁₆. alloc1 ! (λ l₁₇. alloc1 ! (λ l₁₈. alloc1 ! (λ l₁₉. alloc1 ! (λ l₂₀. alloc1 ! (λ l₂₁. alloc1 ! (λ l₂₂. alloc1 ! (λ l₂₃. alloc1 ! (λ l₂₄. alloc1 ! (λ l₂₅. alloc0 ! $ params1 ! $
+        pass1 ! (init ! 48 refl (tt, record { fits = g-axes })) $ pass1 ! (init ! 46 refl (tt, record { fits = g-mode })) $ pass1 ! (init ! 44 refl (tt, (tt, (record { fits = sized .0 }, tt)))) $ pass1 ! (init ! 42 refl (tt, (tt, (record { fits = sized₂ .0 }, tt)))) $ pass1 ! (init ! 40 refl (tt, (tt, (record { fits = sized₃ .0 }, tt)))) $ pass1 ! (init ! 38 refl (tt, (tt, (record { fits = sized₄ .0 }, tt)))) $ pass1 ! (init ! 36 refl (tt, (tt, (record { fits = sized₅ .0 }, tt)))) $ pass1 ! (init ! 34 refl (tt, (tt, (record { fits = sized₆ .0 }, tt)))) $ pass1 ! (init ! 32 refl (tt, (tt, (record { fits = sized₇ .0 }, tt)))) $ pass1 ! (init ! 30 refl (tt, tt)) $ pass0 ! $
+        move ! (53 ∷ []) $
         fsplit ! $
         move ! (1 ∷ []) $
         fsplit ! $
@@ -256,7 +261,7 @@ module _ {M : Type 1} (𝓤 : URA M) (H : Heap 𝓤) (A : Atoms 𝓤) (W : Given
         fsplit ! $
         move ! (1 ∷ []) $
         fsplit ! $
-        move ! (61 ∷ []) $
+        move ! (63 ∷ []) $
         split ! $
         move ! (1 ∷ []) $
         split ! $
@@ -297,21 +302,21 @@ module _ {M : Type 1} (𝓤 : URA M) (H : Heap 𝓤) (A : Atoms 𝓤) (W : Given
         move ! (8 ∷ 7 ∷ []) $
         join ! $
         move ! (7 ∷ 6 ∷ 5 ∷ 4 ∷ 3 ∷ 2 ∷ 1 ∷ 0 ∷ []) $
-        body l₀ l₁ l₂ l₃ l₄ l₅ l₆ l₇ l₈ l₉ l₁₀ l₁₁ l₁₂ l₁₃ l₁₄ l₁₅ l₁₆ l₁₇ l₁₈ l₁₉ l₂₀ l₂₁ l₂₂ l₂₃ l₂₄)))))))))))))))))))))))))
+        body l₀ l₁ l₂ l₃ l₄ l₅ l₆ l₇ l₈ l₉ l₁₀ l₁₁ l₁₂ l₁₃ l₁₄ l₁₅ l₁₆ l₁₇ l₁₈ l₁₉ l₂₀ l₂₁ l₂₂ l₂₃ l₂₄ l₂₅))))))))))))))))))))))))))
 
   -- and with what it asks
   abbrev Entry : SProp 𝓤
   Entry = onEntry 𝓤 H A ivs-build.signature (κ, (κ₂, (κ₃, (κ₄, (κ₅, (κ₆, (κ₇, (κ₈, tt)))))))) (θ, (θ₂, (θ₃, (θ₄, (θ₅, (θ₆, (θ₇, (θ₈, tt)))))))) (bound .0 .3) (bound .0 .4)
 
-  starts : (𝓣 : AllCalls 𝓤 H) → Triple 𝓤 (𝓣 .C #packer·build) (Build-of 𝓤 H A mem run) → Triple 𝓤 (𝓣 .C #ivs·tell) (Tell-of 𝓤 H A mem run) → Room u8 ν → Room u32 ν₂ → Room T.the-row ν₃ → Room u8 ν₄ → Room u32 ν₅ → Room u32 ν₆ → Room u32 ν₇ → ent 𝓤 (sep 𝓤 Entry (emp 𝓤)) (WpFn 𝓤 H (𝓣 .C) (𝓣 .Λ) code.function (vint w32 axes ∷ vint w32 mode ∷ σ ∷ σ₂ ∷ σ₃ ∷ σ₄ ∷ σ₅ ∷ σ₆ ∷ σ₇ ∷ σ₈ ∷ []) Post)
+  starts : (𝓣 : AllCalls 𝓤 H) → Triple 𝓤 (𝓣 .C #packer·build) (Build-of 𝓤 H A mem run) → Triple 𝓤 (𝓣 .C #reporting·tell) (Tell-of 𝓤 H A mem run) → Room u8 ν → Room u32 ν₂ → Room T.the-row ν₃ → Room u8 ν₄ → Room u32 ν₅ → Room u32 ν₆ → Room u32 ν₇ → ent 𝓤 (sep 𝓤 Entry (emp 𝓤)) (WpFn 𝓤 H (𝓣 .C) (𝓣 .Λ) code.function (vint w32 axes ∷ vint w32 mode ∷ σ ∷ σ₂ ∷ σ₃ ∷ σ₄ ∷ σ₅ ∷ σ₆ ∷ σ₇ ∷ σ₈ ∷ []) Post)
   starts 𝓣 k-build k-tell sized sized₂ sized₃ sized₄ sized₅ sized₆ sized₇ = needs-none 𝓤 Entry (emp 𝓤) (walk 𝓣 k-build k-tell sized sized₂ sized₃ sized₄ sized₅ sized₆ sized₇)
 
 module _ {M : Type 1} (𝓤 : URA M) (H : Heap 𝓤) (A : Atoms 𝓤) (W : Given 𝓤 H A) (mem : Memory → SProp 𝓤) (run : Routine → Fun 𝓤) (𝓣 : AllCalls 𝓤 H) where
-  ivs-build-walks : Triple 𝓤 (𝓣 .C #packer·build) (Build-of 𝓤 H A mem run) → Triple 𝓤 (𝓣 .C #ivs·tell) (Tell-of 𝓤 H A mem run) → Walks 𝓤 H A ivs-build.ended stayed (WpFn 𝓤 H (𝓣 .C) (𝓣 .Λ) code.function) (ivs-build.clauses 𝓤 H A mem run)
+  ivs-build-walks : Triple 𝓤 (𝓣 .C #packer·build) (Build-of 𝓤 H A mem run) → Triple 𝓤 (𝓣 .C #reporting·tell) (Tell-of 𝓤 H A mem run) → Walks 𝓤 H A ivs-build.ended stayed (WpFn 𝓤 H (𝓣 .C) (𝓣 .Λ) code.function) (ivs-build.clauses 𝓤 H A mem run)
   ivs-build-walks k-build k-tell = walked 𝓤 H A ivs-build.ended stayed (ivs-build.clauses 𝓤 H A mem run) (WpFn 𝓤 H (𝓣 .C) (𝓣 .Λ) code.function) (λ κs. (uint-vals w32, (uint-vals w32, (slice-vals, (slice-vals, (slice-vals, (slice-vals, (slice-vals, (slice-vals, (slice-vals, (ptr-vals, tt))))))))))) (λ κs. (uint-tells w32, (uint-tells w32, (shr-slice-tells (named 0) (κs .0) u8, (mut-slice-tells (named 1) (κs .1 .0) u32, (mut-slice-tells (named 2) (κs .1 .1 .0) T.the-row, (mut-slice-tells (named 3) (κs .1 .1 .1 .0) u8, (mut-slice-tells (named 4) (κs .1 .1 .1 .1 .0) u32, (mut-slice-tells (named 5) (κs .1 .1 .1 .1 .1 .0) u32, (mut-slice-tells (named 6) (κs .1 .1 .1 .1 .1 .1 .0) u32, (mut-tells (named 7) (κs .1 .1 .1 .1 .1 .1 .1 .0) (Array u64 tt 16), tt)))))))))))
       (λ κs qs bounds a g are. starts 𝓤 H A W mem run (κs .0) (qs .0) (a .1 .1 .0 .name) (a .1 .1 .0 .ptr .0) (a .1 .1 .0 .ptr .1) (a .1 .1 .0 .now) (κs .1 .0) (qs .1 .0) (a .1 .1 .1 .0 .name) (a .1 .1 .1 .0 .ptr .0) (a .1 .1 .1 .0 .ptr .1) (a .1 .1 .1 .0 .now) (κs .1 .1 .0) (qs .1 .1 .0) (a .1 .1 .1 .1 .0 .name) (a .1 .1 .1 .1 .0 .ptr .0) (a .1 .1 .1 .1 .0 .ptr .1) (a .1 .1 .1 .1 .0 .now) (κs .1 .1 .1 .0) (qs .1 .1 .1 .0) (a .1 .1 .1 .1 .1 .0 .name) (a .1 .1 .1 .1 .1 .0 .ptr .0) (a .1 .1 .1 .1 .1 .0 .ptr .1) (a .1 .1 .1 .1 .1 .0 .now) (κs .1 .1 .1 .1 .0) (qs .1 .1 .1 .1 .0) (a .1 .1 .1 .1 .1 .1 .0 .name) (a .1 .1 .1 .1 .1 .1 .0 .ptr .0) (a .1 .1 .1 .1 .1 .1 .0 .ptr .1) (a .1 .1 .1 .1 .1 .1 .0 .now) (κs .1 .1 .1 .1 .1 .0) (qs .1 .1 .1 .1 .1 .0) (a .1 .1 .1 .1 .1 .1 .1 .0 .name) (a .1 .1 .1 .1 .1 .1 .1 .0 .ptr .0) (a .1 .1 .1 .1 .1 .1 .1 .0 .ptr .1) (a .1 .1 .1 .1 .1 .1 .1 .0 .now) (κs .1 .1 .1 .1 .1 .1 .0) (qs .1 .1 .1 .1 .1 .1 .0) (a .1 .1 .1 .1 .1 .1 .1 .1 .0 .name) (a .1 .1 .1 .1 .1 .1 .1 .1 .0 .ptr .0) (a .1 .1 .1 .1 .1 .1 .1 .1 .0 .ptr .1) (a .1 .1 .1 .1 .1 .1 .1 .1 .0 .now) (κs .1 .1 .1 .1 .1 .1 .1 .0) (qs .1 .1 .1 .1 .1 .1 .1 .0) (a .1 .1 .1 .1 .1 .1 .1 .1 .1 .0 .name) (a .1 .1 .1 .1 .1 .1 .1 .1 .1 .0 .ptr .0) (a .1 .1 .1 .1 .1 .1 .1 .1 .1 .0 .ptr .1) (a .1 .1 .1 .1 .1 .1 .1 .1 .1 .0 .now) (a .0) (a .1 .0) (are .0 .1) (are .1 .0 .1) 𝓣 k-build k-tell (are .1 .1 .0 .0 .1) (are .1 .1 .1 .0 .0 .1) (are .1 .1 .1 .1 .0 .0 .1) (are .1 .1 .1 .1 .1 .0 .0 .1) (are .1 .1 .1 .1 .1 .1 .0 .0 .1) (are .1 .1 .1 .1 .1 .1 .1 .0 .0 .1) (are .1 .1 .1 .1 .1 .1 .1 .1 .0 .0 .1))
 
-  ivs-build-meets : Triple 𝓤 (𝓣 .C #packer·build) (Build-of 𝓤 H A mem run) → Triple 𝓤 (𝓣 .C #ivs·tell) (Tell-of 𝓤 H A mem run) → Meets 𝓤 H A ivs-build.signature (WpFn 𝓤 H (𝓣 .C) (𝓣 .Λ) code.function) (ivs-build.spec 𝓤 H A mem run)
+  ivs-build-meets : Triple 𝓤 (𝓣 .C #packer·build) (Build-of 𝓤 H A mem run) → Triple 𝓤 (𝓣 .C #reporting·tell) (Tell-of 𝓤 H A mem run) → Meets 𝓤 H A ivs-build.signature (WpFn 𝓤 H (𝓣 .C) (𝓣 .Λ) code.function) (ivs-build.spec 𝓤 H A mem run)
   ivs-build-meets k-build k-tell = walk-meets 𝓤 H A ivs-build.ended stayed W (goes-none 𝓤 H A W 8 (λ _. u32) yes (λ κs x f. refl), (goes-none 𝓤 H A W 8 (λ _. u32) yes (λ κs x f. refl), (goes-none-slice 𝓤 H A W 8 (0 ∷ []) tt (plain (λ _. u8)) yes, (goes-slice 𝓤 H A W 8 1 tt (plain (λ _. u32)), (goes-slice 𝓤 H A W 8 2 tt (plain (λ _. T.the-row)), (goes-slice 𝓤 H A W 8 3 tt (plain (λ _. u8)), (goes-slice 𝓤 H A W 8 4 tt (plain (λ _. u32)), (goes-slice 𝓤 H A W 8 5 tt (plain (λ _. u32)), (goes-slice 𝓤 H A W 8 6 tt (plain (λ _. u32)), (goes-ref 𝓤 H A W 8 7 tt (plain (λ _. (Array u64 tt 16))), tt)))))))))) (ivs-build.clauses 𝓤 H A mem run) (WpFn 𝓤 H (𝓣 .C) (𝓣 .Λ) code.function) (WpFn-mono 𝓤 H (W .laws) 𝓣 code.function) (ivs-build-walks k-build k-tell)
 
 pub ivs-build-spec : {M : Type 1} → stated.statement M
@@ -321,4 +326,4 @@ ivs-build-spec 𝓤 H 𝓜 𝓖 𝓡 =
     (tables 𝓤 H 𝓜 𝓡 code.env .C) (tables 𝓤 H 𝓜 𝓡 code.env .Λ) #ivs·ivs-build code.function (code.unfolded 𝓤 H 𝓜 𝓡)
     (ivs-build-meets 𝓤 H (𝓖 .A) (givenOf 𝓤 H 𝓜 𝓖) (𝓜 .mem) (𝓡 .run) (tablesOf 𝓤 H 𝓜 (tables 𝓤 H 𝓜 𝓡 code.env))
     (cited 𝓤 H (Build-of 𝓤 H (𝓖 .A) (𝓜 .mem) (𝓡 .run)) 𝓜 𝓡 code.env #packer·build build-def.routine code.calls-packer·build (build-thm.met 𝓤 H 𝓜 𝓖 𝓡))
-    (cited 𝓤 H (Tell-of 𝓤 H (𝓖 .A) (𝓜 .mem) (𝓡 .run)) 𝓜 𝓡 code.env #ivs·tell tell-def.routine code.calls-ivs·report·tell (tell-thm.met 𝓤 H 𝓜 𝓖 𝓡)))
+    (cited 𝓤 H (Tell-of 𝓤 H (𝓖 .A) (𝓜 .mem) (𝓡 .run)) 𝓜 𝓡 code.env #reporting·tell tell-def.routine code.calls-reporting·tell (tell-thm.met 𝓤 H 𝓜 𝓖 𝓡)))

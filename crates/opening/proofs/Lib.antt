@@ -1,0 +1,5 @@
+pub mod KeptLaws
+pub mod OpenLaws
+pub mod RecordsLaws
+pub mod StartLaws
+pub mod TakenLaws

@@ -1,0 +1,3 @@
+pub mod LentCollected
+pub mod LentOpened
+pub mod LentTaken

@@ -1,0 +1,7 @@
+// The first part of a build: a job checked, its records read into work, its sets grouped.
+mod opening;
+mod taking;
+
+pub use opening::Stage;
+pub use opening::nowhere;
+pub use opening::open;
