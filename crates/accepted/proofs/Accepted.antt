@@ -1,20 +1,26 @@
--- What is known of a build that is done: its job is sound, none of refusals 10 to 14 is given, and everything lent is as the definitions say.
+-- What is known of a build that is done: its job is sound, none of refusals 10 to 14 and 61 is given, and everything lent is as the definitions say.
 -- Assumes nothing.
 use mathlib.Core.Path.{_≡_, refl, sym, ap, ap₂, _∙_}
 use mathlib.Core.List.{List, [], _∷_}
 use Prim.Native.Nat.{ℕ, _+_, _-_, _*_, _/_, _≤_, _<_}
 use native.Mathlib.Omega.{arith}
-use lib.Dec.{leb}
+use lib.Dec.{eqb, leb}
 use lib.ListN.{length, getD, take, length-append, length-map}
 use borrow.Author.Tests.{eq-eqb, leb-true}
+use Rattle.laws.specs.Pick.{pick}
 use Rattle.laws.specs.Every.{All}
+use Rattle.laws.specs.Sorting.{sorted}
 use Rattle.laws.specs.Bytes.{bytesOf, over}
-use Rattle.laws.proofs.Cases.{Tri, tri}
+use Rattle.laws.proofs.Cases.{Tri, tri, Which, which}
+use Rattle.laws.proofs.Cases.Which.{holds, fails}
 use Rattle.laws.proofs.Cases.Tri.{below, same, above}
 use Rattle.laws.proofs.EveryLaws.{all-imp, all-map, all-getD, two-getD}
 use Rattle.laws.proofs.ListLaws.{getD-map-in}
+use Rattle.laws.proofs.BoundedLaws.{length-tabulate}
 use Rattle.laws.proofs.BytesLaws.{bytes-length, take-over, over-at}
-use Rattle.groups.specs.Groups.{maxShapes}
+use Rattle.sets.specs.Set.{Set}
+use Rattle.groups.specs.Groups.{groupsOf, maxShapes}
+use Rattle.rule.specs.Model.{merged}
 use Rattle.rule.specs.Told.{words}
 use Rattle.rule.proofs.Theorems.{words-length}
 use Rattle.store.specs.Placing.{allRuns, idWords, stored}
@@ -25,11 +31,12 @@ use Rattle.said.specs.LentOpen.{Open}
 use Rattle.said.proofs.SaidLaws.{room-of}
 use Rattle.said.proofs.RecordLaws.{first-passed}
 use Rattle.said.proofs.SoundLaws.{Bytes, Coordinates, WellSaid, well-said, fine-walk}
-use Rattle.encoder.specs.Packed.{Packed}
+use Rattle.encoder.specs.Packed.{Packed, isAhead, homeOf, originsOf, shared, own}
 use Rattle.finishing.specs.declared.answers.Report.{Report}
 use Rattle.finishing.specs.declared.answers.Built.the-variants.{Done}
 use Rattle.finishing.specs.Buffers.{Buffers, Lengths, lengths}
-use Rattle.finishing.specs.Late.{storeFor, lateNo, reportOf, written, buffersLeft}
+use Rattle.finishing.specs.Late.{storeFor, originWords, lateNo, reportOf, written, buffersLeft}
+use Rattle.finishing.proofs.LoopLaws.{told-long}
 use Rattle.finishing.proofs.DoneLaws.{late-done}
 use Rattle.call.specs.Lending.{Lending}
 use Rattle.call.specs.Build.{regionBytes, coordsInUse, packedOf, answerFrom, leftFrom, outcomeOf, answerOf, after}
@@ -112,12 +119,13 @@ module _ (axes mode : ℕ) (job : List ℕ) (records : ℕ) (s : Said) (e : reco
 
 -- ---- what is not refused late
 
--- each of refusals 10 to 14 is not given
+-- each of refusals 10 to 14 and 61 is not given
 pub record Roomy (axes : ℕ) (coords : List (List ℕ)) (k : Packed) (l : Lengths) : Type 0 where
   pub shapes-few : k .groups ≤ maxShapes
   pub ids-fit : length (k .ids) ≤ l .ids
   pub map-fits : length (k .sets) ≤ l .map
   pub log-fits : 3 * (k .groups - 1) ≤ l .log
+  pub origins-fit : 2 * k .groups ≤ l .origins
   pub out-fits : length (storeFor axes coords k) ≤ l .out
 
 roomy : (axes : ℕ) (coords : List (List ℕ)) (k : Packed) (l : Lengths) → lateNo axes coords k l ≡ 0 → Roomy axes coords k l
@@ -127,17 +135,20 @@ roomy axes coords k l z =
     let t₂ = leb (length (k .ids)) (l .ids) in
     let t₃ = leb (length (k .sets)) (l .map) in
     let t₄ = leb (3 * (k .groups - 1)) (l .log) in
-    let t₅ = leb (length (storeFor axes coords k)) (l .out) in
-    let a = first-passed t₁ 9 ((t₂, 11) ∷ (t₃, 12) ∷ (t₄, 13) ∷ (t₅, 14) ∷ []) z in
-    let b = first-passed t₂ 10 ((t₃, 12) ∷ (t₄, 13) ∷ (t₅, 14) ∷ []) (a .1) in
-    let c = first-passed t₃ 11 ((t₄, 13) ∷ (t₅, 14) ∷ []) (b .1) in
-    let d = first-passed t₄ 12 ((t₅, 14) ∷ []) (c .1) in
-    let f = first-passed t₅ 13 [] (d .1) in
+    let t₅ = leb (2 * k .groups) (l .origins) in
+    let t₆ = leb (length (storeFor axes coords k)) (l .out) in
+    let a = first-passed t₁ 9 ((t₂, 11) ∷ (t₃, 12) ∷ (t₄, 13) ∷ (t₅, 61) ∷ (t₆, 14) ∷ []) z in
+    let b = first-passed t₂ 10 ((t₃, 12) ∷ (t₄, 13) ∷ (t₅, 61) ∷ (t₆, 14) ∷ []) (a .1) in
+    let c = first-passed t₃ 11 ((t₄, 13) ∷ (t₅, 61) ∷ (t₆, 14) ∷ []) (b .1) in
+    let d = first-passed t₄ 12 ((t₅, 61) ∷ (t₆, 14) ∷ []) (c .1) in
+    let o = first-passed t₅ 60 ((t₆, 14) ∷ []) (d .1) in
+    let f = first-passed t₆ 13 [] (o .1) in
     record {
       shapes-few = leb-true (k .groups) maxShapes (a .0);
       ids-fit = leb-true (length (k .ids)) (l .ids) (b .0);
       map-fits = leb-true (length (k .sets)) (l .map) (c .0);
       log-fits = leb-true (3 * (k .groups - 1)) (l .log) (d .0);
+      origins-fit = leb-true (2 * k .groups) (l .origins) (o .0);
       out-fits = leb-true (length (storeFor axes coords k)) (l .out) (f .0);
     }
 
@@ -193,6 +204,24 @@ accepted-sized c r a b =
 
 -- ---- and what is left in the buffers, one by one
 
+-- each starting group has an origin
+shared-origins : (n : ℕ) (all : List Set) → length (shared n all .origins) ≡ shared n all .groups
+unfolding shared originsOf
+shared-origins n all = length-tabulate 0 (length (groupsOf n all)) (λ i. homeOf i (sorted isAhead (merged (groupsOf n all) .living)))
+
+own-origins : (n : ℕ) (all : List Set) → length (own n all .origins) ≡ own n all .groups
+unfolding own
+own-origins n all = refl
+
+origins-all : (mode : ℕ) (s : Said) → length (packedOf mode s .origins) ≡ packedOf mode s .groups
+unfolding packedOf
+origins-all mode s = go (which (eqb mode 0))
+  where
+    go : Which (eqb mode 0) → length (pick (eqb mode 0) (shared (length (s .used)) (s .sets)) (own (length (s .used)) (s .sets)) .origins)
+        ≡ pick (eqb mode 0) (shared (length (s .used)) (s .sets)) (own (length (s .used)) (s .sets)) .groups
+    go (holds e) = rw e (shared-origins (length (s .used)) (s .sets))
+    go (fails e) = rw e (own-origins (length (s .used)) (s .sets))
+
 module _ (c : Lending) (r : Report) (a : Accepted c r) where
   pub bytes-are : r .bytes ≡ length (storeIn c (a .said))
   unfolding reportOf
@@ -218,7 +247,21 @@ module _ (c : Lending) (r : Report) (a : Accepted c r) where
   unfolding written
   log-is = ap (λ (b : Buffers). b .log) (a .lent-is)
 
-  -- the output begins with the store, and the log with the merges
+  pub groups-are : r .groups ≡ packedIn c (a .said) .groups
+  unfolding reportOf
+  groups-are = ap (λ (t : Report). t .groups) (a .report-is)
+
+  pub origins-is : after c .lent .origins ≡ over (c .lent .origins) 0 (length (originWords 0 (packedIn c (a .said) .origins))) (originWords 0 (packedIn c (a .said) .origins))
+  unfolding written
+  origins-is = ap (λ (b : Buffers). b .origins) (a .lent-is)
+
+  -- two words a starting group
+  pub origins-long : 2 * r .groups ≡ length (originWords 0 (packedIn c (a .said) .origins))
+  origins-long =
+      ap (λ (n : ℕ). 2 * n) (groups-are ∙ sym (origins-all (c .mode) (a .said)))
+      ∙ sym (told-long 0 (packedIn c (a .said) .origins))
+
+  -- the output begins with the store, the log with the merges, and origins with the starting groups
   pub store-front : take (r .bytes) (after c .lent .out) ≡ storeIn c (a .said)
   store-front = ap (take (r .bytes)) out-is ∙ take-over (c .lent .out) (storeIn c (a .said)) (r .bytes) bytes-are
 
@@ -226,6 +269,11 @@ module _ (c : Lending) (r : Report) (a : Accepted c r) where
   log-front =
       ap (take (3 * r .merges)) log-is
       ∙ take-over (c .lent .log) (words (packedIn c (a .said) .log)) (3 * r .merges) (omega (arith, merges-are, words-length (packedIn c (a .said) .log)))
+
+  pub origins-front : take (2 * r .groups) (after c .lent .origins) ≡ originWords 0 (packedIn c (a .said) .origins)
+  origins-front =
+      ap (take (2 * r .groups)) origins-is
+      ∙ take-over (c .lent .origins) (originWords 0 (packedIn c (a .said) .origins)) (2 * r .groups) origins-long
 
   pub id-at : (n : ℕ) → n < length (packedIn c (a .said) .ids) → getD (after c .lent .ids) n 0 ≡ getD (packedIn c (a .said) .ids) n 0
   id-at n h = ap (λ (l : List ℕ). getD l n 0) ids-is ∙ over-at (c .lent .ids) (packedIn c (a .said) .ids) n h

@@ -26,13 +26,13 @@ use Rattle.said.specs.Job.{Said}
 use Rattle.encoder.specs.Packed.{Packed, dense, belongs, finalOf, isAhead, finalsOf, shared, own}
 use Rattle.encoder.proofs.DenseIds.{dense-below, ids-length}
 use Rattle.finishing.specs.declared.answers.Report.{Report}
-use Rattle.finishing.specs.Late.{reportOf}
+use Rattle.finishing.specs.Late.{originWords, reportOf}
 use Rattle.rule.proofs.Theorems.{words-length}
 use Rattle.call.specs.Lending.{Lending}
 use Rattle.call.specs.Build.{packedOf, after}
 use Rattle.accepted.proofs.ManyLaws.{all-join}
 use Rattle.accepted.proofs.RunSound.{runs-rows, words-ids}
-use Rattle.accepted.proofs.Accepted.{Accepted, packedIn, storeIn, bytes-are, merges-are, out-is, ids-is, map-is, log-is}
+use Rattle.accepted.proofs.Accepted.{Accepted, packedIn, storeIn, bytes-are, merges-are, out-is, ids-is, map-is, log-is, origins-is, origins-long}
 
 -- ---- one buffer
 
@@ -131,3 +131,9 @@ module _ (c : Lending) (r : Report) (a : Accepted c r) where
   log-past =
       ap (drop (3 * r .merges)) (log-is c r a)
       ∙ past-over (c .lent .log) (words (packedIn c (a .said) .log)) (3 * r .merges) (omega (arith, merges-are c r a, words-length (packedIn c (a .said) .log)))
+
+  -- behind two words a starting group
+  pub origins-past : drop (2 * r .groups) (after c .lent .origins) ≡ drop (2 * r .groups) (c .lent .origins)
+  origins-past =
+      ap (drop (2 * r .groups)) (origins-is c r a)
+      ∙ past-over (c .lent .origins) (originWords 0 (packedIn c (a .said) .origins)) (2 * r .groups) (origins-long c r a)

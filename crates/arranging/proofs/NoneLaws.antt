@@ -13,7 +13,7 @@ use Rattle.rule.specs.Told.{words}
 use Rattle.store.specs.Lent.{coordsIn, finalAt, finalsAt}
 use Rattle.encoder.specs.declared.places.Places.{Places}
 use Rattle.encoder.specs.Packed.{Packed, own, oneCost}
-use Rattle.encoder.specs.Lent.{relabel, groupAt, FinalIn, PackedAt}
+use Rattle.encoder.specs.Lent.{relabel, groupAt, originsIn, FinalIn, PackedAt}
 use Rattle.finishing.specs.declared.answers.Built.{Built}
 use Rattle.finishing.specs.Buffers.{Buffers}
 use Rattle.finishing.specs.declared.answers.Report.{Report}
@@ -32,7 +32,7 @@ unfolding seg
 null-in = record { shape-to = omega arith; rows-from = omega arith; rows-to = omega arith; numbers = tt }
 
 none-packed : PackedAt (own 0 []) noPlaces oneNull three
-unfolding own oneCost tabulate seg relabel finalsAt finalAt coverFrom sum words
+unfolding own oneCost tabulate seg relabel originsIn finalsAt finalAt coverFrom sum words
 none-packed = record {
   held = record { room = omega arith; rows = omega arith; body = λ x h. absurd (omega arith); ascending = λ x h. absurd (omega arith); proper = λ x h. absurd (omega arith) };
   sets-few = omega arith;
@@ -43,6 +43,8 @@ none-packed = record {
   finals-to = omega arith;
   rows-to = omega arith;
   log-to = omega arith;
+  order-to = omega arith;
+  homes-to = λ i h. absurd (omega arith);
   ids-are = refl;
   sets-are = λ x h. absurd (omega arith);
   distinct-is = refl;
@@ -52,6 +54,7 @@ none-packed = record {
   finals-are = refl;
   groups-is = refl;
   groups-few = omega arith;
+  origins-are = refl;
   merges-is = refl;
   log-are = refl;
   weighed-is = refl;

@@ -18,7 +18,7 @@ lending axes mode job work pairs lent = record { axes = axes; mode = mode; job =
 
 -- a forecast is lent nothing to write to
 abbrev pub noBuffers : Buffers
-noBuffers = buffers [] [] [] []
+noBuffers = buffers [] [] [] [] []
 
 -- what work, pair records and buffers hold after the call
 pub record Left : Type 0 where

@@ -30,13 +30,23 @@ fn finish_none(
     ids: &mut [u32],
     map: &mut [u32],
     log: &mut [u32],
+    origins: &mut [u32],
 ) -> Built
     requires { ⌜ axes ≤ mostAxes ⌝ }
-    ensures { λ r. ⌜ Finished axes [] (own 0 []) r (buffers (now (out .entry)) (now (ids .entry)) (now (map .entry)) (now (log .entry))) (buffers (now (out .exit)) (now (ids .exit)) (now (map .exit)) (now (log .exit))) ⌝ }
+    ensures { λ r. ⌜ Finished axes [] (own 0 []) r (buffers (now (out .entry)) (now (ids .entry)) (now (map .entry)) (now (log .entry)) (now (origins .entry))) (buffers (now (out .exit)) (now (ids .exit)) (now (map .exit)) (now (log .exit)) (now (origins .exit))) ⌝ }
 {
     let mut null = [0u32; 3];
     null[1] = 3;
-    finish(job, &mut null, null_packing(axes), out, ids, map, log)
+    finish(
+        job,
+        &mut null,
+        null_packing(axes),
+        out,
+        ids,
+        map,
+        log,
+        origins,
+    )
 }
 
 // Packs the sets by their mode, looks whether the profile takes the columns, and finishes.
@@ -49,15 +59,16 @@ fn pack_sets(
     ids: &mut [u32],
     map: &mut [u32],
     log: &mut [u32],
+    origins: &mut [u32],
 ) -> Built
     requires { ⌜ PackFit (now job) s m (now work) ⌝ }
-    ensures { λ r. ⌜ ((axes mode : ℕ) (o : Outcome) (mid : List ℕ) → Read axes mode (now (job .entry)) o s mid → Joined s m mid (now (work .entry)) → RecordsBuilt (s .profile) axes mode o r (buffers (now (out .entry)) (now (ids .entry)) (now (map .entry)) (now (log .entry))) (buffers (now (out .exit)) (now (ids .exit)) (now (map .exit)) (now (log .exit)))) ⌝ }
+    ensures { λ r. ⌜ ((axes mode : ℕ) (o : Outcome) (mid : List ℕ) → Read axes mode (now (job .entry)) o s mid → Joined s m mid (now (work .entry)) → RecordsBuilt (s .profile) axes mode o r (buffers (now (out .entry)) (now (ids .entry)) (now (map .entry)) (now (log .entry)) (now (origins .entry))) (buffers (now (out .exit)) (now (ids .exit)) (now (map .exit)) (now (log .exit)) (now (origins .exit)))) ⌝ }
 {
     if s.no != 0 {
         return Built::Refused(s.no, s.at);
     }
     if is_null(s) {
-        return finish_none(job, s.axes, out, ids, map, log);
+        return finish_none(job, s.axes, out, ids, map, log, origins);
     }
     let k = arrange(work, s, m);
     let p = k.places;
@@ -72,7 +83,7 @@ fn pack_sets(
     if too_wide(profile, work, t) {
         return Built::Refused(Refusal::WIDE_SUBTABLE, 0);
     }
-    finish(job, work, k, out, ids, map, log)
+    finish(job, work, k, out, ids, map, log, origins)
 }
 
 // Answers, and clears work unless nothing was written there.
@@ -85,14 +96,15 @@ pub fn close(
     ids: &mut [u32],
     map: &mut [u32],
     log: &mut [u32],
+    origins: &mut [u32],
 ) -> Built
     requires { ⌜ CloseFit (now job) s m (now work) ⌝ }
-    ensures { λ r. ⌜ ((profile : Profile) (axes mode : ℕ) (old : List ℕ) (pairs : ℕ) (mid : List ℕ) → OpenedAt profile axes mode (now (job .entry)) old pairs mid s → Joined s m mid (now (work .entry)) → Closed profile axes mode (now (job .entry)) old pairs r (buffers (now (out .entry)) (now (ids .entry)) (now (map .entry)) (now (log .entry))) (buffers (now (out .exit)) (now (ids .exit)) (now (map .exit)) (now (log .exit))) (now (work .exit))) ⌝ }
+    ensures { λ r. ⌜ ((profile : Profile) (axes mode : ℕ) (old : List ℕ) (pairs : ℕ) (mid : List ℕ) → OpenedAt profile axes mode (now (job .entry)) old pairs mid s → Joined s m mid (now (work .entry)) → Closed profile axes mode (now (job .entry)) old pairs r (buffers (now (out .entry)) (now (ids .entry)) (now (map .entry)) (now (log .entry)) (now (origins .entry))) (buffers (now (out .exit)) (now (ids .exit)) (now (map .exit)) (now (log .exit)) (now (origins .exit))) (now (work .exit))) ⌝ }
 {
     if s.early {
         return Built::Refused(s.no, s.at);
     }
-    let r = pack_sets(job, work, s, m, out, ids, map, log);
+    let r = pack_sets(job, work, s, m, out, ids, map, log, origins);
     clear_work(work);
     r
 }

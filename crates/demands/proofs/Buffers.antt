@@ -23,7 +23,7 @@ use Rattle.refusing.proofs.WalkEnds.{walk-no}
 use Rattle.demands.proofs.OutcomeRows.{early, outcome-by, outcome-walked, early-few, walked-only, job-only, late-many, late, Answers, answers}
 use Rattle.demands.proofs.OutcomeRows.Answers.{by-job, by-late, done}
 
--- ---- output, ids, map and log
+-- ---- output, ids, map, log and origins
 
 module _ (c : Lending) where
   job-kept : (n p : ℕ) → outcomeOf c ≡ refused n p → after c .lent ≡ c .lent
@@ -40,7 +40,7 @@ module _ (c : Lending) where
     where
       go : Answers c → after c .lent ≡ c .lent
       go (by-job m q f g b) = job-kept m q f
-      go (by-late s f b g) = late-kept s f (λ z. omega arith)
+      go (by-late s f b g) = late-kept s f (λ z. omega (arith, b .some))
       go (done s f b g) = let z : _≡_ {A = ℕ} 0 1 = cc in absurd (omega arith)
 
 -- ---- whether one of 1 to 4 was given
@@ -48,7 +48,7 @@ module _ (c : Lending) where
 module _ (c : Lending) where
   some-early : (n p : ℕ) → n ≤ 4 → answerOf c ≡ Refused n p → early c ≡ 0 → ⊥
   some-early n p h e z =
-      let f = job-only c n p (λ x. omega arith) e in
+      let f = job-only c n p (λ x. absurd (omega arith)) e in
       let g = walk-no (c .axes) (c .mode) (c .job) (length (c .job) / 12) n p (sym (outcome-walked c z) ∙ f) in
       let l = g .low in
       omega arith

@@ -24,16 +24,16 @@ use Rattle.rule.proofs.Theorems.{Merges, saved, merged-merges, run-total, all-g
 use Rattle.rule.proofs.Origins.{homes, one-home, Made, made, times, joinOf, setsOf}
 use Rattle.store.specs.Placing.{allRuns, storeOf}
 use Rattle.said.specs.Job.{Said}
-use Rattle.sizes.specs.Sizes.{groupAt}
-use Rattle.encoder.specs.Packed.{Packed, shared, own, isAhead, finalOf, finalsOf, oneCost}
+use Rattle.sizes.specs.Sizes.{groupAt, shapesJoined}
+use Rattle.encoder.specs.Packed.{Packed, originsOf, shared, own, isAhead, finalOf, finalsOf, oneCost}
 use Rattle.finishing.specs.declared.answers.Report.{Report}
 use Rattle.finishing.specs.declared.answers.Built.the-variants.{Done}
-use Rattle.finishing.specs.Late.{storeFor, reportOf}
+use Rattle.finishing.specs.Late.{storeFor, originWords, reportOf}
 use Rattle.call.specs.Lending.{Lending}
 use Rattle.call.specs.Build.{coordsInUse, packedOf, outcomeOf, answerOf, after}
-use Rattle.accepted.proofs.Accepted.{Accepted, accepted, packedIn, log-is, store-front, log-front}
+use Rattle.accepted.proofs.Accepted.{Accepted, accepted, packedIn, log-is, origins-is, store-front, log-front, origins-front}
 use Rattle.demands.proofs.JoinSteps.{joins}
-use Rattle.demands.specs.Demand3.{homesOf, shapesJoined, MadeOf, Ruled, groupsSaid, Demand3, NoMerging}
+use Rattle.demands.specs.Demand3.{homesOf, MadeOf, Ruled, groupsSaid, Demand3, NoMerging}
 
 -- ---- the rule on a list of groups
 
@@ -42,9 +42,9 @@ unfolding saved weigh
 saved-is [] = refl
 saved-is (e ∷ l) = ap (λ (n : ℕ). e .gain + n) (saved-is l)
 
-homes-are : (xs : List Group) (i : ℕ) → i < length xs → homesOf i (merged xs .living) ≡ 1
-unfolding homes times merged
-homes-are xs i h = one-home (length xs) xs i h
+homes-are : (xs : List Group) (j i : ℕ) → i < length xs → homesOf i (run j (start xs) .living) ≡ 1
+unfolding homes times
+homes-are xs j i h = one-home j xs i h
 
 shapes-are : (xs : List Group) (l : List ℕ) → joinOf xs l ≡ shapesJoined xs l
 unfolding joinOf shapesJoined
@@ -55,9 +55,8 @@ made-is : (xs : List Group) (g : Living) → Made xs g → MadeOf xs g
 unfolding setsOf
 made-is xs g m = record { shape-is = m .shape-is ∙ shapes-are xs (g .origins); sets-is = m .sets-is }
 
-all-made : (xs : List Group) → All (MadeOf xs) (merged xs .living)
-unfolding merged
-all-made xs = all-imp (made-is xs) (run (length xs) (start xs) .living) (made (length xs) xs)
+all-made : (xs : List Group) (j : ℕ) → All (MadeOf xs) (run j (start xs) .living)
+all-made xs j = all-imp (made-is xs) (run j (start xs) .living) (made j xs)
 
 falls-by : (xs : List Group) → total (merged xs .living) + weigh (λ (e : Entry). e .gain) (merged xs .log) ≡ total (start xs .living)
 unfolding merged
@@ -101,6 +100,10 @@ module _ (s : Said) where
   unfolding shared
   log-is-rule = ap (λ (p : Packed). p .log) (shared-is s)
 
+  origins-of : packedOf 0 s .origins ≡ originsOf (groupsSaid s)
+  unfolding shared
+  origins-of = ap (λ (p : Packed). p .origins) (shared-is s)
+
   finals-living : packedOf 0 s .finals ≡ map (finalOf (length (s .used)) (groupsSaid s) (distinct (s .sets))) (sorted isAhead (merged (groupsSaid s) .living))
   unfolding shared finalsOf
   finals-living = ap (λ (p : Packed). p .finals) (shared-is s)
@@ -135,6 +138,9 @@ module _ (c : Lending) (r : Report) (a : Accepted c r) (m : c .mode ≡ 0) where
   log-is-here : packedIn c (a .said) .log ≡ merged (groupsSaid (a .said)) .log
   log-is-here = ap (λ (p : Packed). p .log) packed-is ∙ log-is-rule (a .said)
 
+  origins-are-here : packedIn c (a .said) .origins ≡ originsOf (groupsSaid (a .said))
+  origins-are-here = ap (λ (p : Packed). p .origins) packed-is ∙ origins-of (a .said)
+
   tables-of : r .subtables ≡ length (allRuns (packedOf 0 (a .said) .finals))
   tables-of = unfold reportOf in ap (λ (t : Report). t .subtables) (a .report-is) ∙ ap (λ (p : Packed). length (allRuns (p .finals))) packed-is
 
@@ -145,6 +151,7 @@ module _ (c : Lending) (r : Report) (a : Accepted c r) (m : c .mode ≡ 0) where
     rule = ruled-here;
     no-fold = λ j p e. merging.no-fold (length (a .said .used)) j (groupsSaid (a .said)) (groups-proper (length (a .said .used)) (a .said .sets)) p e;
     log-front = log-front c r a ∙ ap words log-is-here;
+    origins-front = origins-front c r a ∙ ap (originWords 0) origins-are-here;
     finals-are = finals-living (a .said);
     written = store-front c r a ∙ ap (storeFor (c .axes) (coordsInUse (a .said))) packed-is ∙ store-of (a .said) (c .axes);
     subtables-are = tables-of;
@@ -176,6 +183,10 @@ own-log : (s : Said) (log : List ℕ) → over log 0 (length (words (packedOf 1 
 unfolding own words
 own-log s log = ap (λ (p : Packed). over log 0 (length (words (p .log))) (words (p .log))) (own-is s)
 
+own-origins : (s : Said) (origins : List ℕ) → over origins 0 (length (originWords 0 (packedOf 1 s .origins))) (originWords 0 (packedOf 1 s .origins)) ≡ origins
+unfolding own originWords
+own-origins s origins = ap (λ (p : Packed). over origins 0 (length (originWords 0 (p .origins))) (originWords 0 (p .origins))) (own-is s)
+
 pub no-merging : (c : Lending) (r : Report) → c .mode ≡ 1 → answerOf c ≡ Done r → NoMerging c r
 no-merging c r m e =
     let a = accepted c r e in
@@ -189,5 +200,6 @@ no-merging c r m e =
       no-pairs = t .2;
       before-is = t .3;
       after-is = t .4;
+      origins-kept = origins-is c r a ∙ ap (λ (k : Packed). over (c .lent .origins) 0 (length (originWords 0 (k .origins))) (originWords 0 (k .origins))) p ∙ own-origins (a .said) (c .lent .origins);
       log-kept = log-is c r a ∙ ap (λ (k : Packed). over (c .lent .log) 0 (length (words (k .log))) (words (k .log))) p ∙ own-log (a .said) (c .lent .log);
     }

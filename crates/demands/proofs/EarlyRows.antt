@@ -176,7 +176,7 @@ module _ (c : Lending) (p : ℕ) where
   row : (n : ℕ) (Why : Type 0) → 0 < n → n ≤ 4 → Exactly (earlyNo (c .axes) (c .mode) (length (c .job)) (length (c .work)) (length (c .pairs)) ≡ n) Why → Exactly (answerOf c ≡ Refused n p) ((p ≡ 0) × Why)
   row n Why low high x = record {
     given = λ b. answer-refused c n p (rw (b .0) (outcome-early c n (x .given (b .1)) low));
-    only = λ e. let a = early-only c n p high (job-only c n p (λ z. omega arith) e) in (a .1, x .only (a .0));
+    only = λ e. let a = early-only c n p high (job-only c n p (λ z. absurd (omega arith)) e) in (a .1, x .only (a .0));
   }
 
   -- R1 BAD_AXES

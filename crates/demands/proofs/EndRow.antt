@@ -49,7 +49,7 @@ module _ (c : Lending) where
         rw (b .0) (answer-refused c 8 records (is-ended (refused 8 records) (a .fits)
         (record { state = t .0; all-pass = t .1; ends = unfinished-is (c .axes) (c .job) records (t .0) m .given (a .why) })));
     only = λ e.
-        let a = ended-is (refused 8 p) (λ n q f. cc) (job-only c 8 p (λ z. omega arith) e) in
+        let a = ended-is (refused 8 p) (λ n q f. cc) (job-only c 8 p (λ z. absurd (omega arith)) e) in
         let x = a .1 in
         let at : p ≡ records = ended-no (c .axes) (c .job) records (x .state) 8 p (x .ends) .1 in
         let m = means (c .axes) (c .mode) (c .job) records (x .state) (x .all-pass) in (

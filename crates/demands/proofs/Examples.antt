@@ -41,7 +41,7 @@ use Rattle.finishing.specs.declared.answers.Built.{Built}
 use Rattle.finishing.specs.declared.answers.Built.the-variants.{Done}
 use Rattle.pairs.specs.declared.Pair.{Pair}
 use Rattle.finishing.specs.Buffers.{Buffers, buffers, lengths}
-use Rattle.finishing.specs.Late.{storeFor, regionsKept, lateNo, reportOf, lateAnswer, written, buffersLeft}
+use Rattle.finishing.specs.Late.{storeFor, regionsKept, originWords, lateNo, reportOf, lateAnswer, written, buffersLeft}
 use Rattle.call.specs.Lending.{Lending, lending}
 use Rattle.call.specs.Build.{regionBytes, coordsInUse, packedOf, answerFrom, leftFrom, outcomeOf, answerOf, after}
 
@@ -94,7 +94,7 @@ jobOf l = axisRecord R0 0 0x4000 0x4000 ++ (axisRecord R1 0xC000 0xC000 0 ++ set
 
 -- ---- what is asked, and what is left
 
--- a mode, sets, and how much is lent for output, ids, map and log
+-- a mode, sets, and how much is lent for output, ids, map, log and origins
 pub record Ask : Type 0 where
   pub mode : ℕ
   pub sets : List Values
@@ -102,6 +102,7 @@ pub record Ask : Type 0 where
   pub ids : ℕ
   pub map : ℕ
   pub log : ℕ
+  pub origins : ℕ
 
 pub record Left : Type 0 where
   pub answer : Built
@@ -109,6 +110,7 @@ pub record Left : Type 0 where
   pub ids : List ℕ
   pub map : List ℕ
   pub log : List ℕ
+  pub origins : List ℕ
   pub work : List ℕ
 
 -- what everything lent holds before, so where it stands below nothing was written
@@ -130,6 +132,7 @@ builtWith mode bytes old work =
       ids = new .ids;
       map = new .map;
       log = new .log;
+      origins = new .origins;
       work = workLeft 1 mode (length bytes) pairRecords work;
     }
 
@@ -144,11 +147,11 @@ built-as mode bytes old work pairs e = rw e (refl, refl, refl)
 -- with one word of work more than is published
 abbrev built : Ask → Left
 built a =
-    builtWith (a .mode) (jobOf (a .sets)) (buffers (full (a .out)) (full (a .ids)) (full (a .map)) (full (a .log)))
+    builtWith (a .mode) (jobOf (a .sets)) (buffers (full (a .out)) (full (a .ids)) (full (a .map)) (full (a .log)) (full (a .origins)))
     (full (suc (publishedWork (length (jobOf (a .sets)) / 12))))
 
-abbrev ask : ℕ → List Values → ℕ → ℕ → ℕ → ℕ → Ask
-ask mode sets out ids map log = record { mode = mode; sets = sets; out = out; ids = ids; map = map; log = log }
+abbrev ask : ℕ → List Values → ℕ → ℕ → ℕ → ℕ → ℕ → Ask
+ask mode sets out ids map log origins = record { mode = mode; sets = sets; out = out; ids = ids; map = map; log = log; origins = origins }
 
 -- store bytes, subtables, regions kept, distinct ids, N, merges, pairs weighed, modelled size before and after merging, forecast
 abbrev counts : ℕ → ℕ → ℕ → ℕ → ℕ → ℕ → ℕ → ℕ → ℕ → ℕ → Report
@@ -165,41 +168,41 @@ counts bytes subtables regions ids groups merges weighed before after forecast =
   forecast = forecast;
 }
 
--- done, with these counts, output, ids, map and log; and all of so many words of work are zero
-abbrev left : Report → List ℕ → List ℕ → List ℕ → List ℕ → ℕ → Left
-left report out ids map log work = record { answer = Done report; out = out; ids = ids; map = map; log = log; work = replicate work 0 }
+-- done, with these counts, output, ids, map, log and origins; and all of so many words of work are zero
+abbrev left : Report → List ℕ → List ℕ → List ℕ → List ℕ → List ℕ → ℕ → Left
+left report out ids map log origins work = record { answer = Done report; out = out; ids = ids; map = map; log = log; origins = origins; work = replicate work 0 }
 
 abbrev asks : List Ask
 asks =
     -- P1: no sets
-    ask 0 [] 14 1 1 1
+    ask 0 [] 14 1 1 1 1
     -- P2: the same in mode 1
-    ∷ ask 1 [] 18 1 1 1
+    ∷ ask 1 [] 18 1 1 1 1
     -- P3: {R0:10}
-    ∷ ask 0 (one R0 (plus 10) ∷ []) 33 2 2 1
+    ∷ ask 0 (one R0 (plus 10) ∷ []) 33 2 2 1 3
     -- P4: {R0:0}
-    ∷ ask 0 (one R0 (plus 0) ∷ []) 24 2 2 1
+    ∷ ask 0 (one R0 (plus 0) ∷ []) 24 2 2 1 3
     -- P5: {R0:-128, R1:128}
-    ∷ ask 0 (two R0 (less 128) R1 (plus 128) ∷ []) 43 2 2 1
+    ∷ ask 0 (two R0 (less 128) R1 (plus 128) ∷ []) 43 2 2 1 3
     -- P6: {R0:127}, and another job: {R0:-129}
-    ∷ ask 0 (one R0 (plus 127) ∷ []) 33 2 2 1
-    ∷ ask 0 (one R0 (less 129) ∷ []) 34 2 2 1
+    ∷ ask 0 (one R0 (plus 127) ∷ []) 33 2 2 1 3
+    ∷ ask 0 (one R0 (less 129) ∷ []) 34 2 2 1 3
     -- P7: {R0:100, R1:70000}
-    ∷ ask 0 (two R0 (plus 100) R1 (plus 70000) ∷ []) 46 2 2 1
+    ∷ ask 0 (two R0 (plus 100) R1 (plus 70000) ∷ []) 46 2 2 1 3
     -- P8: {R0:1}, {R1:1}
-    ∷ ask 0 (one R0 (plus 1) ∷ one R1 (plus 1) ∷ []) 44 3 3 4
+    ∷ ask 0 (one R0 (plus 1) ∷ one R1 (plus 1) ∷ []) 44 3 3 4 5
     -- P9: five sets on R0 and five on R1
     ∷ ask 0 (
     one R0 (plus 10) ∷ one R0 (plus 20) ∷ one R0 (plus 30) ∷ one R0 (plus 40) ∷ one R0 (plus 50)
-    ∷ one R1 (less 1) ∷ one R1 (less 2) ∷ one R1 (less 3) ∷ one R1 (less 4) ∷ one R1 (less 5) ∷ []) 60 11 11 4
+    ∷ one R1 (less 1) ∷ one R1 (less 2) ∷ one R1 (less 3) ∷ one R1 (less 4) ∷ one R1 (less 5) ∷ []) 60 11 11 4 5
     -- P10: five and four
     ∷ ask 0 (
     one R0 (plus 10) ∷ one R0 (plus 20) ∷ one R0 (plus 30) ∷ one R0 (plus 40) ∷ one R0 (plus 50)
-    ∷ one R1 (less 1) ∷ one R1 (less 2) ∷ one R1 (less 3) ∷ one R1 (less 4) ∷ []) 58 10 10 4
+    ∷ one R1 (less 1) ∷ one R1 (less 2) ∷ one R1 (less 3) ∷ one R1 (less 4) ∷ []) 58 10 10 4 5
     -- P11: {R0:1} and {R0:1, R1:0}
-    ∷ ask 0 (one R0 (plus 1) ∷ two R0 (plus 1) R1 (plus 0) ∷ []) 33 3 2 1
+    ∷ ask 0 (one R0 (plus 1) ∷ two R0 (plus 1) R1 (plus 0) ∷ []) 33 3 2 1 3
     -- P12: the empty set, {R0:10}
-    ∷ ask 0 ([] ∷ one R0 (plus 10) ∷ []) 34 3 3 4
+    ∷ ask 0 ([] ∷ one R0 (plus 10) ∷ []) 34 3 3 4 5
     ∷ []
 
 unfoldable pub answers : List Left
@@ -211,61 +214,61 @@ pub examples : answers ≡
     (0 ∷ 1 ∷ 0 ∷ 0 ∷ 0 ∷ 8 ∷ 0 ∷ 0
     ∷ 0 ∷ 1 ∷ 0 ∷ 0
     ∷ x ∷ x ∷ [])
-    (x ∷ []) (x ∷ []) (x ∷ []) 37
+    (x ∷ []) (x ∷ []) (x ∷ []) (x ∷ []) 37
     -- P2: 16 bytes, of which four are the offset 0
     ∷ left (counts 16 1 0 0 0 0 0 0 0 16)
     (0 ∷ 1 ∷ 0 ∷ 0 ∷ 0 ∷ 0x0C ∷ 0 ∷ 1 ∷ 0 ∷ 0 ∷ 0 ∷ 0
     ∷ 0 ∷ 1 ∷ 0 ∷ 0
     ∷ x ∷ x ∷ [])
-    (x ∷ []) (x ∷ []) (x ∷ []) 37
+    (x ∷ []) (x ∷ []) (x ∷ []) (x ∷ []) 37
     -- P3: 31 bytes; map word 0
     ∷ left (counts 31 1 1 1 1 0 0 13 13 31)
     (0 ∷ 1 ∷ 0 ∷ 0 ∷ 0 ∷ 0x0C ∷ 0 ∷ 1 ∷ 0 ∷ 0 ∷ 0 ∷ 0x16
     ∷ 0 ∷ 1 ∷ 0 ∷ 1 ∷ 0 ∷ 0 ∷ 0x40 ∷ 0 ∷ 0x40 ∷ 0
     ∷ 0 ∷ 1 ∷ 0 ∷ 0 ∷ 0 ∷ 1 ∷ 0 ∷ 0 ∷ 0x0A
     ∷ x ∷ x ∷ [])
-    (0 ∷ x ∷ []) (0 ∷ x ∷ []) (x ∷ []) 81
+    (0 ∷ x ∷ []) (0 ∷ x ∷ []) (x ∷ []) (0 ∷ 0 ∷ x ∷ []) 81
     -- P4: 22 bytes; the row has none, and no region is kept
     ∷ left (counts 22 1 0 1 1 0 0 10 10 22)
     (0 ∷ 1 ∷ 0 ∷ 0 ∷ 0 ∷ 0x0C ∷ 0 ∷ 1 ∷ 0 ∷ 0 ∷ 0 ∷ 0x10
     ∷ 0 ∷ 1 ∷ 0 ∷ 0
     ∷ 0 ∷ 1 ∷ 0 ∷ 0 ∷ 0 ∷ 0
     ∷ x ∷ x ∷ [])
-    (0 ∷ x ∷ []) (0 ∷ x ∷ []) (x ∷ []) 81
+    (0 ∷ x ∷ []) (0 ∷ x ∷ []) (x ∷ []) (0 ∷ 0 ∷ x ∷ []) 81
     -- P5: columns R1, R0; word count 1; row 0080 80
     ∷ left (counts 41 1 2 1 1 0 0 17 17 41)
     (0 ∷ 1 ∷ 0 ∷ 0 ∷ 0 ∷ 0x0C ∷ 0 ∷ 1 ∷ 0 ∷ 0 ∷ 0 ∷ 0x1C
     ∷ 0 ∷ 1 ∷ 0 ∷ 2 ∷ 0 ∷ 0 ∷ 0x40 ∷ 0 ∷ 0x40 ∷ 0 ∷ 0xC0 ∷ 0 ∷ 0xC0 ∷ 0 ∷ 0 ∷ 0
     ∷ 0 ∷ 1 ∷ 0 ∷ 1 ∷ 0 ∷ 2 ∷ 0 ∷ 1 ∷ 0 ∷ 0 ∷ 0 ∷ 0x80 ∷ 0x80
     ∷ x ∷ x ∷ [])
-    (0 ∷ x ∷ []) (0 ∷ x ∷ []) (x ∷ []) 106
+    (0 ∷ x ∷ []) (0 ∷ x ∷ []) (x ∷ []) (0 ∷ 0 ∷ x ∷ []) 106
     -- P6: word count 0, row 7F; word count 1, row FF7F
     ∷ left (counts 31 1 1 1 1 0 0 13 13 31)
     (0 ∷ 1 ∷ 0 ∷ 0 ∷ 0 ∷ 0x0C ∷ 0 ∷ 1 ∷ 0 ∷ 0 ∷ 0 ∷ 0x16
     ∷ 0 ∷ 1 ∷ 0 ∷ 1 ∷ 0 ∷ 0 ∷ 0x40 ∷ 0 ∷ 0x40 ∷ 0
     ∷ 0 ∷ 1 ∷ 0 ∷ 0 ∷ 0 ∷ 1 ∷ 0 ∷ 0 ∷ 0x7F
     ∷ x ∷ x ∷ [])
-    (0 ∷ x ∷ []) (0 ∷ x ∷ []) (x ∷ []) 81
+    (0 ∷ x ∷ []) (0 ∷ x ∷ []) (x ∷ []) (0 ∷ 0 ∷ x ∷ []) 81
     ∷ left (counts 32 1 1 1 1 0 0 14 14 32)
     (0 ∷ 1 ∷ 0 ∷ 0 ∷ 0 ∷ 0x0C ∷ 0 ∷ 1 ∷ 0 ∷ 0 ∷ 0 ∷ 0x16
     ∷ 0 ∷ 1 ∷ 0 ∷ 1 ∷ 0 ∷ 0 ∷ 0x40 ∷ 0 ∷ 0x40 ∷ 0
     ∷ 0 ∷ 1 ∷ 0 ∷ 1 ∷ 0 ∷ 1 ∷ 0 ∷ 0 ∷ 0xFF ∷ 0x7F
     ∷ x ∷ x ∷ [])
-    (0 ∷ x ∷ []) (0 ∷ x ∷ []) (x ∷ []) 81
+    (0 ∷ x ∷ []) (0 ∷ x ∷ []) (x ∷ []) (0 ∷ 0 ∷ x ∷ []) 81
     -- P7: word count 0x8001; row 00011170 0064
     ∷ left (counts 44 1 2 1 1 0 0 19 19 44)
     (0 ∷ 1 ∷ 0 ∷ 0 ∷ 0 ∷ 0x0C ∷ 0 ∷ 1 ∷ 0 ∷ 0 ∷ 0 ∷ 0x1C
     ∷ 0 ∷ 1 ∷ 0 ∷ 2 ∷ 0 ∷ 0 ∷ 0x40 ∷ 0 ∷ 0x40 ∷ 0 ∷ 0xC0 ∷ 0 ∷ 0xC0 ∷ 0 ∷ 0 ∷ 0
     ∷ 0 ∷ 1 ∷ 0x80 ∷ 1 ∷ 0 ∷ 2 ∷ 0 ∷ 1 ∷ 0 ∷ 0 ∷ 0 ∷ 1 ∷ 0x11 ∷ 0x70 ∷ 0 ∷ 0x64
     ∷ x ∷ x ∷ [])
-    (0 ∷ x ∷ []) (0 ∷ x ∷ []) (x ∷ []) 106
+    (0 ∷ x ∷ []) (0 ∷ x ∷ []) (x ∷ []) (0 ∷ 0 ∷ x ∷ []) 106
     -- P8: 42 bytes; one merge, which gains 8; the second set's row is first
     ∷ left (counts 42 1 2 2 2 1 1 26 18 42)
     (0 ∷ 1 ∷ 0 ∷ 0 ∷ 0 ∷ 0x0C ∷ 0 ∷ 1 ∷ 0 ∷ 0 ∷ 0 ∷ 0x1C
     ∷ 0 ∷ 1 ∷ 0 ∷ 2 ∷ 0 ∷ 0 ∷ 0x40 ∷ 0 ∷ 0x40 ∷ 0 ∷ 0xC0 ∷ 0 ∷ 0xC0 ∷ 0 ∷ 0 ∷ 0
     ∷ 0 ∷ 2 ∷ 0 ∷ 0 ∷ 0 ∷ 2 ∷ 0 ∷ 0 ∷ 0 ∷ 1 ∷ 0 ∷ 1 ∷ 1 ∷ 0
     ∷ x ∷ x ∷ [])
-    (0 ∷ 1 ∷ x ∷ []) (1 ∷ 0 ∷ x ∷ []) (0 ∷ 1 ∷ 8 ∷ x ∷ []) 133
+    (0 ∷ 1 ∷ x ∷ []) (1 ∷ 0 ∷ x ∷ []) (0 ∷ 1 ∷ 8 ∷ x ∷ []) (0 ∷ 0 ∷ 1 ∷ 0 ∷ x ∷ []) 133
     -- P9: gain 0, two subtables
     ∷ left (counts 58 2 2 10 2 0 1 34 34 58)
     (0 ∷ 1 ∷ 0 ∷ 0 ∷ 0 ∷ 0x10 ∷ 0 ∷ 2 ∷ 0 ∷ 0 ∷ 0 ∷ 0x20 ∷ 0 ∷ 0 ∷ 0 ∷ 0x2D
@@ -273,28 +276,28 @@ pub examples : answers ≡
     ∷ 0 ∷ 5 ∷ 0 ∷ 0 ∷ 0 ∷ 1 ∷ 0 ∷ 0 ∷ 0x0A ∷ 0x14 ∷ 0x1E ∷ 0x28 ∷ 0x32
     ∷ 0 ∷ 5 ∷ 0 ∷ 0 ∷ 0 ∷ 1 ∷ 0 ∷ 1 ∷ 0xFB ∷ 0xFC ∷ 0xFD ∷ 0xFE ∷ 0xFF
     ∷ x ∷ x ∷ [])
-    (0 ∷ 1 ∷ 2 ∷ 3 ∷ 4 ∷ 5 ∷ 6 ∷ 7 ∷ 8 ∷ 9 ∷ x ∷ []) (0 ∷ 1 ∷ 2 ∷ 3 ∷ 4 ∷ 0x1_0004 ∷ 0x1_0003 ∷ 0x1_0002 ∷ 0x1_0001 ∷ 0x1_0000 ∷ x ∷ []) (x ∷ x ∷ x ∷ x ∷ []) 837
+    (0 ∷ 1 ∷ 2 ∷ 3 ∷ 4 ∷ 5 ∷ 6 ∷ 7 ∷ 8 ∷ 9 ∷ x ∷ []) (0 ∷ 1 ∷ 2 ∷ 3 ∷ 4 ∷ 0x1_0004 ∷ 0x1_0003 ∷ 0x1_0002 ∷ 0x1_0001 ∷ 0x1_0000 ∷ x ∷ []) (x ∷ x ∷ x ∷ x ∷ []) (0 ∷ 0 ∷ 1 ∷ 1 ∷ x ∷ []) 837
     -- P10: gain 1, one subtable
     ∷ left (counts 56 1 2 9 2 1 1 33 32 56)
     (0 ∷ 1 ∷ 0 ∷ 0 ∷ 0 ∷ 0x0C ∷ 0 ∷ 1 ∷ 0 ∷ 0 ∷ 0 ∷ 0x1C
     ∷ 0 ∷ 1 ∷ 0 ∷ 2 ∷ 0 ∷ 0 ∷ 0x40 ∷ 0 ∷ 0x40 ∷ 0 ∷ 0xC0 ∷ 0 ∷ 0xC0 ∷ 0 ∷ 0 ∷ 0
     ∷ 0 ∷ 9 ∷ 0 ∷ 0 ∷ 0 ∷ 2 ∷ 0 ∷ 0 ∷ 0 ∷ 1 ∷ 0 ∷ 0xFC ∷ 0 ∷ 0xFD ∷ 0 ∷ 0xFE ∷ 0 ∷ 0xFF ∷ 0x0A ∷ 0 ∷ 0x14 ∷ 0 ∷ 0x1E ∷ 0 ∷ 0x28 ∷ 0 ∷ 0x32 ∷ 0
     ∷ x ∷ x ∷ [])
-    (0 ∷ 1 ∷ 2 ∷ 3 ∷ 4 ∷ 5 ∷ 6 ∷ 7 ∷ 8 ∷ x ∷ []) (4 ∷ 5 ∷ 6 ∷ 7 ∷ 8 ∷ 3 ∷ 2 ∷ 1 ∷ 0 ∷ x ∷ []) (0 ∷ 1 ∷ 1 ∷ x ∷ []) 721
+    (0 ∷ 1 ∷ 2 ∷ 3 ∷ 4 ∷ 5 ∷ 6 ∷ 7 ∷ 8 ∷ x ∷ []) (4 ∷ 5 ∷ 6 ∷ 7 ∷ 8 ∷ 3 ∷ 2 ∷ 1 ∷ 0 ∷ x ∷ []) (0 ∷ 1 ∷ 1 ∷ x ∷ []) (0 ∷ 0 ∷ 1 ∷ 0 ∷ x ∷ []) 721
     -- P11: both id 0
     ∷ left (counts 31 1 1 1 1 0 0 13 13 31)
     (0 ∷ 1 ∷ 0 ∷ 0 ∷ 0 ∷ 0x0C ∷ 0 ∷ 1 ∷ 0 ∷ 0 ∷ 0 ∷ 0x16
     ∷ 0 ∷ 1 ∷ 0 ∷ 1 ∷ 0 ∷ 0 ∷ 0x40 ∷ 0 ∷ 0x40 ∷ 0
     ∷ 0 ∷ 1 ∷ 0 ∷ 0 ∷ 0 ∷ 1 ∷ 0 ∷ 0 ∷ 1
     ∷ x ∷ x ∷ [])
-    (0 ∷ 0 ∷ x ∷ []) (0 ∷ x ∷ []) (x ∷ []) 162
+    (0 ∷ 0 ∷ x ∷ []) (0 ∷ x ∷ []) (x ∷ []) (0 ∷ 0 ∷ x ∷ []) 162
     -- P12: a gain of 9; the row of zero is first
     ∷ left (counts 32 1 1 2 2 1 1 23 14 32)
     (0 ∷ 1 ∷ 0 ∷ 0 ∷ 0 ∷ 0x0C ∷ 0 ∷ 1 ∷ 0 ∷ 0 ∷ 0 ∷ 0x16
     ∷ 0 ∷ 1 ∷ 0 ∷ 1 ∷ 0 ∷ 0 ∷ 0x40 ∷ 0 ∷ 0x40 ∷ 0
     ∷ 0 ∷ 2 ∷ 0 ∷ 0 ∷ 0 ∷ 1 ∷ 0 ∷ 0 ∷ 0 ∷ 0x0A
     ∷ x ∷ x ∷ [])
-    (0 ∷ 1 ∷ x ∷ []) (0 ∷ 1 ∷ x ∷ []) (0 ∷ 1 ∷ 9 ∷ x ∷ []) 106
+    (0 ∷ 1 ∷ x ∷ []) (0 ∷ 1 ∷ x ∷ []) (0 ∷ 1 ∷ 9 ∷ x ∷ []) (0 ∷ 0 ∷ 1 ∷ 0 ∷ x ∷ []) 106
     ∷ []
-unfolding answers setRecords setsRecords jobOf weigh allBelow tabulate be bytesOf compared thenBy isMost fits isZero signed twos word value insert sorted keep widthOf costOf rowCost columns overhead join shapes.widthsOrder shapes.order groupCost joined gain wordOf sameSet sets.byWords sets.partNone sets.partHead sets.parting sets.orderOf sets.order place withSet idsFrom distinctFrom groups.shapeOf groups.putShape groups.withShape groups.groupsFrom groups.groupsOf coverFrom rule.keepOut rule.outs rule.pairWith rule.keepPair rule.pairs rule.better rule.lead rule.best rule.worth rule.ifWorth rule.choice rule.entry rule.merge rule.follow rule.step rule.run rule.number rule.start rule.merged rule.total words addIf ofWidth columnsOf wordCount bytesFor wordIn cellsOf rowOf joinAll rows.runCount store.runsOf store.allRuns store.inRun store.idWords store.names store.slotOf store.madeOf stores.tableBytes stores.slotBytes stores.offsets stores.listBytes stores.place store.storeOf columnAt store.runBytes store.forecastOf stored mustBeZero firstNotZero wrongByte valueWord firstFailed publishedWork earlyNo inTurn formNo valueNo endNo said.coordinates said.regionList said.sameRegion said.like said.firstLike said.has said.withUse said.indexIn said.withEntry said.withValue job.unless job.afterValue job.afterEnd job.valueStep job.endStep job.regionsOnly job.saidAt job.axesBefore job.isLate job.kindStep job.step job.endedSets job.ended job.follow job.recordsFrom job.outcomeFrom job.outcome workLeft packed.noLater packed.dense packed.sameShape packed.numberOf packed.isAmong packed.belongs packed.finalOf packed.isAhead packed.finalsOf packed.shared packed.oneCost packed.own storeFor regionsKept lateNo reportOf lateAnswer written buffersLeft regionBytes coordsInUse packedOf answerFrom leftFrom
+unfolding answers setRecords setsRecords jobOf weigh allBelow tabulate be bytesOf compared thenBy isMost fits isZero signed twos word value insert sorted keep widthOf costOf rowCost columns overhead join shapes.widthsOrder shapes.order groupCost joined gain wordOf sameSet sets.byWords sets.partNone sets.partHead sets.parting sets.orderOf sets.order place withSet idsFrom distinctFrom groups.shapeOf groups.putShape groups.withShape groups.groupsFrom groups.groupsOf coverFrom rule.keepOut rule.outs rule.pairWith rule.keepPair rule.pairs rule.better rule.lead rule.best rule.worth rule.ifWorth rule.choice rule.entry rule.merge rule.follow rule.step rule.run rule.number rule.start rule.merged rule.total words addIf ofWidth columnsOf wordCount bytesFor wordIn cellsOf rowOf joinAll rows.runCount store.runsOf store.allRuns store.inRun store.idWords store.names store.slotOf store.madeOf stores.tableBytes stores.slotBytes stores.offsets stores.listBytes stores.place store.storeOf columnAt store.runBytes store.forecastOf stored mustBeZero firstNotZero wrongByte valueWord firstFailed publishedWork earlyNo inTurn formNo valueNo endNo said.coordinates said.regionList said.sameRegion said.like said.firstLike said.has said.withUse said.indexIn said.withEntry said.withValue job.unless job.afterValue job.afterEnd job.valueStep job.endStep job.regionsOnly job.saidAt job.axesBefore job.isLate job.kindStep job.step job.endedSets job.ended job.follow job.recordsFrom job.outcomeFrom job.outcome workLeft packed.noLater packed.dense packed.sameShape packed.numberOf packed.isAmong packed.belongs packed.finalOf packed.isAhead packed.homeOf packed.originsOf packed.finalsOf packed.shared packed.oneCost packed.own storeFor regionsKept originWords lateNo reportOf lateAnswer written buffersLeft regionBytes coordsInUse packedOf answerFrom leftFrom
 examples = refl

@@ -82,9 +82,12 @@ module _ (c : Lending) where
             let groups = ap (λ (t : Report). t .groups) x in
             let bytes = ap (λ (t : Report). t .bytes) x in
             let fits : OutFit d s = record {
-              log-fit = record {
-                map-fit = record { ids-fit = record { shapes-fit = record { shapes-few = h }; ids-room = room .ids-room }; map-room = omega (arith, room .map-room) };
-                log-room = omega (arith, room .log-room);
+              origins-fit = record {
+                log-fit = record {
+                  map-fit = record { ids-fit = record { shapes-fit = record { shapes-few = h }; ids-room = room .ids-room }; map-room = omega (arith, room .map-room) };
+                  log-room = omega (arith, room .log-room);
+                };
+                origins-room = omega (arith, room .origins-room);
               };
               out-room = omega (arith, room .out-room);
             } in
@@ -102,7 +105,7 @@ module _ (c : Lending) where
     foreseen : (r : Report) → answerOf (building c work pairs lent) ≡ Done r → foretold c ≡ Done r
     foreseen r e =
         let t = is-done d r .only e in
-        sets-tell (t .said) (sym said-alike ∙ t .sound) (t .holds .0 .log-fit .map-fit .ids-fit .shapes-fit .shapes-few) ∙ ap Done (sym (t .holds .1))
+        sets-tell (t .said) (sym said-alike ∙ t .sound) (t .holds .0 .origins-fit .log-fit .map-fit .ids-fit .shapes-fit .shapes-few) ∙ ap Done (sym (t .holds .1))
 
   -- THE LAW
   pub foretold-law : Foretold c

@@ -23,9 +23,9 @@ use Rattle.call.specs.Build.{coordsInUse, packedOf, outcomeOf, answerOf}
 use Rattle.accepted.proofs.PastLaws.{ids-long}
 use Rattle.refusing.specs.Exactly.{Exactly}
 use Rattle.refusing.specs.Counts.{endRecords}
-use Rattle.demands.specs.Rooms.{Taken, shapeCount, distinctIds, storeBytes, ShapesFit, IdsFit, MapFit, LogFit, OutFit}
-use Rattle.refusing.proofs.FailedLaws.{Tests, this, failed, other, later, passed, none-failed}
-use Rattle.demands.proofs.OutcomeRows.{late, answer-late, answer-done, late-only, Answers, answers}
+use Rattle.demands.specs.Rooms.{Taken, shapeCount, distinctIds, storeBytes, ShapesFit, IdsFit, MapFit, LogFit, OriginsFit, OutFit}
+use Rattle.refusing.proofs.FailedLaws.{this-alone, Tests, this, failed, other, later, passed, none-failed}
+use Rattle.demands.proofs.OutcomeRows.{LateNo, no-low, no-high, late, answer-late, answer-done, late-only, Answers, answers}
 use Rattle.demands.proofs.OutcomeRows.Answers.{by-job, by-late, done}
 
 -- ---- N, and the ids
@@ -41,7 +41,7 @@ shapes-none mode s d = rw (ne-eqb mode 0 d, shapeCount)
 shapes-mode : (mode : ℕ) (s : Said) → 0 < shapeCount mode s → mode ≡ 0
 shapes-mode mode s h = ⊎-elim (λ (e : mode ≡ 0). e) (λ d. let n = shapes-none mode s d in absurd (omega arith)) (same-or-not mode 0)
 
--- ---- the five tests
+-- ---- the six tests
 
 module _ (c : Lending) (s : Said) (ends : length (s .sets) ≡ endRecords (c .job)) where
   abbrev axes : ℕ
@@ -66,6 +66,9 @@ module _ (c : Lending) (s : Said) (ends : length (s .sets) ≡ endRecords (c .jo
   abbrev logOk : Bool
   logOk = leb (3 * (k .groups - 1)) (l .log)
 
+  abbrev originsOk : Bool
+  originsOk = leb (2 * k .groups) (l .origins)
+
   abbrev mapOk : Bool
   mapOk = leb (length (k .sets)) (l .map)
 
@@ -78,8 +81,11 @@ module _ (c : Lending) (s : Said) (ends : length (s .sets) ≡ endRecords (c .jo
   abbrev at14 : Tests
   at14 = (outOk, 14) ∷ []
 
+  abbrev at61 : Tests
+  at61 = (originsOk, 61) ∷ at14
+
   abbrev at13 : Tests
-  at13 = (logOk, 13) ∷ at14
+  at13 = (logOk, 13) ∷ at61
 
   abbrev at12 : Tests
   at12 = (mapOk, 12) ∷ at13
@@ -108,10 +114,15 @@ module _ (c : Lending) (s : Said) (ends : length (s .sets) ≡ endRecords (c .jo
         let a = past11 d d′ in
         (record { ids-fit = a .0; map-room = leb-true (length (k .sets)) (l .map) (other 12 at13 n mapOk d″ (a .1)) }, later 12 at13 n mapOk d″ (a .1))
 
-    past13 : (10 ≡ n → ⊥) → (11 ≡ n → ⊥) → (12 ≡ n → ⊥) → (13 ≡ n → ⊥) → LogFit c s × (firstFailed at14 ≡ n)
+    past13 : (10 ≡ n → ⊥) → (11 ≡ n → ⊥) → (12 ≡ n → ⊥) → (13 ≡ n → ⊥) → LogFit c s × (firstFailed at61 ≡ n)
     past13 d d′ d″ d‴ =
         let a = past12 d d′ d″ in
-        (record { map-fit = a .0; log-room = leb-true (3 * (k .groups - 1)) (l .log) (other 13 at14 n logOk d‴ (a .1)) }, later 13 at14 n logOk d‴ (a .1))
+        (record { map-fit = a .0; log-room = leb-true (3 * (k .groups - 1)) (l .log) (other 13 at61 n logOk d‴ (a .1)) }, later 13 at61 n logOk d‴ (a .1))
+
+    past61 : (10 ≡ n → ⊥) → (11 ≡ n → ⊥) → (12 ≡ n → ⊥) → (13 ≡ n → ⊥) → (61 ≡ n → ⊥) → OriginsFit c s × (firstFailed at14 ≡ n)
+    past61 d d′ d″ d‴ f =
+        let a = past13 d d′ d″ d‴ in
+        (record { log-fit = a .0; origins-room = leb-true (2 * k .groups) (l .origins) (other 61 at14 n originsOk f (a .1)) }, later 61 at14 n originsOk f (a .1))
 
   to10 : (n : ℕ) → ShapesFit mode s → firstFailed at11 ≡ n → late c s ≡ n
   to10 n a e = late-is ∙ passed 10 at11 n shapesOk (le-leb (k .groups) 1024 (a .shapes-few)) e
@@ -124,14 +135,17 @@ module _ (c : Lending) (s : Said) (ends : length (s .sets) ≡ endRecords (c .jo
   to12 : (n : ℕ) → MapFit c s → firstFailed at13 ≡ n → late c s ≡ n
   to12 n a e = to11 n (a .ids-fit) (passed 12 at13 n mapOk (le-leb (length (k .sets)) (l .map) (a .map-room)) e)
 
-  to13 : (n : ℕ) → LogFit c s → firstFailed at14 ≡ n → late c s ≡ n
-  to13 n a e = to12 n (a .map-fit) (passed 13 at14 n logOk (le-leb (3 * (k .groups - 1)) (l .log) (a .log-room)) e)
+  to13 : (n : ℕ) → LogFit c s → firstFailed at61 ≡ n → late c s ≡ n
+  to13 n a e = to12 n (a .map-fit) (passed 13 at61 n logOk (le-leb (3 * (k .groups - 1)) (l .log) (a .log-room)) e)
+
+  to61 : (n : ℕ) → OriginsFit c s → firstFailed at14 ≡ n → late c s ≡ n
+  to61 n a e = to13 n (a .log-fit) (passed 61 at14 n originsOk (le-leb (2 * k .groups) (l .origins) (a .origins-room)) e)
 
   late-shapes : Exactly (late c s ≡ 10) ((mode ≡ 0) × (1024 < shapeCount mode s))
   late-shapes = record {
     given = λ b. late-is ∙ failed 10 at11 shapesOk (lt-leb (k .groups) 1024 (b .1));
     only = λ e.
-        let h = leb-false (k .groups) 1024 (this 10 at11 shapesOk (omega arith) (omega arith, (omega arith, (omega arith, (omega arith, tt)))) (sym late-is ∙ e)) in
+        let h = leb-false (k .groups) 1024 (this 10 at11 shapesOk (omega arith) (omega arith, (omega arith, (omega arith, (omega arith, (omega arith, tt))))) (sym late-is ∙ e)) in
         (shapes-mode mode s (omega arith), h);
   }
 
@@ -142,7 +156,7 @@ module _ (c : Lending) (s : Said) (ends : length (s .sets) ≡ endRecords (c .jo
         to10 11 (b .0) (failed 11 at12 idsOk (lt-leb (length (k .ids)) (l .ids) (omega (arith, ids-are))));
     only = λ e.
         let a = past10 11 e (λ z. omega arith) in
-        let h = leb-false (length (k .ids)) (l .ids) (this 11 at12 idsOk (omega arith) (omega arith, (omega arith, (omega arith, tt))) (a .1)) in
+        let h = leb-false (length (k .ids)) (l .ids) (this 11 at12 idsOk (omega arith) (omega arith, (omega arith, (omega arith, (omega arith, tt)))) (a .1)) in
         (a .0, omega (arith, ids-are));
   }
 
@@ -151,33 +165,42 @@ module _ (c : Lending) (s : Said) (ends : length (s .sets) ≡ endRecords (c .jo
     given = λ b. to11 12 (b .0) (failed 12 at13 mapOk (lt-leb (length (k .sets)) (l .map) (b .1)));
     only = λ e.
         let a = past11 12 e (λ z. omega arith) (λ z. omega arith) in
-        (a .0, leb-false (length (k .sets)) (l .map) (this 12 at13 mapOk (omega arith) (omega arith, (omega arith, tt)) (a .1)));
+        (a .0, leb-false (length (k .sets)) (l .map) (this 12 at13 mapOk (omega arith) (omega arith, (omega arith, (omega arith, tt))) (a .1)));
   }
 
   late-log : Exactly (late c s ≡ 13) (MapFit c s × (mode ≡ 0) × (1 ≤ shapeCount mode s) × (l .log < 3 * (shapeCount mode s - 1)))
   late-log = record {
-    given = λ b. to12 13 (b .0) (failed 13 at14 logOk (lt-leb (3 * (k .groups - 1)) (l .log) (b .3)));
+    given = λ b. to12 13 (b .0) (failed 13 at61 logOk (lt-leb (3 * (k .groups - 1)) (l .log) (b .3)));
     only = λ e.
         let a = past12 13 e (λ z. omega arith) (λ z. omega arith) (λ z. omega arith) in
-        let h = leb-false (3 * (k .groups - 1)) (l .log) (this 13 at14 logOk (omega arith) (omega arith, tt) (a .1)) in
+        let h = leb-false (3 * (k .groups - 1)) (l .log) (this 13 at61 logOk (omega arith) (omega arith, (omega arith, tt)) (a .1)) in
         let some : 1 ≤ shapeCount mode s = omega arith in
         (a .0, shapes-mode mode s (omega arith), some, h);
   }
 
-  late-out : Exactly (late c s ≡ 14) (LogFit c s × (l .out < storeBytes axes mode s))
-  late-out = record {
-    given = λ b. to13 14 (b .0) (failed 14 [] outOk (lt-leb (length (storeFor axes (coordsInUse s) k)) (l .out) (b .1)));
+  late-origins : Exactly (late c s ≡ 61) (LogFit c s × (mode ≡ 0) × (l .origins < 2 * shapeCount mode s))
+  late-origins = record {
+    given = λ b. to13 61 (b .0) (failed 61 at14 originsOk (lt-leb (2 * k .groups) (l .origins) (b .2)));
     only = λ e.
-        let a = past13 14 e (λ z. omega arith) (λ z. omega arith) (λ z. omega arith) (λ z. omega arith) in
+        let a = past13 61 e (λ z. omega arith) (λ z. omega arith) (λ z. omega arith) (λ z. omega arith) in
+        let h = leb-false (2 * k .groups) (l .origins) (this-alone 61 at14 originsOk (omega arith) ((λ z. omega arith), tt) (a .1)) in
+        (a .0, shapes-mode mode s (omega arith), h);
+  }
+
+  late-out : Exactly (late c s ≡ 14) (OriginsFit c s × (l .out < storeBytes axes mode s))
+  late-out = record {
+    given = λ b. to61 14 (b .0) (failed 14 [] outOk (lt-leb (length (storeFor axes (coordsInUse s) k)) (l .out) (b .1)));
+    only = λ e.
+        let a = past61 14 e (λ z. omega arith) (λ z. omega arith) (λ z. omega arith) (λ z. omega arith) (λ z. omega arith) in
         (a .0, leb-false (length (storeFor axes (coordsInUse s) k)) (l .out) (this 14 [] outOk (omega arith) tt (a .1)));
   }
 
   late-none : Exactly (late c s ≡ 0) (OutFit c s)
   late-none = record {
-    given = λ b. to13 0 (b .log-fit) (passed 14 [] 0 outOk (le-leb (length (storeFor axes (coordsInUse s) k)) (l .out) (b .out-room)) none-failed);
+    given = λ b. to61 0 (b .origins-fit) (passed 14 [] 0 outOk (le-leb (length (storeFor axes (coordsInUse s) k)) (l .out) (b .out-room)) none-failed);
     only = λ e.
-        let a = past13 0 e (λ z. omega arith) (λ z. omega arith) (λ z. omega arith) (λ z. omega arith) in
-        record { log-fit = a .0; out-room = leb-true (length (storeFor axes (coordsInUse s) k)) (l .out) (other 14 [] 0 outOk (λ z. omega arith) (a .1)) };
+        let a = past61 0 e (λ z. omega arith) (λ z. omega arith) (λ z. omega arith) (λ z. omega arith) (λ z. omega arith) in
+        record { origins-fit = a .0; out-room = leb-true (length (storeFor axes (coordsInUse s) k)) (l .out) (other 14 [] 0 outOk (λ z. omega arith) (a .1)) };
   }
 
 -- ---- the rows
@@ -188,37 +211,41 @@ ends-of c s e = told (c .axes) (c .mode) (c .job) (length (c .work)) (length (c 
 
 module _ (c : Lending) where
   module _ (p : ℕ) where
-    row : (n : ℕ) (Why : Said → Type 0) → 10 ≤ n → n ≤ 14 → ((s : Said) → length (s .sets) ≡ endRecords (c .job) → Exactly (late c s ≡ n) (Why s))
+    row : (n : ℕ) (Why : Said → Type 0) → LateNo n → ((s : Said) → length (s .sets) ≡ endRecords (c .job) → Exactly (late c s ≡ n) (Why s))
         → Exactly (answerOf c ≡ Refused n p) ((p ≡ 0) × Taken c Why)
-    row n Why low high x = record {
-      given = λ b. rw (b .0) (answer-late c (b .1 .said) n (b .1 .sound) (x (b .1 .said) (ends-of c (b .1 .said) (b .1 .sound)) .given (b .1 .holds)) (omega arith));
+    row n Why ok x = record {
+      given = λ b. rw (b .0) (answer-late c (b .1 .said) n (b .1 .sound) (x (b .1 .said) (ends-of c (b .1 .said) (b .1 .sound)) .given (b .1 .holds)) (omega (arith, ok .some)));
       only = λ e.
-          let a = late-only c n p low high e in
+          let a = late-only c n p ok e in
           (a .0, record { said = a .1; sound = a .2; holds = x (a .1) (ends-of c (a .1) (a .2)) .only (a .3) });
     }
 
     -- R10 SHAPES_FULL
     pub shapes-full : Exactly (answerOf c ≡ Refused 10 p) ((p ≡ 0) × Taken c (λ s. ((c .mode) ≡ 0) × (1024 < shapeCount (c .mode) s)))
-    shapes-full = row 10 (λ s. ((c .mode) ≡ 0) × (1024 < shapeCount (c .mode) s)) (omega arith) (omega arith) (late-shapes c)
+    shapes-full = row 10 (λ s. ((c .mode) ≡ 0) × (1024 < shapeCount (c .mode) s)) (no-low (omega arith) (omega arith)) (late-shapes c)
 
     -- R11 IDS_SHORT
     pub ids-short : Exactly (answerOf c ≡ Refused 11 p) ((p ≡ 0) × Taken c (λ s. ShapesFit (c .mode) s × (length (c .lent .ids) < endRecords (c .job))))
-    ids-short = row 11 (λ s. ShapesFit (c .mode) s × (length (c .lent .ids) < endRecords (c .job))) (omega arith) (omega arith) (late-ids c)
+    ids-short = row 11 (λ s. ShapesFit (c .mode) s × (length (c .lent .ids) < endRecords (c .job))) (no-low (omega arith) (omega arith)) (late-ids c)
 
     -- R12 MAP_SHORT
     pub map-short : Exactly (answerOf c ≡ Refused 12 p) ((p ≡ 0) × Taken c (λ s. IdsFit c s × (length (c .lent .map) < distinctIds (c .mode) s)))
-    map-short = row 12 (λ s. IdsFit c s × (length (c .lent .map) < distinctIds (c .mode) s)) (omega arith) (omega arith) (late-map c)
+    map-short = row 12 (λ s. IdsFit c s × (length (c .lent .map) < distinctIds (c .mode) s)) (no-low (omega arith) (omega arith)) (late-map c)
 
     -- R13 LOG_SHORT
     pub log-short : Exactly (answerOf c ≡ Refused 13 p)
         ((p ≡ 0) × Taken c (λ s. MapFit c s × ((c .mode) ≡ 0) × (1 ≤ shapeCount (c .mode) s) × (length (c .lent .log) < 3 * (shapeCount (c .mode) s - 1))))
-    log-short = row 13 (λ s. MapFit c s × ((c .mode) ≡ 0) × (1 ≤ shapeCount (c .mode) s) × (length (c .lent .log) < 3 * (shapeCount (c .mode) s - 1))) (omega arith) (omega arith) (late-log c)
+    log-short = row 13 (λ s. MapFit c s × ((c .mode) ≡ 0) × (1 ≤ shapeCount (c .mode) s) × (length (c .lent .log) < 3 * (shapeCount (c .mode) s - 1))) (no-low (omega arith) (omega arith)) (late-log c)
+
+    -- R61 ORIGINS_SHORT
+    pub origins-short : Exactly (answerOf c ≡ Refused 61 p) ((p ≡ 0) × Taken c (λ s. LogFit c s × ((c .mode) ≡ 0) × (length (c .lent .origins) < 2 * shapeCount (c .mode) s)))
+    origins-short = row 61 (λ s. LogFit c s × ((c .mode) ≡ 0) × (length (c .lent .origins) < 2 * shapeCount (c .mode) s)) (no-high refl) (late-origins c)
 
     -- R14 OUT_SHORT
-    pub out-short : Exactly (answerOf c ≡ Refused 14 p) ((p ≡ 0) × Taken c (λ s. LogFit c s × (length (c .lent .out) < storeBytes (c .axes) (c .mode) s)))
-    out-short = row 14 (λ s. LogFit c s × (length (c .lent .out) < storeBytes (c .axes) (c .mode) s)) (omega arith) (omega arith) (late-out c)
+    pub out-short : Exactly (answerOf c ≡ Refused 14 p) ((p ≡ 0) × Taken c (λ s. OriginsFit c s × (length (c .lent .out) < storeBytes (c .axes) (c .mode) s)))
+    out-short = row 14 (λ s. OriginsFit c s × (length (c .lent .out) < storeBytes (c .axes) (c .mode) s)) (no-low (omega arith) (omega arith)) (late-out c)
 
-  -- done: the job is sound, and none of 10 to 14 is given
+  -- done: the job is sound, and none of 10 to 14 and 61 is given
   pub is-done : (r : Report) → Exactly (answerOf c ≡ Done r)
       (Taken c (λ s. OutFit c s × (r ≡ reportOf (c .axes) (coordsInUse s) (packedOf (c .mode) s))))
   is-done r = record {

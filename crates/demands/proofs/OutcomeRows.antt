@@ -13,7 +13,7 @@ use Rattle.finishing.specs.Buffers.{Lengths, lengths}
 use Rattle.finishing.specs.Late.{lateNo, lateAnswer, reportOf}
 use Rattle.call.specs.Lending.{Lending}
 use Rattle.call.specs.Build.{coordsInUse, packedOf, answerFrom, outcomeOf, answerOf}
-use Rattle.refusing.proofs.FailedLaws.{among}
+use Rattle.refusing.proofs.FailedLaws.{among, among-such}
 use Rattle.refusing.proofs.WalkEnds.{walk-no}
 
 -- ---- the numbers of each part
@@ -29,11 +29,23 @@ early-few axes mode bytes work pairs =
     ⊎-elim (λ (z : earlyNo axes mode bytes work pairs ≡ 0). omega arith) (λ (z : (1 ≤ earlyNo axes mode bytes work pairs) × (earlyNo axes mode bytes work pairs ≤ 4)). z .1)
     (early-some axes mode bytes work pairs)
 
+-- those of the tests after the records: 10 to 14, and 61
+pub record LateNo (n : ℕ) : Type 0 where
+  pub some : 10 ≤ n
+  pub few : (n ≤ 14) ⊎ (n ≡ 61)
+
+pub no-low : {n : ℕ} → 10 ≤ n → n ≤ 14 → LateNo n
+no-low p q = record { some = p; few = inl q }
+
+pub no-high : {n : ℕ} → n ≡ 61 → LateNo n
+no-high e = record { some = omega arith; few = inr e }
+
 pub late-many : (axes : ℕ) (s : Said) (mode : ℕ) (l : Lengths)
-    → (lateNo axes (coordsInUse s) (packedOf mode s) l ≡ 0) ⊎ ((10 ≤ lateNo axes (coordsInUse s) (packedOf mode s) l) × (lateNo axes (coordsInUse s) (packedOf mode s) l ≤ 14))
+    → (lateNo axes (coordsInUse s) (packedOf mode s) l ≡ 0) ⊎ LateNo (lateNo axes (coordsInUse s) (packedOf mode s) l)
 unfolding lateNo
 late-many axes s mode l =
-    among 10 14 _ ((omega arith, omega arith), ((omega arith, omega arith), ((omega arith, omega arith), ((omega arith, omega arith), ((omega arith, omega arith), tt)))))
+    among-such LateNo _
+    (no-low (omega arith) (omega arith), (no-low (omega arith) (omega arith), (no-low (omega arith) (omega arith), (no-low (omega arith) (omega arith), (no-high refl, (no-low (omega arith) (omega arith), tt))))))
 
 -- ---- the outcome
 
@@ -107,7 +119,7 @@ module _ (c : Lending) where
   -- who answers
   pub data Answers : Type 0 where
     by-job : (n p : ℕ) → outcomeOf c ≡ refused n p → answerOf c ≡ Refused n p → JobNo n → Answers
-    by-late : (s : Said) → outcomeOf c ≡ fine s → (10 ≤ late s) × (late s ≤ 14) → answerOf c ≡ Refused (late s) 0 → Answers
+    by-late : (s : Said) → outcomeOf c ≡ fine s → LateNo (late s) → answerOf c ≡ Refused (late s) 0 → Answers
     done : (s : Said) → outcomeOf c ≡ fine s → late s ≡ 0 → answerOf c ≡ Done (reportOf (c .axes) (coordsInUse s) (packedOf (c .mode) s)) → Answers
 
   pub answers : Answers
@@ -122,37 +134,50 @@ module _ (c : Lending) where
       go : (o : Outcome) → outcomeOf c ≡ o → Answers
       go (refused n p) e = by-job n p e (answer-refused n p e) (few n p e)
       go (fine s) e =
-          ⊎-elim (λ z. done s e z (answer-done s e z)) (λ h. by-late s e h (answer-late s (late s) e refl (omega arith)))
+          ⊎-elim (λ z. done s e z (answer-done s e z)) (λ h. by-late s e h (let l = h .some in answer-late s (late s) e refl (omega arith)))
           (late-many (c .axes) s (c .mode) (lengths (c .lent)))
 
-  pub job-only : (n p : ℕ) → (9 < n → 30 ≤ n) → answerOf c ≡ Refused n p → outcomeOf c ≡ refused n p
+  pub job-only : (n p : ℕ) → (9 < n → (30 ≤ n) × (n ≤ 34)) → answerOf c ≡ Refused n p → outcomeOf c ≡ refused n p
   job-only n p h e = go answers
     where
       go : Answers → outcomeOf c ≡ refused n p
       go (by-job m q f g b) = cc
-      go (by-late s f b g) = let z : late s ≡ n = cc in let l = b .0 in let m = b .1 in let k = h (omega arith) in absurd (omega arith)
+      go (by-late s f b g) =
+          let z : late s ≡ n = cc in
+          let l = b .some in
+          let k = h (omega arith) in
+          absurd (⊎-elim (λ (m : late s ≤ 14). omega (arith, k .0)) (λ (m : late s ≡ 61). omega (arith, k .1)) (b .few))
       go (done s f b g) = let z : _≡_ {A = ℕ} 0 1 = cc in absurd (omega arith)
 
-  pub late-only : (n p : ℕ) → 10 ≤ n → n ≤ 14 → answerOf c ≡ Refused n p → (p ≡ 0) × (s : Said) × (outcomeOf c ≡ fine s) × (late s ≡ n)
-  late-only n p low high e = go answers
+  pub late-only : (n p : ℕ) → LateNo n → answerOf c ≡ Refused n p → (p ≡ 0) × (s : Said) × (outcomeOf c ≡ fine s) × (late s ≡ n)
+  late-only n p ok e = go answers
     where
       go : Answers → (p ≡ 0) × (s : Said) × (outcomeOf c ≡ fine s) × (late s ≡ n)
-      go (by-job m q f g b) = let z : m ≡ n = cc in let k = b .gap (omega arith) in absurd (omega arith)
+      go (by-job m q f g b) =
+          let z : m ≡ n = cc in
+          let l = ok .some in
+          let k = b .gap (omega arith) in
+          let t = b .most in
+          absurd (⊎-elim (λ (x : n ≤ 14). omega arith) (λ (x : n ≡ 61). omega arith) (ok .few))
       go (by-late s f b g) = let z : late s ≡ n = cc in let y : p ≡ 0 = cc in (y, s, f, z)
       go (done s f b g) = let z : _≡_ {A = ℕ} 0 1 = cc in absurd (omega arith)
 
   -- there are no numbers but those of the table
-  pub numbers : (n p : ℕ) → answerOf c ≡ Refused n p → (1 ≤ n) × (n ≡ 5 → ⊥) × ((n ≤ 14) ⊎ ((30 ≤ n) × (n ≤ 34)))
+  pub numbers : (n p : ℕ) → answerOf c ≡ Refused n p → (1 ≤ n) × (n ≡ 5 → ⊥) × ((n ≤ 14) ⊎ (((30 ≤ n) × (n ≤ 34)) ⊎ (n ≡ 61)))
   numbers n p e = go answers
     where
-      go : Answers → (1 ≤ n) × (n ≡ 5 → ⊥) × ((n ≤ 14) ⊎ ((30 ≤ n) × (n ≤ 34)))
+      go : Answers → (1 ≤ n) × (n ≡ 5 → ⊥) × ((n ≤ 14) ⊎ (((30 ≤ n) × (n ≤ 34)) ⊎ (n ≡ 61)))
       go (by-job m q f g b) =
           let z : m ≡ n = cc in
           let s = b .some in
           let h = b .most in
-          (omega arith, λ x. b .not-five (z ∙ x), ⊎-elim (λ (l : 9 < n). inr (subst (λ (k : ℕ). 30 ≤ k) z (b .gap (omega arith)), omega arith)) (λ (l : n ≤ 9). inl (omega arith)) (lt-or-ge 9 n))
-      go (by-late s f b g) = let z : late s ≡ n = cc in let l = b .0 in let h = b .1 in (omega arith, λ x. omega arith, inl (omega arith))
+          (omega arith, λ x. b .not-five (z ∙ x), ⊎-elim (λ (l : 9 < n). inr (inl (subst (λ (k : ℕ). 30 ≤ k) z (b .gap (omega arith)), omega arith))) (λ (l : n ≤ 9). inl (omega arith)) (lt-or-ge 9 n))
+      go (by-late s f b g) =
+          let z : late s ≡ n = cc in
+          let l = b .some in
+          (omega arith, λ x. omega arith, ⊎-elim (λ (h : late s ≤ 14). inl (omega arith)) (λ (h : late s ≡ 61). inr (inr (sym z ∙ h))) (b .few))
       go (done s f b g) = let z : _≡_ {A = ℕ} 0 1 = cc in absurd (omega arith)
 
-  pub numbers-most : (n p : ℕ) → answerOf c ≡ Refused n p → n ≤ 34
-  numbers-most n p e = ⊎-elim (λ (h : n ≤ 14). omega arith) (λ (h : (30 ≤ n) × (n ≤ 34)). h .1) (numbers n p e .2)
+  pub numbers-most : (n p : ℕ) → answerOf c ≡ Refused n p → n ≤ 61
+  numbers-most n p e =
+      ⊎-elim (λ (h : n ≤ 14). omega arith) (λ k. ⊎-elim (λ (h : (30 ≤ n) × (n ≤ 34)). omega (arith, h .1)) (λ (h : n ≡ 61). omega arith) k) (numbers n p e .2)

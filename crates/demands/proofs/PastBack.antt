@@ -7,7 +7,7 @@ use Rattle.finishing.specs.declared.answers.Built.the-variants.{Done}
 use Rattle.call.specs.Lending.{Lending}
 use Rattle.call.specs.Build.{answerOf}
 use Rattle.accepted.proofs.Accepted.{accepted}
-use Rattle.accepted.proofs.PastLaws.{out-past, ids-past, map-past, log-past}
+use Rattle.accepted.proofs.PastLaws.{out-past, ids-past, map-past, log-past, origins-past}
 use Rattle.refusing.specs.Counts.{endRecords}
 use Rattle.demands.specs.Past.{PastKept}
 
@@ -21,4 +21,5 @@ past-kept c r e =
       ids-kept = ids-past c r a (endRecords (c .job)) (sym (t .sets-are));
       map-kept = map-past c r a;
       log-kept = log-past c r a;
+      origins-kept = origins-past c r a;
     }

@@ -48,7 +48,7 @@ module _ (c : Lending) (i : ℕ) where
   at-refused n k e =
       let x = record-walk n k in
       let low = x .low in
-      let o = job-only c n i (x .gap) e in
+      let o = job-only c n i (λ h. (x .gap h, x .high)) e in
       let w = walked-only c (refused n i) (λ m p f. let z : n ≡ m = cc in omega arith) o in (
         early-none (c .axes) (c .mode) (length (c .job)) (length (c .work)) (length (c .pairs)) .only (w .0),
         stops-only (c .axes) (c .mode) (c .job) records n i (not-eight n k) (w .1),

@@ -7,7 +7,7 @@ use lib.ListN.{length, replicate}
 use Rattle.said.specs.Records.{recordAt, recordCount, spareBytes}
 use Rattle.limits.specs.Limits.{mostRecords, mostAxes, maxShapes}
 use Rattle.said.specs.Refusals as refusals
-use Rattle.said.specs.Refusals.{publishedWork, pairRecords, badAxes, badMode, badJobLength, workShort, unknownRegion, regionTwice, setsFull, shapesFull, idsShort, mapShort, logShort, outShort, unknownKind, notZero, axisOutOfTurn, axisTooLate, regionUnfinished}
+use Rattle.said.specs.Refusals.{publishedWork, pairRecords, badAxes, badMode, badJobLength, workShort, unknownRegion, regionTwice, setsFull, shapesFull, idsShort, mapShort, logShort, originsShort, outShort, unknownKind, notZero, axisOutOfTurn, axisTooLate, regionUnfinished}
 use Rattle.said.specs.Job.{Said, fine}
 use Rattle.finishing.specs.declared.answers.Report.{Report}
 use Rattle.finishing.specs.declared.answers.Built.{Built}
@@ -23,7 +23,7 @@ use Rattle.refusing.specs.BadRecord.{BadRecord}
 use Rattle.refusing.specs.Fine.{Fine}
 use Rattle.reporting.specs.Answers.{byteTold}
 use Rattle.demands.specs.Rows.{EarliestBad, AllPass}
-use Rattle.demands.specs.Rooms.{Taken, shapeCount, distinctIds, storeBytes, ShapesFit, IdsFit, MapFit, LogFit, OutFit}
+use Rattle.demands.specs.Rooms.{Taken, shapeCount, distinctIds, storeBytes, ShapesFit, IdsFit, MapFit, LogFit, OriginsFit, OutFit}
 use Rattle.demands.specs.Past.{PastKept}
 
 -- the refusal n at place p is given exactly for this reason
@@ -56,11 +56,13 @@ pub record Table (c : Lending) : Type 0 where
   pub map-short : (p : ℕ) → Row c mapShort p ((p ≡ 0) × Taken c (λ s. IdsFit c s × (length (c .lent .map) < distinctIds (c .mode) s)))
   pub log-short : (p : ℕ) → Row c logShort p
       ((p ≡ 0) × Taken c (λ s. MapFit c s × (c .mode ≡ 0) × (1 ≤ shapeCount (c .mode) s) × (length (c .lent .log) < 3 * (shapeCount (c .mode) s - 1))))
-  pub out-short : (p : ℕ) → Row c outShort p ((p ≡ 0) × Taken c (λ s. LogFit c s × (length (c .lent .out) < storeBytes (c .axes) (c .mode) s)))
+  pub origins-short : (p : ℕ) → Row c originsShort p
+      ((p ≡ 0) × Taken c (λ s. LogFit c s × (c .mode ≡ 0) × (length (c .lent .origins) < 2 * shapeCount (c .mode) s)))
+  pub out-short : (p : ℕ) → Row c outShort p ((p ≡ 0) × Taken c (λ s. OriginsFit c s × (length (c .lent .out) < storeBytes (c .axes) (c .mode) s)))
   -- done exactly where no row is given
   pub is-done : (r : Report) → Exactly (answerOf c ≡ Done r) (Taken c (λ s. OutFit c s × (r ≡ reportOf (c .axes) (coordsInUse s) (packedOf (c .mode) s))))
   -- and there are no other numbers
-  pub numbers : (n p : ℕ) → answerOf c ≡ Refused n p → (1 ≤ n) × (n ≡ 5 → ⊥) × ((n ≤ outShort) ⊎ ((unknownKind ≤ n) × (n ≤ regionUnfinished)))
+  pub numbers : (n p : ℕ) → answerOf c ≡ Refused n p → (1 ≤ n) × (n ≡ 5 → ⊥) × ((n ≤ outShort) ⊎ (((unknownKind ≤ n) × (n ≤ regionUnfinished)) ⊎ (n ≡ originsShort)))
   -- no other refusal names a byte
   pub byte-elsewhere : (n p : ℕ) → (n ≡ notZero → ⊥) → answerOf c ≡ Refused n p → byteTold (c .job) (answerOf c) ≡ 0
   -- a job is taken exactly where it is sound
@@ -73,7 +75,7 @@ pub record Table (c : Lending) : Type 0 where
 
 -- what everything lent holds afterwards
 pub record Kept (c : Lending) : Type 0 where
-  -- L1: after a refusal output, ids, map and log are as they were
+  -- L1: after a refusal output, ids, map, log and origins are as they were
   pub untouched : (n p : ℕ) → answerOf c ≡ Refused n p → after c .lent ≡ c .lent
   -- L2: 1 to 4 leave work and pair records as they were, every other answer leaves zeros
   pub work-kept : (n p : ℕ) → n ≤ 4 → answerOf c ≡ Refused n p → after c .work ≡ c .work

@@ -18,9 +18,10 @@ use Rattle.rule.specs.Model.{Living, Pair, Entry, Ahead, gainOf, choice, entry,
 use Rattle.rule.specs.Told.{words}
 use Rattle.store.specs.Placing.{allRuns, storeOf}
 use Rattle.said.specs.Job.{Said, fine}
-use Rattle.encoder.specs.Packed.{isAhead, finalOf, oneCost}
-use Rattle.sizes.specs.Sizes.{groupAt}
+use Rattle.encoder.specs.Packed.{originsOf, isAhead, finalOf, oneCost}
+use Rattle.sizes.specs.Sizes.{groupAt, shapesJoined}
 use Rattle.finishing.specs.declared.answers.Report.{Report}
+use Rattle.finishing.specs.Late.{originWords}
 use Rattle.call.specs.Lending.{Lending}
 use Rattle.call.specs.Build.{coordsInUse, packedOf, outcomeOf, after}
 
@@ -49,11 +50,6 @@ pub record Joins (xs : List Group) (j : ℕ) : Type 0 where
 abbrev pub homesOf : ℕ → List Living → ℕ
 homesOf i l = weigh (λ g. weigh (λ j. pick (eqb i j) 1 0) (g .origins)) l
 
--- the shapes of some starting groups, joined
-unfoldable pub shapesJoined : List Group → List ℕ → Shape
-shapesJoined xs [] = []
-shapesJoined xs (i ∷ l) = join (groupAt xs i .shape) (shapesJoined xs l)
-
 -- a living group is made of the starting groups that went into it
 pub record MadeOf (xs : List Group) (g : Living) : Type 0 where
   pub shape-is : g .group .shape ≡ shapesJoined xs (g .origins)
@@ -79,9 +75,10 @@ pub record Ruled (xs : List Group) (n merges weighed before after : ℕ) : Type 
   -- M7
   pub pairs-weighed : weighed ≡ n * (n - 1) / 2 + merges * (n - 1) - merges * (merges + 1) / 2
   pub pairs-most : weighed ≤ (n - 1) * (n - 1)
-  -- each starting group is in just one living group, and each living group is made of its own
-  pub one-group : (i : ℕ) → i < n → homesOf i (merged xs .living) ≡ 1
-  pub made-of : All (MadeOf xs) (merged xs .living)
+  -- always, after any number of merges: each starting group is in just one living group, and each living group is made of
+  -- its own
+  pub one-group : (j i : ℕ) → i < n → homesOf i (run j (start xs) .living) ≡ 1
+  pub made-of : (j : ℕ) → All (MadeOf xs) (run j (start xs) .living)
 
 -- ---- a done build in mode 0
 
@@ -99,6 +96,8 @@ pub record Demand3 (c : Lending) (r : Report) : Type 0 where
       → All (λ h. h .group .shape ≡ join (p .first .group .shape) (p .second .group .shape) → ⊥) (p .rest)
   -- M5: the lent log begins with the rule's, three words a merge
   pub log-front : take (3 * r .merges) (after c .lent .log) ≡ words (merged (groupsSaid said) .log)
+  -- F6: the lent origins begin with where each starting group went, two words each
+  pub origins-front : take (2 * r .groups) (after c .lent .origins) ≡ originWords 0 (originsOf (groupsSaid said))
   -- the groups that are written are the ones that merging leaves, in the order of shapes (F2), and the output begins with their store
   pub finals-are : packedOf 0 said .finals
       ≡ map (finalOf (length (said .used)) (groupsSaid said) (distinct (said .sets))) (sorted isAhead (merged (groupsSaid said) .living))
@@ -117,3 +116,4 @@ pub record NoMerging (c : Lending) (r : Report) : Type 0 where
   pub before-is : r .before ≡ oneCost (length (said .used)) (said .sets)
   pub after-is : r .after ≡ oneCost (length (said .used)) (said .sets)
   pub log-kept : after c .lent .log ≡ c .lent .log
+  pub origins-kept : after c .lent .origins ≡ c .lent .origins

@@ -39,6 +39,7 @@ pub record RoomFor (job : List ℕ) (ids groups bytes : ℕ) (lent : Buffers) : 
   pub ids-room : endRecords job ≤ length (lent .ids)
   pub map-room : ids ≤ length (lent .map)
   pub log-room : 3 * (groups - 1) ≤ length (lent .log)
+  pub origins-room : 2 * groups ≤ length (lent .origins)
   pub out-room : bytes ≤ length (lent .out)
 
 pub record Foretold (c : Lending) : Type 0 where

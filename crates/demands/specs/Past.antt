@@ -16,3 +16,5 @@ pub record PastKept (c : Lending) (r : Report) : Type 0 where
   pub map-kept : drop (r .ids) (after c .lent .map) ≡ drop (r .ids) (c .lent .map)
   -- behind three words for each merge
   pub log-kept : drop (3 * r .merges) (after c .lent .log) ≡ drop (3 * r .merges) (c .lent .log)
+  -- behind two words for each starting group
+  pub origins-kept : drop (2 * r .groups) (after c .lent .origins) ≡ drop (2 * r .groups) (c .lent .origins)

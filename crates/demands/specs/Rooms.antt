@@ -1,4 +1,4 @@
--- R10 to R14 in plain numbers, of a job that is sound, in the order T4. Each record says what holds where
+-- R10 to R14 and R61 in plain numbers, of a job that is sound, in the order T4. Each record says what holds where
 -- the numbers up to its own are not given. Assumes nothing.
 use mathlib.Core.Path.{_≡_}
 use Prim.Native.Nat.{ℕ, _-_, _*_, _≤_}
@@ -41,6 +41,10 @@ pub record LogFit (c : Lending) (s : Said) : Type 0 where
   pub map-fit : MapFit c s
   pub log-room : 3 * (shapeCount (c .mode) s - 1) ≤ length (c .lent .log)
 
-pub record OutFit (c : Lending) (s : Said) : Type 0 where
+pub record OriginsFit (c : Lending) (s : Said) : Type 0 where
   pub log-fit : LogFit c s
+  pub origins-room : 2 * shapeCount (c .mode) s ≤ length (c .lent .origins)
+
+pub record OutFit (c : Lending) (s : Said) : Type 0 where
+  pub origins-fit : OriginsFit c s
   pub out-room : storeBytes (c .axes) (c .mode) s ≤ length (c .lent .out)

@@ -210,6 +210,10 @@ module _ {p : Places} {groups k : ℕ} {w : List ℕ} (f : ArrangeFit p groups k
             let r = d .room q h in
             sym (length-seg (getD w₄ (groupAt p q + 1) 0) (getD w₄ (groupAt p q + 2) 0) w₄ (omega (arith, lies, long₃, d .only .long))) ∙ ap length (d .rows q h)
 
+        homes₄ : (s : ℕ) → s < groups → getD w₄ (p .homes + s) 0 ≡ home₃ s
+        unfolding home₃
+        homes₄ s h = d .only .kept (p .homes + s) (record { apart = λ x. absurd (omega (arith, lies, few)) }, (record { apart = λ x. absurd (omega (arith, lies, few)) }, tt))
+
         pub arranged : Arranged p groups k w w₄ count
         unfolding rowsOf
         arranged =
@@ -222,6 +226,7 @@ module _ {p : Places} {groups k : ℕ} {w : List ℕ} (f : ArrangeFit p groups k
               count-is = l .count-is;
               home = home₃;
               home-is = home-at;
+              homes-are = homes₄;
               shape = head₄;
               rows-in = d .room;
               rows-few = omega (

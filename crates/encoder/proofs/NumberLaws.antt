@@ -15,7 +15,8 @@ use Rattle.laws.proofs.Cases.{Which, holds, fails, which, and-true, same-or-not
 use Rattle.laws.proofs.EveryLaws.{all-getD}
 use Rattle.shapes.specs.Shape.{Shape}
 use Rattle.shapes.specs.Group.{Group}
-use Rattle.encoder.specs.Packed.{sameShape, numberOf, isAmong}
+use Rattle.rule.specs.Model.{Living}
+use Rattle.encoder.specs.Packed.{sameShape, numberOf, isAmong, homeOf}
 
 -- ---- shapes
 
@@ -75,6 +76,18 @@ not-among i l n = go (which (isAmong i l))
     go : Which (isAmong i l) → isAmong i l ≡ false
     go (holds h) = absurd (n (among-mem i l h))
     go (fails h) = h
+
+-- of groups one of which i went into, the place of i has such a one
+pub home-found : (i : ℕ) (l : List Living) (d : Living) (q : ℕ) → q < length l → List·Memᴰ i (getD l q d .origins) → (homeOf i l < length l) × List·Memᴰ i (getD l (homeOf i l) d .origins)
+unfolding homeOf
+home-found i [] d q h m = absurd (omega arith)
+home-found i (g ∷ l) d zero h m = rw (among i (g .origins) m) (omega arith, m)
+home-found i (g ∷ l) d (suc q) h m = go (which (isAmong i (g .origins))) (home-found i l d q (omega arith) m)
+  where
+    go : Which (isAmong i (g .origins)) → (homeOf i l < length l) × List·Memᴰ i (getD l (homeOf i l) d .origins)
+        → (homeOf i (g ∷ l) < length (g ∷ l)) × List·Memᴰ i (getD (g ∷ l) (homeOf i (g ∷ l)) d .origins)
+    go (holds e) r = rw e (omega arith, among-mem i (g .origins) e)
+    go (fails e) r = rw e (omega (arith, r .0), r .1)
 
 -- ---- a member of a list
 

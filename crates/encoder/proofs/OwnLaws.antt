@@ -38,7 +38,7 @@ use Rattle.store.proofs.GroupLaws.{part-seg}
 use Rattle.encoder.specs.declared.places.Places.{Places}
 use Rattle.encoder.specs.Packed.{own, oneCost}
 use Rattle.encoder.specs.LentPlaces.{Laid}
-use Rattle.encoder.specs.Lent.{groupAt, Fit, relabel, FinalIn, OwnAt}
+use Rattle.encoder.specs.Lent.{groupAt, Fit, relabel, originsIn, FinalIn, OwnAt}
 use Rattle.encoder.specs.LentOwn.{WordsFit, WordsAt, CostFit, costAt}
 use Rattle.encoder.proofs.PlacesLaws.{room-one}
 
@@ -299,7 +299,7 @@ module _ {p : Places} {w : List ℕ} (f : Fit p w) (some : 0 < p .sets) where
 
           pub own-done : (cost : ℕ) → cost ≡ costAt (p .slots) (p .regions) (p .sets) y
               → OwnAt p w y (record { distinct = p .sets; count = 1; groups = 0; merges = 0; weighed = 0; before = cost; after = cost })
-          unfolding own words relabel
+          unfolding own words relabel originsIn tabulate
           own-done cost q =
               let o = order in
               record {
@@ -314,6 +314,8 @@ module _ {p : Places} {w : List ℕ} (f : Fit p w) (some : 0 < p .sets) where
                   finals-to = omega (arith, o .group-rows);
                   rows-to = omega (arith, laid .rows-to, long);
                   log-to = omega (arith, o .log-rows);
+                  order-to = omega (arith, laid);
+                  homes-to = λ i h. absurd (omega arith);
                   ids-are = rw all-long ids-are;
                   sets-are = λ k h. rw (all-long, up-at (p .sets) k h) (sets-at 0 (p .sets) w k h ∙ sym (set-same (f .held) line-kept k h));
                   distinct-is = sym all-long;
@@ -325,6 +327,7 @@ module _ {p : Places} {w : List ℕ} (f : Fit p w) (some : 0 < p .sets) where
                       ∙ rw (final-here, all-long, up-map (p .sets));
                   groups-is = refl;
                   groups-few = omega arith;
+                  origins-are = refl;
                   merges-is = refl;
                   log-are = seg-none (p .log) y;
                   weighed-is = refl;

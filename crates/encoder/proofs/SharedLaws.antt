@@ -10,14 +10,14 @@ use lib.Dec.{eqb}
 use lib.ListN.{length, getD, length-map}
 use lib.Seq.{ext-getD}
 use Rattle.laws.specs.Every.{All, EachTwo}
-use Rattle.laws.specs.Bounded.{upTo}
+use Rattle.laws.specs.Bounded.{upTo, tabulate}
 use Rattle.laws.specs.LentRange.{Apart, Only, seg}
 use Rattle.laws.specs.Sorting.{sorted, keep}
 use Rattle.laws.proofs.Cases.{same-or-not}
 use Rattle.laws.proofs.Products.{row-fits}
 use Rattle.laws.proofs.ListLaws.{getD-map-in}
 use Rattle.laws.proofs.EveryLaws.{all-imp, all-getD, all-intro}
-use Rattle.laws.proofs.BoundedLaws.{length-tabulate, getD-tabulate}
+use Rattle.laws.proofs.BoundedLaws.{length-tabulate, getD-tabulate, tabulate-same}
 use Rattle.laws.proofs.RangeLaws.{apart-part, only-trans, only-weaken, only-seg, seg-ext, getD-seg, length-seg}
 use Rattle.laws.proofs.SortLaws.{sorted-all, keep-same}
 use Rattle.laws.proofs.SortMap.{length-sorted, keep-all, keep-keep}
@@ -46,13 +46,13 @@ use Rattle.store.specs.Placing.{Final}
 use Rattle.store.specs.Lent.{finalAt, finalsAt}
 use Rattle.encoder.specs.declared.places.Places.{Places}
 use Rattle.encoder.specs.declared.encoded.Encoded.{Encoded}
-use Rattle.encoder.specs.Packed.{noLater, dense, belongs, finalOf, isAhead, finalsOf, isAmong, shared}
+use Rattle.encoder.specs.Packed.{noLater, dense, belongs, finalOf, isAhead, finalsOf, isAmong, homeOf, originsOf, shared}
 use Rattle.encoder.specs.LentPlaces.{Laid}
-use Rattle.encoder.specs.Lent.{relabel, groupAt, FinalIn, PackedAt}
+use Rattle.encoder.specs.Lent.{relabel, groupAt, originsIn, FinalIn, PackedAt}
 use Rattle.encoder.specs.LentArranged.{shapesAt, tablesOf, livingAt, lineUp, LineFit, heirSlot, ArrangeFit, Arranged, JoinFit, JoinedGroups}
 use Rattle.encoder.proofs.DenseIds.{set-of-id, dealt-ids}
 use Rattle.encoder.proofs.LivingLaws.{slotOf, living-few, living-shapes, living-line, living-fit, line-long, line-below, line-apart}
-use Rattle.encoder.proofs.NumberLaws.{number-at, among, among-mem, not-among, At, mem-at, at-mem, mem-sorted}
+use Rattle.encoder.proofs.NumberLaws.{number-at, among, among-mem, not-among, home-found, At, mem-at, at-mem, mem-sorted}
 use Rattle.encoder.proofs.ReadyLaws.{shape-same, groups-fit, starting-are, groups-count-is, slot-below, slot-apart, slot-of, slots-end, merge-laid, proper}
 
 abbrev nobody : Living
@@ -251,6 +251,12 @@ module _ {p : Places} {groups ids : ℕ} {w : List ℕ} (f : JoinFit p groups id
     unfolding at
     slot-at q h = line-at q (omega (arith, count-is))
 
+    -- a group that has i among its origins is the heir of starting group i
+    origin-line : (i q : ℕ) → q < count → List·Memᴰ i (at q .origins) → getD (lineUp p (groups + j) w′) q 0 ≡ heirSlot p w′ i
+    origin-line i q l k =
+        let v = at-all (λ g. List·Memᴰ i (g .origins) → getD w′ (p .into + i) 0 ≡ g .num) (all-imp (λ g y k. has (λ (c : ℕ). getD w′ (p .into + c) 0 ≡ g .num) (g .origins) y i k) living (o .homes)) q l k in
+        slot-at q l ∙ sym (ap (λ (z : ℕ). getD w′ (p .place + z) 0 - 1) v)
+
     module _ (x : ℕ) (h : x < p .sets) where
       abbrev i : ℕ
       i = kind x h .number
@@ -276,9 +282,7 @@ module _ {p : Places} {groups ids : ℕ} {w : List ℕ} (f : JoinFit p groups id
       not-in-group : (q : ℕ) → q < count → (heir (kind x h .number) (kind x h .below) .spot ≡ q → ⊥) → eqb (r .home (getD w′ (p .kinds + x) 0)) q ≡ isAmong (kind x h .number) (at q .origins)
       not-in-group q l n =
           ne-eqb (r .home (getD w′ (p .kinds + x) 0)) q (λ z. n (sym home-spot ∙ z))
-          ∙ sym (not-among i (at q .origins) (λ k.
-          let v = at-all (λ g. List·Memᴰ i (g .origins) → getD w′ (p .into + i) 0 ≡ g .num) (all-imp (λ g y k. has (λ (c : ℕ). getD w′ (p .into + c) 0 ≡ g .num) (g .origins) y i k) living (o .homes)) q l k in
-          n (sym home-spot ∙ home-is q l (slot-at q l ∙ sym (ap (λ (z : ℕ). getD w′ (p .place + z) 0 - 1) v)))))
+          ∙ sym (not-among i (at q .origins) (λ k. n (sym home-spot ∙ home-is q l (origin-line i q l k))))
 
       -- a set has its home in group q exactly where the number of its group is among that group's origins
       home-of : (q : ℕ) → q < count → eqb (r .home (getD w′ (p .kinds + x) 0)) q ≡ isAmong (kind x h .number) (at q .origins)
@@ -422,6 +426,29 @@ module _ {p : Places} {groups ids : ℕ} {w : List ℕ} (f : JoinFit p groups id
     unfolding finalsOf
     finals-shared = finals-are ∙ ap (λ (z : List Group). map (finalOf (p .regions) gs (distinct all)) (sorted isAhead (merged z .living))) (starting-are f)
 
+    -- ---- origins
+
+    order″ : (i : ℕ) → i < groups → getD w″ (p .order + i) 0 ≡ getD w′ (p .order + i) 0
+    order″ i h = low″ (p .order + i) (omega (arith, lies, groups-fit f))
+
+    origin-at : (i : ℕ) → i < groups → getD w″ (p .homes + getD w″ (p .order + i) 0) 0 ≡ homeOf i ordered
+    unfolding at
+    origin-at i h =
+        let e = heir i h in
+        let n = length-sorted isAhead living in
+        let d = home-found i ordered nobody (e .spot) (omega (arith, e .spot-below)) (subst (λ (g : Living). List·Memᴰ i (g .origins)) (sym (e .here)) (e .origin)) in
+        let c : homeOf i ordered < count = omega (arith, d .0, count-is) in
+        rw (order″ i h)
+        (r .homes-are (getD w′ (p .order + i) 0) (arrange-fit .from-below i h)
+        ∙ r .home-is i (homeOf i ordered) h c (origin-line i (homeOf i ordered) c (d .1)))
+
+    origins-are : originsIn p groups w″ ≡ originsOf gs
+    unfolding originsIn originsOf
+    origins-are =
+        tabulate-same 0 groups (λ i. getD w″ (p .homes + getD w″ (p .order + i) 0) 0) (λ i. homeOf i ordered) (λ i l h. origin-at i (omega arith))
+        ∙ ap (λ (n : ℕ). tabulate 0 n (λ i. homeOf i ordered)) (groups-count-is f)
+        ∙ ap (λ (z : List Group). tabulate 0 (length gs) (λ i. homeOf i (sorted isAhead (merged z .living)))) (starting-are f)
+
     -- ---- in sum
 
     below″ : Kept (p .line) w w″
@@ -501,6 +528,8 @@ module _ {p : Places} {groups ids : ℕ} {w : List ℕ} (f : JoinFit p groups id
             finals-to = omega (arith, lies);
             rows-to = omega (arith, lies, below″ .long);
             log-to = omega (arith, lies);
+            order-to = omega (arith, lies);
+            homes-to = λ i h. rw (order″ i h) (omega (arith, lies, arrange-fit .from-below i h));
             ids-are = ids-kept;
             sets-are = λ x h. set-of-id all x (omega (arith, all-long)) ∙ sets-at 0 (p .sets) w x h ∙ sym (set-same (f .held) below″ x h);
             distinct-is = f .ids-is;
@@ -510,6 +539,7 @@ module _ {p : Places} {groups ids : ℕ} {w : List ℕ} (f : JoinFit p groups id
             finals-are = finals-shared;
             groups-is = groups-count-is f;
             groups-few = omega (arith, lies);
+            origins-are = origins-are;
             merges-is = o .merges-are ∙ ap (λ (z : List Group). length (merged z .log)) (starting-are f);
             log-are = log-kept ∙ ap (λ (z : List Group). words (merged z .log)) (starting-are f);
             weighed-is = o .weighed-are ∙ ap (λ (z : List Group). merged z .weighed) (starting-are f);

@@ -1,5 +1,5 @@
--- What `lay_out` promises fixes every place. What is promised of packed sets fixes every number that is answered, the ids, the log and the final
--- groups by the ids of their rows. Assumes nothing.
+-- What `lay_out` promises fixes every place. What is promised of packed sets fixes every number that is answered, the ids, the origins, the log
+-- and the final groups by the ids of their rows. Assumes nothing.
 use mathlib.Core.Path.{_≡_, sym, ap, ap₂, _∙_}
 use mathlib.Core.List.{List, map}
 use Prim.Native.Nat.{ℕ, _+_, _-_, _*_}
@@ -9,7 +9,7 @@ use Rattle.laws.proofs.BoundedLaws.{length-tabulate}
 use Rattle.store.specs.Placing.{Final}
 use Rattle.store.specs.Lent.{finalAt, finalsAt}
 use Rattle.encoder.specs.Packed.{Packed}
-use Rattle.encoder.specs.Lent.{relabel, PackedAt}
+use Rattle.encoder.specs.Lent.{relabel, originsIn, PackedAt}
 use Rattle.encoder.specs.LentPlaces.{PlacesAt}
 use Rattle.encoder.specs.declared.places.Places.{Places}
 use Rattle.encoder.specs.declared.encoded.Encoded.{Encoded}
@@ -59,6 +59,7 @@ count-is {k} {p} {e} {w} h =
 pub record PackedOnce (k : Packed) (p : Places) (e e′ : Encoded) (w w′ : List ℕ) : Type 0 where
   pub numbers : e ≡ e′
   pub ids : seg (p .ids) (p .sets) w ≡ seg (p .ids) (p .sets) w′
+  pub origins : originsIn p (e .groups) w ≡ originsIn p (e′ .groups) w′
   pub log : seg (p .log) (3 * e .merges) w ≡ seg (p .log) (3 * e′ .merges) w′
   pub finals : relabel (λ x. getD (k .ids) x 0) (finalsAt (p .regions) (p .finals) (e .count) w) ≡ relabel (λ x. getD (k .ids) x 0) (finalsAt (p .regions) (p .finals) (e′ .count) w′)
 
@@ -74,6 +75,7 @@ packed-once a b = record {
     after = (a .after-is ∙ sym (b .after-is)) i;
   };
   ids = a .ids-are ∙ sym (b .ids-are);
+  origins = a .origins-are ∙ sym (b .origins-are);
   log = a .log-are ∙ sym (b .log-are);
   finals = a .finals-are ∙ sym (b .finals-are);
 }

@@ -6,6 +6,7 @@ use Prim.Native.Nat.{ℕ, _+_, _*_, _≤_, _<_}
 use lib.ListN.{length, getD}
 use Rattle.laws.specs.Bag.{sum}
 use Rattle.laws.specs.Every.{All}
+use Rattle.laws.specs.Bounded.{tabulate}
 use Rattle.laws.specs.LentRange.{Only, seg}
 use Rattle.sets.specs.Lent.{setOf, setsIn, Held}
 use Rattle.rule.specs.Told.{words}
@@ -37,6 +38,10 @@ pub record FinalIn (p : Places) (w : List ℕ) (g : ℕ) : Type 0 where
   pub rows-to : getD w (groupAt p g + 1) 0 + getD w (groupAt p g + 2) 0 ≤ p .rows + p .sets
   pub numbers : All (λ x. x < p .sets) (seg (getD w (groupAt p g + 1) 0) (getD w (groupAt p g + 2) 0) w)
 
+-- the final group of each of so many starting groups: that of its slot
+unfoldable pub originsIn : Places → ℕ → List ℕ → List ℕ
+originsIn p groups w = tabulate 0 groups (λ i. getD w (p .homes + getD w (p .order + i) 0) 0)
+
 -- What was made of the sets stands in work. A row is the number of a set, the first one of its id.
 pub record PackedAt (k : Packed) (p : Places) (e : Encoded) (w : List ℕ) : Type 0 where
   pub held : Held w 0 (p .sets) (p .regions) (p .line)
@@ -48,6 +53,8 @@ pub record PackedAt (k : Packed) (p : Places) (e : Encoded) (w : List ℕ) : Typ
   pub finals-to : p .finals + 3 * e .count ≤ p .rows
   pub rows-to : p .rows + p .sets ≤ length w
   pub log-to : p .log + 3 * e .merges ≤ p .rows
+  pub order-to : p .order + e .groups ≤ p .rows
+  pub homes-to : (i : ℕ) → i < e .groups → p .homes + getD w (p .order + i) 0 < p .rows
   pub ids-are : seg (p .ids) (p .sets) w ≡ k .ids
   pub sets-are : (x : ℕ) → x < p .sets → getD (k .sets) (getD (k .ids) x 0) [] ≡ setOf 0 x w
   pub distinct-is : e .distinct ≡ length (k .sets)
@@ -57,6 +64,7 @@ pub record PackedAt (k : Packed) (p : Places) (e : Encoded) (w : List ℕ) : Typ
   pub finals-are : relabel (λ x. getD (k .ids) x 0) (finalsAt (p .regions) (p .finals) (e .count) w) ≡ k .finals
   pub groups-is : e .groups ≡ k .groups
   pub groups-few : e .groups ≤ maxShapes
+  pub origins-are : originsIn p (e .groups) w ≡ k .origins
   pub merges-is : e .merges ≡ length (k .log)
   pub log-are : seg (p .log) (3 * e .merges) w ≡ words (k .log)
   pub weighed-is : e .weighed ≡ k .weighed

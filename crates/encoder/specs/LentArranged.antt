@@ -68,12 +68,13 @@ pub record ArrangeFit (p : Places) (groups k : ℕ) (w : List ℕ) : Type 0 wher
   pub kind : (x : ℕ) → x < p .sets → getD w (p .kinds + x) 0 < groups
 
 -- The final groups stand in the order of the line, and each one's rows are the sets, in their order and of equal ones the first, whose slot has
--- its home there.
+-- its home there. The home of each slot is left in work.
 pub record Arranged (p : Places) (groups k : ℕ) (old new : List ℕ) (count : ℕ) : Type 0 where
   pub only : Only ((p .homes, p .room) ∷ (p .living, p .room) ∷ (p .finals, 3 * p .room) ∷ (p .rows, p .sets) ∷ []) old new
   pub count-is : count ≡ length (lineUp p k old)
   pub home : ℕ → ℕ
   pub home-is : (i q : ℕ) → i < groups → q < count → getD (lineUp p k old) q 0 ≡ heirSlot p old i → home (getD old (p .order + i) 0) ≡ q
+  pub homes-are : (s : ℕ) → s < groups → getD new (p .homes + s) 0 ≡ home s
   pub shape : (q : ℕ) → q < count → getD new (groupAt p q) 0 ≡ p .slots + getD (lineUp p k old) q 0 * p .regions
   pub rows-in : (q : ℕ) → q < count → (p .rows ≤ getD new (groupAt p q + 1) 0) × (getD new (groupAt p q + 1) 0 + getD new (groupAt p q + 2) 0 ≤ p .rows + p .sets)
   pub rows-few : sum (λ q. getD new (groupAt p q + 2) 0) count ≤ p .sets

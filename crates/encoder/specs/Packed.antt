@@ -1,4 +1,4 @@
--- What is made of a job's sets: ids, final groups, the log, the counts (RULES S4 to S6, M1, M9, F1, F2, F5, A2).
+-- What is made of a job's sets: ids, final groups, the log, the counts (RULES S4 to S6, M1, M9, F1, F2, F5, F6, A2).
 use mathlib.Core.Bool.{Bool, true, false, _&&_, _||_}
 use mathlib.Core.List.{List, [], _∷_, map}
 use Prim.Native.Nat.{ℕ, suc}
@@ -6,7 +6,7 @@ use lib.Dec.{eqb}
 use lib.ListN.{length, getD}
 use Rattle.laws.specs.Pick.{pick}
 use Rattle.laws.specs.Order.{isMost}
-use Rattle.laws.specs.Bounded.{upTo}
+use Rattle.laws.specs.Bounded.{upTo, tabulate}
 use Rattle.laws.specs.Sorting.{sorted, keep}
 use Rattle.shapes.specs.Shape.{Shape}
 use Rattle.shapes.specs.Group.{Group, groupCost}
@@ -25,8 +25,10 @@ pub record Packed : Type 0 where
   pub sets : List Set
   -- the final groups in their order, each with its ids in the order of rows
   pub finals : List Final
-  -- N; the log, an entry a merge; pairs weighed; the modelled size before and after merging
+  -- N; of each starting group the place of its final group; the log, an entry a merge; pairs weighed; the modelled size
+  -- before and after merging
   pub groups : ℕ
+  pub origins : List ℕ
   pub log : List Entry
   pub weighed : ℕ
   pub before : ℕ
@@ -72,6 +74,15 @@ isAhead g h = isMost (shapes.order (g .group .shape) (h .group .shape))
 unfoldable pub finalsOf : ℕ → List Group → List Set → List Final
 finalsOf regions groups all = map (finalOf regions groups all) (sorted isAhead (merged groups .living))
 
+-- the place, among some groups, of the one that starting group i went into
+unfoldable pub homeOf : ℕ → List Living → ℕ
+homeOf i [] = 0
+homeOf i (g ∷ l) = pick (isAmong i (g .origins)) 0 (suc (homeOf i l))
+
+-- where each starting group went, by the final order (F6)
+unfoldable pub originsOf : List Group → List ℕ
+originsOf groups = tabulate 0 (length groups) (λ i. homeOf i (sorted isAhead (merged groups .living)))
+
 -- mode 0: equal sets share an id (S4), groups by shape (M1), joined while a pair gains (M3)
 unfoldable pub shared : ℕ → List Set → Packed
 shared regions all = record {
@@ -79,6 +90,7 @@ shared regions all = record {
   sets = distinct all;
   finals = finalsOf regions (groupsOf regions all) (distinct all);
   groups = length (groupsOf regions all);
+  origins = originsOf (groupsOf regions all);
   log = merged (groupsOf regions all) .log;
   weighed = merged (groupsOf regions all) .weighed;
   before = total (start (groupsOf regions all) .living);
@@ -98,6 +110,7 @@ own regions all = record {
   sets = all;
   finals = record { shape = coverOf regions all; ids = upTo (length all) } ∷ [];
   groups = 0;
+  origins = [];
   log = [];
   weighed = 0;
   before = oneCost regions all;

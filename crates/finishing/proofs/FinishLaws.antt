@@ -25,19 +25,19 @@ use Rattle.store.specs.Lent.{Drafted, Planned, Ready, coordsAt, coordsIn, final
 use Rattle.store.proofs.RegionLaws.{kept-most}
 use Rattle.store.proofs.PlacedLaws.{coords-length, planned, draft-exact, tables-count}
 use Rattle.store.proofs.ForecastLaws.{Short, forecast-exact}
-use Rattle.said.specs.Refusals.{firstFailed, shapesFull, idsShort, mapShort, logShort, outShort}
+use Rattle.said.specs.Refusals.{firstFailed, shapesFull, idsShort, mapShort, logShort, originsShort, outShort}
 use Rattle.encoder.specs.declared.places.Places.{Places}
 use Rattle.encoder.specs.declared.encoded.Encoded.{Encoded}
 use Rattle.encoder.specs.Packed.{Packed}
-use Rattle.encoder.specs.Lent.{relabel, PackedAt}
+use Rattle.encoder.specs.Lent.{relabel, originsIn, PackedAt}
 use Rattle.limits.specs.Limits.{maxRegions}
 use Rattle.finishing.specs.declared.answers.Report.{Report}
 use Rattle.finishing.specs.declared.measuring.Packing.{Packing}
 use Rattle.finishing.specs.declared.answers.Built.the-variants.{Refused, Done}
 use Rattle.finishing.specs.Buffers.{Buffers, Lengths, lengths}
-use Rattle.finishing.specs.Late.{storeFor, regionsKept, lateNo, reportOf, lateAnswer, written, buffersLeft}
-use Rattle.finishing.specs.Lent.{FinishFit, Finished, MeasuredAs, RoomFor, WordsFit, WordsWritten, reportIn, shortNo, storeIn}
-use Rattle.finishing.proofs.LoopLaws.{room-for}
+use Rattle.finishing.specs.Late.{storeFor, regionsKept, originWords, lateNo, reportOf, lateAnswer, written, buffersLeft}
+use Rattle.finishing.specs.Lent.{FinishFit, Finished, MeasuredAs, RoomFor, WordsFit, WordsWritten, originsTold, reportIn, shortNo, storeIn}
+use Rattle.finishing.proofs.LoopLaws.{told-long, room-for}
 use Rattle.finishing.proofs.WordsLaws.{groups-to, handed, small}
 use Rattle.finishing.proofs.StoreLaws.{set-same, runs-count, kept-relabel, store-relabel, store-small}
 
@@ -47,11 +47,11 @@ all-tabulate P a zero f h = tt
 all-tabulate P a (suc n) f h = (h a (omega arith) (omega arith), all-tabulate P (suc a) n f (λ k p q. h k (omega arith) (omega arith)))
 
 -- with so few groups, the first test of the definition holds
-late-same : (sets distinct groups bytes out ids map log : ℕ) → groups ≤ maxShapes
-    → shortNo sets distinct groups bytes out ids map log
-    ≡ firstFailed ((leb groups maxShapes, shapesFull) ∷ (leb sets ids, idsShort) ∷ (leb distinct map, mapShort) ∷ (leb (3 * (groups - 1)) log, logShort) ∷ (leb bytes out, outShort) ∷ [])
+late-same : (sets distinct groups bytes out ids map log origins : ℕ) → groups ≤ maxShapes
+    → shortNo sets distinct groups bytes out ids map log origins
+    ≡ firstFailed ((leb groups maxShapes, shapesFull) ∷ (leb sets ids, idsShort) ∷ (leb distinct map, mapShort) ∷ (leb (3 * (groups - 1)) log, logShort) ∷ (leb (2 * groups) origins, originsShort) ∷ (leb bytes out, outShort) ∷ [])
 unfolding shortNo firstFailed
-late-same sets distinct groups bytes out ids map log h = rw (le-leb groups maxShapes h)
+late-same sets distinct groups bytes out ids map log origins h = rw (le-leb groups maxShapes h)
 
 -- ---- what is measured
 
@@ -87,7 +87,7 @@ module _ {axes starts : ℕ} {job : List ℕ} {p : Places} {e : Encoded} {w : Li
       }
 
   -- the log is as long as the merges need it
-  pub log-fits : {sets distinct bytes out ids map log : ℕ} → RoomFor sets distinct (e .groups) bytes out ids map log → 3 * e .merges ≤ log
+  pub log-fits : {sets distinct bytes out ids map log origins : ℕ} → RoomFor sets distinct (e .groups) bytes out ids map log origins → 3 * e .merges ≤ log
   log-fits r = omega (arith, r .log-room, fit .merges-few)
 
   -- ---- what was drafted
@@ -106,10 +106,10 @@ module _ {axes starts : ℕ} {job : List ℕ} {p : Places} {e : Encoded} {w : Li
     bytes-are = draft-exact job axes starts w (p .regions) (p .finals) (e .count) 0 marks numbers bytes runs kept ready d bytes-few
 
     -- none of the tests fails: there is room for the store
-    pub room : {code out ids map log : ℕ} → code ≡ shortNo (p .sets) (e .distinct) (e .groups) bytes out ids map log → code ≡ 0
-        → RoomFor (p .sets) (e .distinct) (e .groups) (length (storeIn axes starts job p e w)) out ids map log
-    room {code} {out} {ids} {map} {log} q z =
-        rw bytes-are at (room-for (p .sets) (e .distinct) (e .groups) bytes out ids map log (sym q ∙ z))
+    pub room : {code out ids map log origins : ℕ} → code ≡ shortNo (p .sets) (e .distinct) (e .groups) bytes out ids map log origins → code ≡ 0
+        → RoomFor (p .sets) (e .distinct) (e .groups) (length (storeIn axes starts job p e w)) out ids map log origins
+    room {code} {out} {ids} {map} {log} {origins} q z =
+        rw bytes-are at (room-for (p .sets) (e .distinct) (e .groups) bytes out ids map log origins (sym q ∙ z))
 
     -- ---- the definition's words for it
 
@@ -136,13 +136,13 @@ module _ {axes starts : ℕ} {job : List ℕ} {p : Places} {e : Encoded} {w : Li
       pub ids-long : length (k .ids) ≡ p .sets
       ids-long = ap length (sym (at .ids-are)) ∙ length-seg (p .ids) (p .sets) w (omega (arith, at .ids-to, at .finals-to, at .rows-to))
 
-      pub late-is : (l : Lengths) → shortNo (p .sets) (e .distinct) (e .groups) bytes (l .out) (l .ids) (l .map) (l .log) ≡ lateNo axes coords k l
+      pub late-is : (l : Lengths) → shortNo (p .sets) (e .distinct) (e .groups) bytes (l .out) (l .ids) (l .map) (l .log) (l .origins) ≡ lateNo axes coords k l
       unfolding lateNo
       late-is l =
           let b : bytes ≡ length (storeFor axes coords k) = bytes-are ∙ ap length store-is in
-          ap₂ (λ (m n : ℕ). shortNo m n (e .groups) bytes (l .out) (l .ids) (l .map) (l .log)) (sym ids-long) (at .distinct-is)
-          ∙ ap₂ (λ (m n : ℕ). shortNo (length (k .ids)) (length (k .sets)) m n (l .out) (l .ids) (l .map) (l .log)) (at .groups-is) b
-          ∙ late-same (length (k .ids)) (length (k .sets)) (k .groups) (length (storeFor axes coords k)) (l .out) (l .ids) (l .map) (l .log) (omega (arith, at .groups-is, at .groups-few))
+          ap₂ (λ (m n : ℕ). shortNo m n (e .groups) bytes (l .out) (l .ids) (l .map) (l .log) (l .origins)) (sym ids-long) (at .distinct-is)
+          ∙ ap₂ (λ (m n : ℕ). shortNo (length (k .ids)) (length (k .sets)) m n (l .out) (l .ids) (l .map) (l .log) (l .origins)) (at .groups-is) b
+          ∙ late-same (length (k .ids)) (length (k .sets)) (k .groups) (length (storeFor axes coords k)) (l .out) (l .ids) (l .map) (l .log) (l .origins) (omega (arith, at .groups-is, at .groups-few))
 
       shapes-few : (g : ℕ) → g < e .count → length (finalAt (p .regions) w (p .finals + 3 * g) .shape) < 32768
       unfolding finalAt
@@ -211,7 +211,7 @@ module _ {axes starts : ℕ} {job : List ℕ} {p : Places} {e : Encoded} {w : Li
 
       -- the first test of what is lent that fails
       abbrev short : Buffers → ℕ
-      short b = shortNo (p .sets) (e .distinct) (e .groups) bytes (length (b .out)) (length (b .ids)) (length (b .map)) (length (b .log))
+      short b = shortNo (p .sets) (e .distinct) (e .groups) bytes (length (b .out)) (length (b .ids)) (length (b .map)) (length (b .log)) (length (b .origins))
 
       pub refused-as : (code : ℕ) (old : Buffers) → code ≡ short old → (code ≡ 0 → ⊥) → Finished axes coords k (Refused code 0) old old
       unfolding lateAnswer buffersLeft
@@ -220,14 +220,22 @@ module _ {axes starts : ℕ} {job : List ℕ} {p : Places} {e : Encoded} {w : Li
           let t : eqb (lateNo axes coords k (lengths old)) 0 ≡ false = rw (← n) (ne-eqb code 0 z) in
           record { answer = rw (t, n); left = rw t }
 
+      -- two words a starting group
+      origins-long : 2 * e .groups ≡ length (originWords 0 (k .origins))
+      unfolding originsIn
+      origins-long =
+          sym (ap (λ (n : ℕ). 2 * n) (length-tabulate 0 (e .groups) (λ i. getD w (p .homes + getD w (p .order + i) 0) 0)))
+          ∙ sym (told-long 0 (originsIn p (e .groups) w))
+          ∙ ap (λ (l : List ℕ). length (originWords 0 l)) (at .origins-are)
+
       pub done-as : (code : ℕ) (r : Report) (old new : Buffers) → code ≡ short old → code ≡ 0
           → new .out ≡ over (old .out) 0 (length (storeIn axes starts job p e w)) (storeIn axes starts job p e w) → r ≡ reportIn e bytes runs kept
-          → WordsWritten p e w (old .ids) (old .map) (old .log) (new .ids) (new .map) (new .log)
+          → WordsWritten p e w (old .ids) (old .map) (old .log) (old .origins) (new .ids) (new .map) (new .log) (new .origins)
           → Finished axes coords k (Done r) old new
       unfolding lateAnswer buffersLeft written
       done-as code r old new q z o m a =
           let t : eqb (lateNo axes coords k (lengths old)) 0 ≡ true = eq-eqb (lateNo axes coords k (lengths old)) 0 (sym (late-is (lengths old)) ∙ sym q ∙ z) in
-          record { answer = rw t (ap Done (m ∙ report-is)); left = rw t (λ i. record { out = out-is i; ids = ids-is i; map = map-is i; log = log-is i }) }
+          record { answer = rw t (ap Done (m ∙ report-is)); left = rw t (λ i. record { out = out-is i; ids = ids-is i; map = map-is i; log = log-is i; origins = origins-is i }) }
         where
           renamed : relabel (λ x. getD (seg (p .ids) (p .sets) w) x 0) groups ≡ k .finals
           renamed = ap (λ (s : List ℕ). relabel (λ x. getD s x 0) groups) (at .ids-are) ∙ at .finals-are
@@ -246,3 +254,6 @@ module _ {axes starts : ℕ} {job : List ℕ} {p : Places} {e : Encoded} {w : Li
 
           log-is : new .log ≡ over (old .log) 0 (length (words (k .log))) (words (k .log))
           log-is = a .log-is ∙ ap₂ (λ (n : ℕ) (s : List ℕ). over (old .log) 0 n s) log-long (at .log-are)
+
+          origins-is : new .origins ≡ over (old .origins) 0 (length (originWords 0 (k .origins))) (originWords 0 (k .origins))
+          origins-is = a .origins-is ∙ ap₂ (λ (n : ℕ) (s : List ℕ). over (old .origins) 0 n s) origins-long (ap (originWords 0) (at .origins-are))

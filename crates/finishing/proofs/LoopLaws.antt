@@ -1,20 +1,26 @@
--- Laws of rows that are named, words that are copied, and the tests of what is lent. Assumes nothing.
+-- Laws of rows that are named, words that are copied, origins that are told, and the tests of what is lent. Assumes nothing.
 use mathlib.Core.Path.{_≡_, refl, sym, ap, _∙_}
 use mathlib.Core.List.{List, [], _∷_, _++_}
 use mathlib.Core.Logic.{⊎-elim}
-use Prim.Native.Nat.{ℕ, _+_, _-_, _*_, _≤_, _<_}
+use Prim.Native.Nat.{ℕ, suc, _+_, _-_, _*_, _≤_, _<_}
+use native.Mathlib.Nat.{add-zero}
 use native.Mathlib.Omega.{arith}
 use lib.ListN.{length, getD, set, length-set}
 use lib.Seq.{getD-set-same, getD-set-other}
 use borrow.Author.Tests.{le-leb, lt-leb}
 use Rattle.laws.specs.Bytes.{over}
 use Rattle.laws.specs.LentRange.{seg}
+use Rattle.laws.specs.Bounded.{tabulate}
 use Rattle.laws.proofs.BytesLaws.{over-length}
 use Rattle.laws.proofs.Cases.{lt-or-ge}
+use Rattle.laws.proofs.BoundedLaws.{length-tabulate, tabulate-snoc}
 use Rattle.laws.proofs.RangeLaws.{length-seg, seg-none, seg-snoc}
 use Rattle.rows.proofs.OverLaws.{over-none, over-join, set-over}
-use Rattle.said.specs.Refusals.{idsShort, mapShort, logShort, outShort, firstFailed}
-use Rattle.finishing.specs.Lent.{RowsNamed, RoomFor, shortNo}
+use Rattle.said.specs.Refusals.{idsShort, mapShort, logShort, originsShort, outShort, firstFailed}
+use Rattle.encoder.specs.declared.places.Places.{Places}
+use Rattle.encoder.specs.Lent.{originsIn}
+use Rattle.finishing.specs.Late.{originWords}
+use Rattle.finishing.specs.Lent.{RowsNamed, RoomFor, originsTold, shortNo}
 
 -- ---- naming rows: those before q are named
 
@@ -98,11 +104,76 @@ copy-more to u w from n i e less l r =
 pub copy-done : (to u w : List ℕ) (from n i : ℕ) → u ≡ over to 0 i (seg from i w) → i ≤ n → n ≤ i → u ≡ over to 0 n (seg from n w)
 copy-done to u w from n i e a b = let s : i ≡ n = omega arith in rw s at e
 
+-- ---- origins
+
+pub told-long : (i : ℕ) (l : List ℕ) → length (originWords i l) ≡ 2 * length l
+unfolding originWords
+told-long i [] = refl
+told-long i (q ∷ l) = omega (arith, told-long (suc i) l)
+
+told-snoc : (i : ℕ) (l : List ℕ) (q : ℕ) → originWords i (l ++ (q ∷ [])) ≡ originWords i l ++ ((i + length l) ∷ q ∷ [])
+unfolding originWords
+told-snoc i [] q = ap (λ (n : ℕ). n ∷ q ∷ []) (sym (add-zero i))
+told-snoc i (x ∷ l) q =
+    let e : suc i + length l ≡ i + suc (length l) = omega arith in
+    ap (λ (m : List ℕ). i ∷ x ∷ m) (told-snoc (suc i) l q ∙ ap (λ (n : ℕ). originWords (suc i) l ++ (n ∷ q ∷ [])) e)
+
+module _ (to : List ℕ) (p : Places) (w : List ℕ) where
+  -- the place of the final group of starting group i
+  abbrev home : ℕ → ℕ
+  home i = getD w (p .homes + getD w (p .order + i) 0) 0
+
+  -- so many are told
+  abbrev told : ℕ → List ℕ
+  told i = over to 0 (2 * i) (originsTold p i w)
+
+  pub told-start : to ≡ told 0
+  unfolding originWords originsIn tabulate
+  told-start = sym (over-none to 0)
+
+  words-long : (i : ℕ) → length (originsTold p i w) ≡ 2 * i
+  unfolding originsIn
+  words-long i = told-long 0 (tabulate 0 i home) ∙ ap (λ (n : ℕ). 2 * n) (length-tabulate 0 i home)
+
+  pub told-size : (i : ℕ) (u : List ℕ) → u ≡ told i → 2 * i ≤ length to → length u ≡ length to
+  told-size i u e h = ap length e ∙ over-length to 0 (2 * i) (originsTold p i w) (words-long i) (omega arith)
+
+  one-more : (i : ℕ) → originsTold p (i + 1) w ≡ originsTold p i w ++ (i ∷ home i ∷ [])
+  unfolding originsIn
+  one-more i =
+      let z : 0 + i ≡ i = omega arith in
+      let n : 0 + length (tabulate 0 i home) ≡ i = omega (arith, length-tabulate 0 i home) in
+      ap (originWords 0) (tabulate-snoc 0 i home)
+      ∙ told-snoc 0 (tabulate 0 i home) (home (0 + i))
+      ∙ ap (λ (k : ℕ). originWords 0 (tabulate 0 i home) ++ (k ∷ home (0 + i) ∷ [])) n
+      ∙ ap (λ (k : ℕ). originWords 0 (tabulate 0 i home) ++ (i ∷ home k ∷ [])) z
+
+  pub told-more : (i n : ℕ) (u : List ℕ) → u ≡ told i → i < n → 2 * n ≤ length to → set (set u (2 * i) i) (2 * i + 1) (home i) ≡ told (i + 1)
+  told-more i n u e less room =
+      let long : length u ≡ length to = told-size i u e (omega arith) in
+      let z : 0 + 2 * i ≡ 2 * i = omega arith in
+      let s : 2 * i + 2 ≡ 2 * (i + 1) = omega arith in
+      let both : over (over u (2 * i) 1 (i ∷ [])) (2 * i + 1) 1 (home i ∷ []) ≡ over u (2 * i) 2 (i ∷ home i ∷ []) =
+      over-join u (2 * i) (i ∷ []) (home i ∷ []) 1 1 refl refl (omega arith) in
+      let join : over (told i) (0 + 2 * i) 2 (i ∷ home i ∷ []) ≡ over to 0 (2 * i + 2) (originsTold p i w ++ (i ∷ home i ∷ [])) =
+      over-join to 0 (originsTold p i w) (i ∷ home i ∷ []) (2 * i) 2 (words-long i) refl (omega arith) in
+      set-over (set u (2 * i) i) (2 * i + 1) (home i) (omega (arith, length-set u (2 * i) i))
+      ∙ ap (λ (o : List ℕ). over o (2 * i + 1) 1 (home i ∷ [])) (set-over u (2 * i) i (omega arith))
+      ∙ both
+      ∙ ap (λ (o : List ℕ). over o (2 * i) 2 (i ∷ home i ∷ [])) e
+      ∙ ap (λ (a : ℕ). over (told i) a 2 (i ∷ home i ∷ [])) (sym z)
+      ∙ join
+      ∙ ap (λ (a : ℕ). over to 0 a (originsTold p i w ++ (i ∷ home i ∷ []))) s
+      ∙ ap (λ (l : List ℕ). over to 0 (2 * (i + 1)) l) (sym (one-more i))
+
+  pub told-done : (i n : ℕ) (u : List ℕ) → u ≡ told i → i ≤ n → n ≤ i → u ≡ told n
+  told-done i n u e a b = let s : i ≡ n = omega arith in rw s at e
+
 -- ---- the tests of what is lent
 
-module _ (sets distinct groups bytes out ids map log : ℕ) where
+module _ (sets distinct groups bytes out ids map log origins : ℕ) where
   abbrev pub shorts : ℕ
-  shorts = shortNo sets distinct groups bytes out ids map log
+  shorts = shortNo sets distinct groups bytes out ids map log origins
 
   pub ids-short : ids < sets → idsShort ≡ shorts
   unfolding shortNo firstFailed
@@ -120,27 +191,35 @@ module _ (sets distinct groups bytes out ids map log : ℕ) where
         let i : distinct ≤ map = omega arith in
         simp (le-leb sets ids h, le-leb distinct map i, lt-leb (3 * (groups - 1)) log c)
 
-    pub out-short : 3 * (groups - 1) ≤ log → out < bytes → outShort ≡ shorts
+    pub origins-short : 3 * (groups - 1) ≤ log → origins < 2 * groups → originsShort ≡ shorts
     unfolding shortNo firstFailed
-    out-short c d =
+    origins-short c o =
         let h : sets ≤ ids = omega arith in
         let i : distinct ≤ map = omega arith in
-        simp (le-leb sets ids h, le-leb distinct map i, le-leb (3 * (groups - 1)) log c, lt-leb bytes out d)
+        simp (le-leb sets ids h, le-leb distinct map i, le-leb (3 * (groups - 1)) log c, lt-leb (2 * groups) origins o)
 
-    pub none-short : 3 * (groups - 1) ≤ log → (out < bytes → ⊥) → 0 ≡ shorts
+    pub out-short : 3 * (groups - 1) ≤ log → 2 * groups ≤ origins → out < bytes → outShort ≡ shorts
     unfolding shortNo firstFailed
-    none-short c d =
+    out-short c o d =
+        let h : sets ≤ ids = omega arith in
+        let i : distinct ≤ map = omega arith in
+        simp (le-leb sets ids h, le-leb distinct map i, le-leb (3 * (groups - 1)) log c, le-leb (2 * groups) origins o, lt-leb bytes out d)
+
+    pub none-short : 3 * (groups - 1) ≤ log → 2 * groups ≤ origins → (out < bytes → ⊥) → 0 ≡ shorts
+    unfolding shortNo firstFailed
+    none-short c o d =
         let h : sets ≤ ids = omega arith in
         let i : distinct ≤ map = omega arith in
         let j : bytes ≤ out = omega arith in
-        simp (le-leb sets ids h, le-leb distinct map i, le-leb (3 * (groups - 1)) log c, le-leb bytes out j)
+        simp (le-leb sets ids h, le-leb distinct map i, le-leb (3 * (groups - 1)) log c, le-leb (2 * groups) origins o, le-leb bytes out j)
 
   -- where none applies, there is room
-  pub room-for : shorts ≡ 0 → RoomFor sets distinct groups bytes out ids map log
+  pub room-for : shorts ≡ 0 → RoomFor sets distinct groups bytes out ids map log origins
   room-for e = record {
     ids-room = one;
     map-room = two;
     log-room = three;
+    origins-room = more;
     out-room = four;
   }
     where
@@ -153,5 +232,8 @@ module _ (sets distinct groups bytes out ids map log : ℕ) where
       three : 3 * (groups - 1) ≤ log
       three = ⊎-elim (λ (h : log < 3 * (groups - 1)). absurd (omega (arith, log-short (λ x. omega (arith, one)) (λ x. omega (arith, two)) h))) (λ h. h) (lt-or-ge log (3 * (groups - 1)))
 
+      more : 2 * groups ≤ origins
+      more = ⊎-elim (λ (h : origins < 2 * groups). absurd (omega (arith, origins-short (λ x. omega (arith, one)) (λ x. omega (arith, two)) three h))) (λ h. h) (lt-or-ge origins (2 * groups))
+
       four : bytes ≤ out
-      four = ⊎-elim (λ (h : out < bytes). absurd (omega (arith, out-short (λ x. omega (arith, one)) (λ x. omega (arith, two)) three h))) (λ h. h) (lt-or-ge out bytes)
+      four = ⊎-elim (λ (h : out < bytes). absurd (omega (arith, out-short (λ x. omega (arith, one)) (λ x. omega (arith, two)) three more h))) (λ h. h) (lt-or-ge out bytes)

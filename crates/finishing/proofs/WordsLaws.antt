@@ -15,7 +15,7 @@ use Rattle.store.specs.Lent.{Handed, IdsBelow, Small, finalsAt}
 use Rattle.encoder.specs.declared.places.Places.{Places}
 use Rattle.encoder.specs.declared.encoded.Encoded.{Encoded}
 use Rattle.encoder.specs.Lent.{relabel}
-use Rattle.finishing.specs.Lent.{RowsNamed, WordsFit, WordsWritten}
+use Rattle.finishing.specs.Lent.{OriginsFit, RowsNamed, WordsFit, WordsWritten, originsTold}
 use Rattle.finishing.proofs.StoreLaws.{finals-named}
 
 module _ {p : Places} {e : Encoded} {w : List ℕ} (fit : WordsFit p e w) where
@@ -44,6 +44,16 @@ module _ {p : Places} {e : Encoded} {w : List ℕ} (fit : WordsFit p e w) where
 
   pub groups-to : p .finals + 3 * e .count ≤ length w
   groups-to = omega (arith, fit .packed .finals-to, fit .packed .rows-to)
+
+  -- the tables that origins are written from
+  pub origins-fit : OriginsFit p (e .groups) w
+  origins-fit =
+      let k = fit .packed in
+      record {
+        few = k .groups-few;
+        order-to = omega (arith, k .order-to, k .rows-to);
+        homes-to = λ i h. omega (arith, k .homes-to i h, k .rows-to);
+      }
 
   -- ---- the rows by ids
 
@@ -110,8 +120,9 @@ module _ {p : Places} {e : Encoded} {w : List ℕ} (fit : WordsFit p e w) where
       pub below-named : (long : ℕ) → e .distinct ≤ long → IdsBelow long u (p .finals + 3 * g)
       below-named long l = record { below = all-imp (λ x b. omega arith) (seg (getD u (p .finals + 3 * g + 1) 0) (getD u (p .finals + 3 * g + 2) 0) u) id-below }
 
-    pub words-done : {ids map log ids′ map′ log′ : List ℕ} → ids′ ≡ over ids 0 (p .sets) (seg (p .ids) (p .sets) w)
+    pub words-done : {ids map log origins ids′ map′ log′ origins′ : List ℕ} → ids′ ≡ over ids 0 (p .sets) (seg (p .ids) (p .sets) w)
         → log′ ≡ over log 0 (3 * e .merges) (seg (p .log) (3 * e .merges) w)
+        → origins′ ≡ over origins 0 (2 * e .groups) (originsTold p (e .groups) w)
         → map′ ≡ stored (idWords 0 (allRuns (finalsAt (p .regions) (p .finals) (e .count) u))) map
-        → WordsWritten p e w ids map log ids′ map′ log′
-    words-done {map = map} {map′ = map′} i l m = record { ids-is = i; log-is = l; map-is = map-named map map′ m }
+        → WordsWritten p e w ids map log origins ids′ map′ log′ origins′
+    words-done {map = map} {map′ = map′} i l o m = record { ids-is = i; log-is = l; origins-is = o; map-is = map-named map map′ m }

@@ -1,7 +1,7 @@
--- What is written of a sound job, once its sets are packed, and when it is refused after all (RULES R10 to R14, in the
--- order T4). Assumes nothing.
+-- What is written of a sound job, once its sets are packed, and when it is refused after all (RULES R10 to R14 and
+-- R61, in the order T4). Assumes nothing.
 use mathlib.Core.List.{List, [], _∷_}
-use Prim.Native.Nat.{ℕ, _-_, _*_}
+use Prim.Native.Nat.{ℕ, suc, _-_, _*_}
 use lib.Dec.{eqb, leb}
 use lib.ListN.{length, getD}
 use Rattle.laws.specs.Pick.{pick}
@@ -9,7 +9,7 @@ use Rattle.laws.specs.Bytes.{over}
 use Rattle.groups.specs.Groups.{maxShapes}
 use Rattle.rule.specs.Told.{words}
 use Rattle.store.specs.Placing.{storeOf, allRuns, idWords, keptOf, forecastOf, stored}
-use Rattle.said.specs.Refusals.{firstFailed, shapesFull, idsShort, mapShort, logShort, outShort}
+use Rattle.said.specs.Refusals.{firstFailed, shapesFull, idsShort, mapShort, logShort, originsShort, outShort}
 use Rattle.encoder.specs.Packed.{Packed}
 use Rattle.finishing.specs.Buffers.{Buffers, Lengths, lengths}
 use Rattle.finishing.specs.declared.answers.Report.{Report}
@@ -26,8 +26,8 @@ storeFor axes coords k = storeOf axes coords (λ x. getD (k .sets) x []) (k .fin
 unfoldable pub regionsKept : List (List ℕ) → Packed → ℕ
 regionsKept coords k = length (keptOf (length coords) (k .finals))
 
--- R10 to R14 in their order: too many shapes; then ids, map, log and output too short. (In mode 1 N is 0, so neither
--- R10 nor R13 is given.)
+-- R10 to R13, R61 and R14, in this order: too many shapes; then ids, map, log, origins and output too short. (In mode 1 N
+-- is 0, so none of R10, R13 and R61 is given.)
 unfoldable pub lateNo : ℕ → List (List ℕ) → Packed → Lengths → ℕ
 lateNo axes coords k l =
     firstFailed
@@ -35,6 +35,7 @@ lateNo axes coords k l =
     ∷ (leb (length (k .ids)) (l .ids), idsShort)
     ∷ (leb (length (k .sets)) (l .map), mapShort)
     ∷ (leb (3 * (k .groups - 1)) (l .log), logShort)
+    ∷ (leb (2 * k .groups) (l .origins), originsShort)
     ∷ (leb (length (storeFor axes coords k)) (l .out), outShort)
     ∷ [])
 
@@ -57,19 +58,26 @@ reportOf axes coords k = record {
 unfoldable pub lateAnswer : ℕ → List (List ℕ) → Packed → Lengths → Built
 lateAnswer axes coords k l = pick (eqb (lateNo axes coords k l) 0) (Done (reportOf axes coords k)) (Refused (lateNo axes coords k l) 0)
 
--- the forecast of a build: R10, or the report of one that is done. Nothing is lent to write to, so R11 to R14 are not given
+-- the forecast of a build: R10, or the report of one that is done. Nothing is lent to write to, so R11 to R14 and R61 are not given
 unfoldable pub lateForecast : ℕ → List (List ℕ) → Packed → Built
 lateForecast axes coords k = pick (leb (k .groups) maxShapes) (Done (reportOf axes coords k)) (Refused shapesFull 0)
 
 -- ---- what is left in the buffers
 
--- the store; of each set its id; of each id its word; of each merge its two numbers and its gain. Past what is written all is as it was
+-- of each starting group, numbered from i on, its number and the place of its final group (F6)
+unfoldable pub originWords : ℕ → List ℕ → List ℕ
+originWords i [] = []
+originWords i (q ∷ l) = i ∷ q ∷ originWords (suc i) l
+
+-- the store; of each set its id; of each id its word; of each merge its two numbers and its gain; of each starting group
+-- its number and its final group. Past what is written all is as it was
 unfoldable pub written : ℕ → List (List ℕ) → Packed → Buffers → Buffers
 written axes coords k old = record {
   out = over (old .out) 0 (length (storeFor axes coords k)) (storeFor axes coords k);
   ids = over (old .ids) 0 (length (k .ids)) (k .ids);
   map = stored (idWords 0 (allRuns (k .finals))) (old .map);
   log = over (old .log) 0 (length (words (k .log))) (words (k .log));
+  origins = over (old .origins) 0 (length (originWords 0 (k .origins))) (originWords 0 (k .origins));
 }
 
 -- a refusal leaves all as it was

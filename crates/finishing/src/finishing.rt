@@ -1,4 +1,4 @@
-// The last part of a build: sizes, refusals 11 to 14, and only then the first word and byte written.
+// The last part of a build: sizes, refusals 11 to 14 and 61, and only then the first word and byte written.
 use crate::answers::Built;
 use crate::answers::Report;
 use crate::measuring::Packing;
@@ -22,7 +22,7 @@ ghost use Rattle.store.specs.Lent.{Planned, coordsIn};
 ghost use Rattle.encoder.specs.Packed.{Packed};
 ghost use Rattle.encoder.specs.Lent.{PackedAt};
 ghost use Rattle.finishing.specs.Buffers.{buffers};
-ghost use Rattle.finishing.specs.Lent.{FinishFit, Finished, RowsNamed, WordsFit, WordsWritten, shortNo, storeIn};
+ghost use Rattle.finishing.specs.Lent.{FinishFit, Finished, OriginsFit, RowsNamed, WordsFit, WordsWritten, originsTold, shortNo, storeIn};
 ghost use Rattle.limits.specs.Limits.{maxShapes};
 
 // Rows are numbers of sets until now: each becomes the id of its set. Words that are no set's number belong to no row, and stay.
@@ -56,7 +56,22 @@ fn copy_words(work: &[u32], from: usize, n: usize, to: &mut [u32])
     }
 }
 
-// The first of refusals 11 to 14 that applies, 0 where none does.
+// Of each of so many starting groups its number and the place of its final group: two words, in starting order.
+fn write_origins(work: &[u32], p: Places, groups: usize, to: &mut [u32])
+    requires { ⌜ OriginsFit p groups (now work) ⌝ }
+    requires { ⌜ 2 * groups ≤ length (now to) ⌝ }
+    ensures { λ _. ⌜ now (to .exit) ≡ over (now (to .entry)) 0 (2 * groups) (originsTold p groups (now (work .entry))) ⌝ }
+{
+    let mut i: usize = 0;
+    while i < groups {
+        let slot = work[p.order + i] as usize;
+        to[2 * i] = i as u32;
+        to[2 * i + 1] = work[p.homes + slot];
+        i += 1;
+    }
+}
+
+// The first of refusals 11 to 13, 61 and 14 that applies, 0 where none does.
 fn short_no(
     p: Places,
     e: Encoded,
@@ -65,9 +80,10 @@ fn short_no(
     ids: usize,
     map: usize,
     log: usize,
+    origins: usize,
 ) -> usize
     requires { ⌜ e .groups ≤ maxShapes ⌝ }
-    ensures { λ r. ⌜ r ≡ shortNo (p .sets) (e .distinct) (e .groups) bytes out ids map log ⌝ }
+    ensures { λ r. ⌜ r ≡ shortNo (p .sets) (e .distinct) (e .groups) bytes out ids map log origins ⌝ }
 {
     if ids < p.sets {
         return Refusal::IDS_SHORT;
@@ -77,6 +93,9 @@ fn short_no(
     }
     if log < log_words(e.groups) {
         return Refusal::LOG_SHORT;
+    }
+    if origins < 2 * e.groups {
+        return Refusal::ORIGINS_SHORT;
     }
     if out < bytes {
         return Refusal::OUT_SHORT;
@@ -119,7 +138,7 @@ fn write_out(
     write_store(out, job, c, work, t, marks, numbers, plan);
 }
 
-// Writes ids, log and map. The map comes last: its words stand at ids, and the rows, which are numbers of sets until then, become ids for it.
+// Writes ids, log, origins and map. The map comes last: its words stand at ids, and the rows, which are numbers of sets until then, become ids for it.
 fn write_words(
     work: &mut [u32],
     p: Places,
@@ -127,15 +146,18 @@ fn write_words(
     ids: &mut [u32],
     map: &mut [u32],
     log: &mut [u32],
+    origins: &mut [u32],
 )
     requires { ⌜ WordsFit p e (now work) ⌝ }
     requires { ⌜ p .sets ≤ length (now ids) ⌝ }
     requires { ⌜ e .distinct ≤ length (now map) ⌝ }
     requires { ⌜ 3 * e .merges ≤ length (now log) ⌝ }
-    ensures { λ _. ⌜ WordsWritten p e (now (work .entry)) (now (ids .entry)) (now (map .entry)) (now (log .entry)) (now (ids .exit)) (now (map .exit)) (now (log .exit)) ⌝ }
+    requires { ⌜ 2 * e .groups ≤ length (now origins) ⌝ }
+    ensures { λ _. ⌜ WordsWritten p e (now (work .entry)) (now (ids .entry)) (now (map .entry)) (now (log .entry)) (now (origins .entry)) (now (ids .exit)) (now (map .exit)) (now (log .exit)) (now (origins .exit)) ⌝ }
 {
     copy_words(work, p.ids, p.sets, ids);
     copy_words(work, p.log, 3 * e.merges, log);
+    write_origins(work, p, e.groups, origins);
     name_rows(work, p.rows, p.sets, p.ids);
     let t = Finals {
         regions: p.regions,
@@ -156,20 +178,30 @@ pub fn finish(
     ids: &mut [u32],
     map: &mut [u32],
     log: &mut [u32],
+    origins: &mut [u32],
 ) -> Built
     requires { ⌜ FinishFit (k .axes) (k .starts) (now job) (k .places) (k .encoded) (now work) ⌝ }
-    ensures { λ r. ⌜ ((x : Packed) → PackedAt x (k .places) (k .encoded) (now (work .entry)) → Finished (k .axes) (coordsIn (now (job .entry)) (k .axes) (now (work .entry)) (k .starts) (k .places .regions)) x r (buffers (now (out .entry)) (now (ids .entry)) (now (map .entry)) (now (log .entry))) (buffers (now (out .exit)) (now (ids .exit)) (now (map .exit)) (now (log .exit)))) ⌝ }
+    ensures { λ r. ⌜ ((x : Packed) → PackedAt x (k .places) (k .encoded) (now (work .entry)) → Finished (k .axes) (coordsIn (now (job .entry)) (k .axes) (now (work .entry)) (k .starts) (k .places .regions)) x r (buffers (now (out .entry)) (now (ids .entry)) (now (map .entry)) (now (log .entry)) (now (origins .entry))) (buffers (now (out .exit)) (now (ids .exit)) (now (map .exit)) (now (log .exit)) (now (origins .exit)))) ⌝ }
 {
     let mut marks = [0u32; Limits::REGIONS];
     let mut numbers = [0u32; Limits::REGIONS];
     let done = measure(work, k, &mut marks, &mut numbers);
     let p = k.places;
     let e = k.encoded;
-    let no = short_no(p, e, done.bytes, out.len(), ids.len(), map.len(), log.len());
+    let no = short_no(
+        p,
+        e,
+        done.bytes,
+        out.len(),
+        ids.len(),
+        map.len(),
+        log.len(),
+        origins.len(),
+    );
     if no != 0 {
         return Built::Refused(no, 0);
     }
     write_out(out, job, work, k, &marks, &numbers, done);
-    write_words(work, p, e, ids, map, log);
+    write_words(work, p, e, ids, map, log, origins);
     Built::Done(done)
 }

@@ -18,9 +18,10 @@ pub extern "C" fn ivs_build_panel(
     ids: &mut [u32],
     map: &mut [u32],
     log: &mut [u32],
+    origins: &mut [u32],
     report: &mut [u64; 16],
 ) -> u32
-    ensures { λ r. ⌜ PanelAnswered (lending axes mode (now (job .entry)) (now (work .entry)) (now (pairs .entry)) (buffers (now (out .entry)) (now (ids .entry)) (now (map .entry)) (now (log .entry)))) r (leaves (now (work .exit)) (now (pairs .exit)) (buffers (now (out .exit)) (now (ids .exit)) (now (map .exit)) (now (log .exit)))) (now (report .entry)) (now (report .exit)) ⌝ }
+    ensures { λ r. ⌜ PanelAnswered (lending axes mode (now (job .entry)) (now (work .entry)) (now (pairs .entry)) (buffers (now (out .entry)) (now (ids .entry)) (now (map .entry)) (now (log .entry)) (now (origins .entry)))) r (leaves (now (work .exit)) (now (pairs .exit)) (buffers (now (out .exit)) (now (ids .exit)) (now (map .exit)) (now (log .exit)) (now (origins .exit)))) (now (report .entry)) (now (report .exit)) ⌝ }
 {
     let answer = packer::build(
         Profile::Panel,
@@ -33,6 +34,7 @@ pub extern "C" fn ivs_build_panel(
         ids,
         map,
         log,
+        origins,
     );
     tell(report, job, answer)
 }

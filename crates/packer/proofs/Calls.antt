@@ -285,23 +285,23 @@ module _ {M : Type 1} (𝓤 : URA M) (H : Heap 𝓤) (A : Atoms 𝓤) (W : Given
         frame ! $
         use0 W (raw (fact 𝓤 (room (tb .groups) ≤ length pairs))) (factI 𝓤 (room (tb .groups) ≤ length pairs) (emp 𝓤) (l .1)) $ use0 W (raw (fact 𝓤 (Ready tb work))) (factI 𝓤 (Ready tb work) (emp 𝓤) (l .0)) $ done !)
 
-  module _ (C : Calls 𝓤 H) (fm : FmC 𝓤 H (W .laws) C) (known : Triple 𝓤 (C #closing·close) (Close-of 𝓤 H A mem run)) (κ : Lft) (θ : Share) (γ : GName) (β ι : ℕ) (ν : ℕ) (job : List ℕ) (κ₂ : Lft) (θ₂ : Share) (γ₂ : GName) (β₂ ι₂ : ℕ) (ν₂ : ℕ) (work : List ℕ) (κ₃ : Lft) (θ₃ : Share) (γ₃ : GName) (β₃ ι₃ : ℕ) (ν₃ : ℕ) (out : List ℕ) (κ₄ : Lft) (θ₄ : Share) (γ₄ : GName) (β₄ ι₄ : ℕ) (ν₄ : ℕ) (ids : List ℕ) (κ₅ : Lft) (θ₅ : Share) (γ₅ : GName) (β₅ ι₅ : ℕ) (ν₅ : ℕ) (map : List ℕ) (κ₆ : Lft) (θ₆ : Share) (γ₆ : GName) (β₆ ι₆ : ℕ) (ν₆ : ℕ) (log : List ℕ) (stage : Stage) (merged : Merged) where
-    abbrev Loan-close-see-mut-mut-mut-mut-mut : (long₂ : length work ≡ ν₂) (long₃ : length out ≡ ν₃) (long₄ : length ids ≡ ν₄) (long₅ : length map ≡ ν₅) (long₆ : length log ≡ ν₆) (sized₂ : Room u32 ν₂) (sized₃ : Room u8 ν₃) (sized₄ : Room u32 ν₄) (sized₅ : Room u32 ν₅) (sized₆ : Room u32 ν₆) → Loan 𝓤 H A
-    Loan-close-see-mut-mut-mut-mut-mut long₂ long₃ long₄ long₅ long₆ sized₂ sized₃ sized₄ sized₅ sized₆ = both 𝓤 H A W (lent-see u8 κ θ γ β ι 𝓤 H A W job ν) (both 𝓤 H A W (lent-mut u32 κ₂ θ₂ γ₂ β₂ ι₂ 𝓤 H A W work ν₂ long₂ sized₂) (both 𝓤 H A W (lent-mut u8 κ₃ θ₃ γ₃ β₃ ι₃ 𝓤 H A W out ν₃ long₃ sized₃) (both 𝓤 H A W (lent-mut u32 κ₄ θ₄ γ₄ β₄ ι₄ 𝓤 H A W ids ν₄ long₄ sized₄) (both 𝓤 H A W (lent-mut u32 κ₅ θ₅ γ₅ β₅ ι₅ 𝓤 H A W map ν₅ long₅ sized₅) (lent-mut u32 κ₆ θ₆ γ₆ β₆ ι₆ 𝓤 H A W log ν₆ long₆ sized₆)))))
+  module _ (C : Calls 𝓤 H) (fm : FmC 𝓤 H (W .laws) C) (known : Triple 𝓤 (C #closing·close) (Close-of 𝓤 H A mem run)) (κ : Lft) (θ : Share) (γ : GName) (β ι : ℕ) (ν : ℕ) (job : List ℕ) (κ₂ : Lft) (θ₂ : Share) (γ₂ : GName) (β₂ ι₂ : ℕ) (ν₂ : ℕ) (work : List ℕ) (κ₃ : Lft) (θ₃ : Share) (γ₃ : GName) (β₃ ι₃ : ℕ) (ν₃ : ℕ) (out : List ℕ) (κ₄ : Lft) (θ₄ : Share) (γ₄ : GName) (β₄ ι₄ : ℕ) (ν₄ : ℕ) (ids : List ℕ) (κ₅ : Lft) (θ₅ : Share) (γ₅ : GName) (β₅ ι₅ : ℕ) (ν₅ : ℕ) (map : List ℕ) (κ₆ : Lft) (θ₆ : Share) (γ₆ : GName) (β₆ ι₆ : ℕ) (ν₆ : ℕ) (log : List ℕ) (κ₇ : Lft) (θ₇ : Share) (γ₇ : GName) (β₇ ι₇ : ℕ) (ν₇ : ℕ) (origins : List ℕ) (stage : Stage) (merged : Merged) where
+    abbrev Loan-close-see-mut-mut-mut-mut-mut-mut : (long₂ : length work ≡ ν₂) (long₃ : length out ≡ ν₃) (long₄ : length ids ≡ ν₄) (long₅ : length map ≡ ν₅) (long₆ : length log ≡ ν₆) (long₇ : length origins ≡ ν₇) (sized₂ : Room u32 ν₂) (sized₃ : Room u8 ν₃) (sized₄ : Room u32 ν₄) (sized₅ : Room u32 ν₅) (sized₆ : Room u32 ν₆) (sized₇ : Room u32 ν₇) → Loan 𝓤 H A
+    Loan-close-see-mut-mut-mut-mut-mut-mut long₂ long₃ long₄ long₅ long₆ long₇ sized₂ sized₃ sized₄ sized₅ sized₆ sized₇ = both 𝓤 H A W (lent-see u8 κ θ γ β ι 𝓤 H A W job ν) (both 𝓤 H A W (lent-mut u32 κ₂ θ₂ γ₂ β₂ ι₂ 𝓤 H A W work ν₂ long₂ sized₂) (both 𝓤 H A W (lent-mut u8 κ₃ θ₃ γ₃ β₃ ι₃ 𝓤 H A W out ν₃ long₃ sized₃) (both 𝓤 H A W (lent-mut u32 κ₄ θ₄ γ₄ β₄ ι₄ 𝓤 H A W ids ν₄ long₄ sized₄) (both 𝓤 H A W (lent-mut u32 κ₅ θ₅ γ₅ β₅ ι₅ 𝓤 H A W map ν₅ long₅ sized₅) (both 𝓤 H A W (lent-mut u32 κ₆ θ₆ γ₆ β₆ ι₆ 𝓤 H A W log ν₆ long₆ sized₆) (lent-mut u32 κ₇ θ₇ γ₇ β₇ ι₇ 𝓤 H A W origins ν₇ long₇ sized₇))))))
 
-    abbrev pub After-close-see-mut-mut-mut-mut-mut : Val → Item 𝓤
-    After-close-see-mut-mut-mut-mut-mut w = later (some (λ (r : Built). some (λ (x : Unit {0} × (List ℕ × (List ℕ × (List ℕ × (List ℕ × List ℕ))))). given ((Unit {0} × ((length (x .1 .0) ≡ ν₂) × ((length (x .1 .1 .0) ≡ ν₃) × ((length (x .1 .1 .1 .0) ≡ ν₄) × ((length (x .1 .1 .1 .1 .0) ≡ ν₅) × (length (x .1 .1 .1 .1 .1) ≡ ν₆)))))) × ((profile : Profile) (axes mode : ℕ) (old : List ℕ) (count : ℕ) (mid : List ℕ) → OpenedAt profile axes mode job old count mid stage → Joined stage merged mid work → Closed profile axes mode job old count r (buffers out ids map log) (buffers (x .1 .1 .0) (x .1 .1 .1 .0) (x .1 .1 .1 .1 .0) (x .1 .1 .1 .1 .1)) (x .1 .0))) ((Sees u8 κ θ γ β ι 𝓤 ν job ⊛ (Has u32 κ₂ θ₂ γ₂ β₂ ι₂ 𝓤 ν₂ (x .1 .0) ⊛ (Has u8 κ₃ θ₃ γ₃ β₃ ι₃ 𝓤 ν₃ (x .1 .1 .0) ⊛ (Has u32 κ₄ θ₄ γ₄ β₄ ι₄ 𝓤 ν₄ (x .1 .1 .1 .0) ⊛ (Has u32 κ₅ θ₅ γ₅ β₅ ι₅ 𝓤 ν₅ (x .1 .1 .1 .1 .0) ⊛ Has u32 κ₆ θ₆ γ₆ β₆ ι₆ 𝓤 ν₆ (x .1 .1 .1 .1 .1)))))) ⊛ ‵ (B.the-row .own r (w ∷ []))))))
+    abbrev pub After-close-see-mut-mut-mut-mut-mut-mut : Val → Item 𝓤
+    After-close-see-mut-mut-mut-mut-mut-mut w = later (some (λ (r : Built). some (λ (x : Unit {0} × (List ℕ × (List ℕ × (List ℕ × (List ℕ × (List ℕ × List ℕ)))))). given ((Unit {0} × ((length (x .1 .0) ≡ ν₂) × ((length (x .1 .1 .0) ≡ ν₃) × ((length (x .1 .1 .1 .0) ≡ ν₄) × ((length (x .1 .1 .1 .1 .0) ≡ ν₅) × ((length (x .1 .1 .1 .1 .1 .0) ≡ ν₆) × (length (x .1 .1 .1 .1 .1 .1) ≡ ν₇))))))) × ((profile : Profile) (axes mode : ℕ) (old : List ℕ) (count : ℕ) (mid : List ℕ) → OpenedAt profile axes mode job old count mid stage → Joined stage merged mid work → Closed profile axes mode job old count r (buffers out ids map log origins) (buffers (x .1 .1 .0) (x .1 .1 .1 .0) (x .1 .1 .1 .1 .0) (x .1 .1 .1 .1 .1 .0) (x .1 .1 .1 .1 .1 .1)) (x .1 .0))) ((Sees u8 κ θ γ β ι 𝓤 ν job ⊛ (Has u32 κ₂ θ₂ γ₂ β₂ ι₂ 𝓤 ν₂ (x .1 .0) ⊛ (Has u8 κ₃ θ₃ γ₃ β₃ ι₃ 𝓤 ν₃ (x .1 .1 .0) ⊛ (Has u32 κ₄ θ₄ γ₄ β₄ ι₄ 𝓤 ν₄ (x .1 .1 .1 .0) ⊛ (Has u32 κ₅ θ₅ γ₅ β₅ ι₅ 𝓤 ν₅ (x .1 .1 .1 .1 .0) ⊛ (Has u32 κ₆ θ₆ γ₆ β₆ ι₆ 𝓤 ν₆ (x .1 .1 .1 .1 .1 .0) ⊛ Has u32 κ₇ θ₇ γ₇ β₇ ι₇ 𝓤 ν₇ (x .1 .1 .1 .1 .1 .1))))))) ⊛ ‵ (B.the-row .own r (w ∷ []))))))
 
-    abbrev at-close-see-mut-mut-mut-mut-mut : (g : Unit {0} × ((ℕ × GName) × ((ℕ × GName) × ((ℕ × GName) × ((ℕ × GName) × (ℕ × GName)))))) → Close-of 𝓤 H A mem run .Ghost
-    at-close-see-mut-mut-mut-mut-mut g = (((κ, (g .1 .0 .0 ∷ [], (g .1 .1 .0 .0 ∷ [], (g .1 .1 .1 .0 .0 ∷ [], (g .1 .1 .1 .1 .0 .0 ∷ [], (g .1 .1 .1 .1 .1 .0 ∷ [], tt)))))), (θ, (fullShare, (fullShare, (fullShare, (fullShare, (fullShare, tt)))))), tt, (ref u8 κ θ γ β ι γ job, (ref u32 κ₂ θ₂ γ₂ β₂ ι₂ (g .1 .0 .1) work, (stage, (merged, (ref u8 κ₃ θ₃ γ₃ β₃ ι₃ (g .1 .1 .0 .1) out, (ref u32 κ₄ θ₄ γ₄ β₄ ι₄ (g .1 .1 .1 .0 .1) ids, (ref u32 κ₅ θ₅ γ₅ β₅ ι₅ (g .1 .1 .1 .1 .0 .1) map, (ref u32 κ₆ θ₆ γ₆ β₆ ι₆ (g .1 .1 .1 .1 .1 .1) log, tt)))))))), (sliceVal (β, ι) ν ∷ [], (sliceVal (β₂, ι₂) ν₂ ∷ [], (stage-mach stage ∷ [], (mach-merged merged ∷ [], (sliceVal (β₃, ι₃) ν₃ ∷ [], (sliceVal (β₄, ι₄) ν₄ ∷ [], (sliceVal (β₅, ι₅) ν₅ ∷ [], (sliceVal (β₆, ι₆) ν₆ ∷ [], tt))))))))), tt)
+    abbrev at-close-see-mut-mut-mut-mut-mut-mut : (g : Unit {0} × ((ℕ × GName) × ((ℕ × GName) × ((ℕ × GName) × ((ℕ × GName) × ((ℕ × GName) × (ℕ × GName))))))) → Close-of 𝓤 H A mem run .Ghost
+    at-close-see-mut-mut-mut-mut-mut-mut g = (((κ, (g .1 .0 .0 ∷ [], (g .1 .1 .0 .0 ∷ [], (g .1 .1 .1 .0 .0 ∷ [], (g .1 .1 .1 .1 .0 .0 ∷ [], (g .1 .1 .1 .1 .1 .0 .0 ∷ [], (g .1 .1 .1 .1 .1 .1 .0 ∷ [], tt))))))), (θ, (fullShare, (fullShare, (fullShare, (fullShare, (fullShare, (fullShare, tt))))))), tt, (ref u8 κ θ γ β ι γ job, (ref u32 κ₂ θ₂ γ₂ β₂ ι₂ (g .1 .0 .1) work, (stage, (merged, (ref u8 κ₃ θ₃ γ₃ β₃ ι₃ (g .1 .1 .0 .1) out, (ref u32 κ₄ θ₄ γ₄ β₄ ι₄ (g .1 .1 .1 .0 .1) ids, (ref u32 κ₅ θ₅ γ₅ β₅ ι₅ (g .1 .1 .1 .1 .0 .1) map, (ref u32 κ₆ θ₆ γ₆ β₆ ι₆ (g .1 .1 .1 .1 .1 .0 .1) log, (ref u32 κ₇ θ₇ γ₇ β₇ ι₇ (g .1 .1 .1 .1 .1 .1 .1) origins, tt))))))))), (sliceVal (β, ι) ν ∷ [], (sliceVal (β₂, ι₂) ν₂ ∷ [], (stage-mach stage ∷ [], (mach-merged merged ∷ [], (sliceVal (β₃, ι₃) ν₃ ∷ [], (sliceVal (β₄, ι₄) ν₄ ∷ [], (sliceVal (β₅, ι₅) ν₅ ∷ [], (sliceVal (β₆, ι₆) ν₆ ∷ [], (sliceVal (β₇, ι₇) ν₇ ∷ [], tt)))))))))), tt)
 
-    leaves-close-see-mut-mut-mut-mut-mut : (long₂ : length work ≡ ν₂) (long₃ : length out ≡ ν₃) (long₄ : length ids ≡ ν₄) (long₅ : length map ≡ ν₅) (long₆ : length log ≡ ν₆) (sized₂ : Room u32 ν₂) (sized₃ : Room u8 ν₃) (sized₄ : Room u32 ν₄) (sized₅ : Room u32 ν₅) (sized₆ : Room u32 ν₆) → (g : Unit {0} × ((ℕ × GName) × ((ℕ × GName) × ((ℕ × GName) × ((ℕ × GName) × (ℕ × GName)))))) → (w : Val) → ent 𝓤 (Close-of 𝓤 H A mem run .post (at-close-see-mut-mut-mut-mut-mut g) w) (mean 𝓤 H A (Gives 𝓤 H A W (Loan-close-see-mut-mut-mut-mut-mut long₂ long₃ long₄ long₅ long₆ sized₂ sized₃ sized₄ sized₅ sized₆) B.the-row (λ x r. (profile : Profile) (axes mode : ℕ) (old : List ℕ) (count : ℕ) (mid : List ℕ) → OpenedAt profile axes mode job old count mid stage → Joined stage merged mid work → Closed profile axes mode job old count r (buffers out ids map log) (buffers (x .1 .1 .0) (x .1 .1 .1 .0) (x .1 .1 .1 .1 .0) (x .1 .1 .1 .1 .1)) (x .1 .0)) g w))
-    leaves-close-see-mut-mut-mut-mut-mut long₂ long₃ long₄ long₅ long₆ sized₂ sized₃ sized₄ sized₅ sized₆ g w =
-        qed W (later (some (λ (r : Built). ((‵ (flft (κ) θ) ⊛ ‵ (flft (g .1 .0 .0 ∷ []) fullShare) ⊛ ‵ (flft (g .1 .1 .0 .0 ∷ []) fullShare) ⊛ ‵ (flft (g .1 .1 .1 .0 .0 ∷ []) fullShare) ⊛ ‵ (flft (g .1 .1 .1 .1 .0 .0 ∷ []) fullShare) ⊛ ‵ (flft (g .1 .1 .1 .1 .1 .0 ∷ []) fullShare) ⊛ ‵ ftrue) ⊛ ‵ (B.the-row .own r (w ∷ [])))
-        ⊛ some (λ (ws : Lasts close.ended (κ, (g .1 .0 .0 ∷ [], (g .1 .1 .0 .0 ∷ [], (g .1 .1 .1 .0 .0 ∷ [], (g .1 .1 .1 .1 .0 .0 ∷ [], (g .1 .1 .1 .1 .1 .0 ∷ [], tt)))))) (at-close-see-mut-mut-mut-mut-mut g .0 .3)). ‵ (lasts close.ended (κ, (g .1 .0 .0 ∷ [], (g .1 .1 .0 .0 ∷ [], (g .1 .1 .1 .0 .0 ∷ [], (g .1 .1 .1 .1 .0 .0 ∷ [], (g .1 .1 .1 .1 .1 .0 ∷ [], tt)))))) (at-close-see-mut-mut-mut-mut-mut g .0 .3) ws) ⊛ raw (fact 𝓤 ((profile : Profile) (axes mode : ℕ) (old : List ℕ) (count : ℕ) (mid : List ℕ) → OpenedAt profile axes mode job old count mid stage → Joined stage merged mid work → Closed profile axes mode job old count r (buffers out ids map log) (buffers (ws .1 .1 .1 .1 .0) (ws .1 .1 .1 .1 .1 .0) (ws .1 .1 .1 .1 .1 .1 .0) (ws .1 .1 .1 .1 .1 .1 .1 .0)) (ws .1 .0)))))) ∷ []) ∵
+    leaves-close-see-mut-mut-mut-mut-mut-mut : (long₂ : length work ≡ ν₂) (long₃ : length out ≡ ν₃) (long₄ : length ids ≡ ν₄) (long₅ : length map ≡ ν₅) (long₆ : length log ≡ ν₆) (long₇ : length origins ≡ ν₇) (sized₂ : Room u32 ν₂) (sized₃ : Room u8 ν₃) (sized₄ : Room u32 ν₄) (sized₅ : Room u32 ν₅) (sized₆ : Room u32 ν₆) (sized₇ : Room u32 ν₇) → (g : Unit {0} × ((ℕ × GName) × ((ℕ × GName) × ((ℕ × GName) × ((ℕ × GName) × ((ℕ × GName) × (ℕ × GName))))))) → (w : Val) → ent 𝓤 (Close-of 𝓤 H A mem run .post (at-close-see-mut-mut-mut-mut-mut-mut g) w) (mean 𝓤 H A (Gives 𝓤 H A W (Loan-close-see-mut-mut-mut-mut-mut-mut long₂ long₃ long₄ long₅ long₆ long₇ sized₂ sized₃ sized₄ sized₅ sized₆ sized₇) B.the-row (λ x r. (profile : Profile) (axes mode : ℕ) (old : List ℕ) (count : ℕ) (mid : List ℕ) → OpenedAt profile axes mode job old count mid stage → Joined stage merged mid work → Closed profile axes mode job old count r (buffers out ids map log origins) (buffers (x .1 .1 .0) (x .1 .1 .1 .0) (x .1 .1 .1 .1 .0) (x .1 .1 .1 .1 .1 .0) (x .1 .1 .1 .1 .1 .1)) (x .1 .0)) g w))
+    leaves-close-see-mut-mut-mut-mut-mut-mut long₂ long₃ long₄ long₅ long₆ long₇ sized₂ sized₃ sized₄ sized₅ sized₆ sized₇ g w =
+        qed W (later (some (λ (r : Built). ((‵ (flft (κ) θ) ⊛ ‵ (flft (g .1 .0 .0 ∷ []) fullShare) ⊛ ‵ (flft (g .1 .1 .0 .0 ∷ []) fullShare) ⊛ ‵ (flft (g .1 .1 .1 .0 .0 ∷ []) fullShare) ⊛ ‵ (flft (g .1 .1 .1 .1 .0 .0 ∷ []) fullShare) ⊛ ‵ (flft (g .1 .1 .1 .1 .1 .0 .0 ∷ []) fullShare) ⊛ ‵ (flft (g .1 .1 .1 .1 .1 .1 .0 ∷ []) fullShare) ⊛ ‵ ftrue) ⊛ ‵ (B.the-row .own r (w ∷ [])))
+        ⊛ some (λ (ws : Lasts close.ended (κ, (g .1 .0 .0 ∷ [], (g .1 .1 .0 .0 ∷ [], (g .1 .1 .1 .0 .0 ∷ [], (g .1 .1 .1 .1 .0 .0 ∷ [], (g .1 .1 .1 .1 .1 .0 .0 ∷ [], (g .1 .1 .1 .1 .1 .1 .0 ∷ [], tt))))))) (at-close-see-mut-mut-mut-mut-mut-mut g .0 .3)). ‵ (lasts close.ended (κ, (g .1 .0 .0 ∷ [], (g .1 .1 .0 .0 ∷ [], (g .1 .1 .1 .0 .0 ∷ [], (g .1 .1 .1 .1 .0 .0 ∷ [], (g .1 .1 .1 .1 .1 .0 .0 ∷ [], (g .1 .1 .1 .1 .1 .1 .0 ∷ [], tt))))))) (at-close-see-mut-mut-mut-mut-mut-mut g .0 .3) ws) ⊛ raw (fact 𝓤 ((profile : Profile) (axes mode : ℕ) (old : List ℕ) (count : ℕ) (mid : List ℕ) → OpenedAt profile axes mode job old count mid stage → Joined stage merged mid work → Closed profile axes mode job old count r (buffers out ids map log origins) (buffers (ws .1 .1 .1 .1 .0) (ws .1 .1 .1 .1 .1 .0) (ws .1 .1 .1 .1 .1 .1 .0) (ws .1 .1 .1 .1 .1 .1 .1 .0) (ws .1 .1 .1 .1 .1 .1 .1 .1 .0)) (ws .1 .0)))))) ∷ []) ∵
         updating ! $ await ! tt $ pick ! (λ r. split ! $ move ! (1 ∷ []) $ pick ! (λ ws. split ! $
         move ! (1 ∷ []) $
-        heard ! ((profile : Profile) (axes mode : ℕ) (old : List ℕ) (count : ℕ) (mid : List ℕ) → OpenedAt profile axes mode job old count mid stage → Joined stage merged mid work → Closed profile axes mode job old count r (buffers out ids map log) (buffers (ws .1 .1 .1 .1 .0) (ws .1 .1 .1 .1 .1 .0) (ws .1 .1 .1 .1 .1 .1 .0) (ws .1 .1 .1 .1 .1 .1 .1 .0)) (ws .1 .0)) (λ e.
+        heard ! ((profile : Profile) (axes mode : ℕ) (old : List ℕ) (count : ℕ) (mid : List ℕ) → OpenedAt profile axes mode job old count mid stage → Joined stage merged mid work → Closed profile axes mode job old count r (buffers out ids map log origins) (buffers (ws .1 .1 .1 .1 .0) (ws .1 .1 .1 .1 .1 .0) (ws .1 .1 .1 .1 .1 .1 .0) (ws .1 .1 .1 .1 .1 .1 .1 .0) (ws .1 .1 .1 .1 .1 .1 .1 .1 .0)) (ws .1 .0)) (λ e.
         fsplit ! $
         move ! (1 ∷ []) $
         fsplit ! $
@@ -332,8 +332,15 @@ module _ {M : Type 1} (𝓤 : URA M) (H : Heap 𝓤) (A : Atoms 𝓤) (W : Given
         fsplit ! $
         move ! (1 ∷ []) $
         feqL ! (λ l₅.
-        move ! (9 ∷ []) $
+        move ! (1 ∷ []) $
+        fsplit ! $
+        fsplit ! $
+        move ! (1 ∷ []) $
+        feqL ! (λ l₆.
+        move ! (10 ∷ []) $
         split ! $
+        split ! $
+        move ! (1 ∷ []) $
         split ! $
         move ! (1 ∷ []) $
         split ! $
@@ -346,15 +353,19 @@ module _ {M : Type 1} (𝓤 : URA M) (H : Heap 𝓤) (A : Atoms 𝓤) (W : Given
         move ! (1 ∷ []) $
         split ! $
         at-once ! $
-        move ! (5 ∷ 15 ∷ []) $
+        move ! (6 ∷ 17 ∷ []) $
         join ! $
-        move ! (5 ∷ 12 ∷ []) $
+        move ! (6 ∷ 14 ∷ []) $
         join ! $
-        move ! (5 ∷ 11 ∷ []) $
+        move ! (6 ∷ 13 ∷ []) $
         join ! $
-        move ! (5 ∷ 10 ∷ []) $
+        move ! (6 ∷ 12 ∷ []) $
         join ! $
-        move ! (4 ∷ 8 ∷ []) $
+        move ! (6 ∷ 11 ∷ []) $
+        join ! $
+        move ! (5 ∷ 9 ∷ []) $
+        join ! $
+        move ! (1 ∷ 0 ∷ []) $
         join ! $
         move ! (1 ∷ 0 ∷ []) $
         join ! $
@@ -366,13 +377,16 @@ module _ {M : Type 1} (𝓤 : URA M) (H : Heap 𝓤) (A : Atoms 𝓤) (W : Given
         join ! $
         move ! (2 ∷ 0 ∷ []) $
         join ! $
-        keep ! (0 ∷ 2 ∷ []) $ by ! (gives 𝓤 H A W (Loan-close-see-mut-mut-mut-mut-mut long₂ long₃ long₄ long₅ long₆ sized₂ sized₃ sized₄ sized₅ sized₆) B.the-row (λ x r. (profile : Profile) (axes mode : ℕ) (old : List ℕ) (count : ℕ) (mid : List ℕ) → OpenedAt profile axes mode job old count mid stage → Joined stage merged mid work → Closed profile axes mode job old count r (buffers out ids map log) (buffers (x .1 .1 .0) (x .1 .1 .1 .0) (x .1 .1 .1 .1 .0) (x .1 .1 .1 .1 .1)) (x .1 .0)) g w r ((tt, (ws .1 .0, (ws .1 .1 .1 .1 .0, (ws .1 .1 .1 .1 .1 .0, (ws .1 .1 .1 .1 .1 .1 .0, ws .1 .1 .1 .1 .1 .1 .1 .0)))))) ((tt, (l₁ ∙ long₂, (l₂ ∙ long₃, (l₃ ∙ long₄, (l₄ ∙ long₅, l₅ ∙ long₆))))), e))))))))))
+        keep ! (0 ∷ 2 ∷ []) $ by ! (gives 𝓤 H A W (Loan-close-see-mut-mut-mut-mut-mut-mut long₂ long₃ long₄ long₅ long₆ long₇ sized₂ sized₃ sized₄ sized₅ sized₆ sized₇) B.the-row (λ x r. (profile : Profile) (axes mode : ℕ) (old : List ℕ) (count : ℕ) (mid : List ℕ) → OpenedAt profile axes mode job old count mid stage → Joined stage merged mid work → Closed profile axes mode job old count r (buffers out ids map log origins) (buffers (x .1 .1 .0) (x .1 .1 .1 .0) (x .1 .1 .1 .1 .0) (x .1 .1 .1 .1 .1 .0) (x .1 .1 .1 .1 .1 .1)) (x .1 .0)) g w r ((tt, (ws .1 .0, (ws .1 .1 .1 .1 .0, (ws .1 .1 .1 .1 .1 .0, (ws .1 .1 .1 .1 .1 .1 .0, (ws .1 .1 .1 .1 .1 .1 .1 .0, ws .1 .1 .1 .1 .1 .1 .1 .1 .0))))))) ((tt, (l₁ ∙ long₂, (l₂ ∙ long₃, (l₃ ∙ long₄, (l₄ ∙ long₅, (l₅ ∙ long₆, l₆ ∙ long₇)))))), e)))))))))))
 
-    pub close-see-mut-mut-mut-mut-mut : (long₂ : length work ≡ ν₂) (long₃ : length out ≡ ν₃) (long₄ : length ids ≡ ν₄) (long₅ : length map ≡ ν₅) (long₆ : length log ≡ ν₆) (sized₂ : Room u32 ν₂) (sized₃ : Room u8 ν₃) (sized₄ : Room u32 ν₄) (sized₅ : Room u32 ν₅) (sized₆ : Room u32 ν₆) → Is S.the-row stage (stage-mach stage ∷ []) → Is D.the-row merged (mach-merged merged ∷ []) → (CloseFit job stage merged work) → ent 𝓤 (mean 𝓤 H A (Loan-close-see-mut-mut-mut-mut-mut long₂ long₃ long₄ long₅ long₆ sized₂ sized₃ sized₄ sized₅ sized₆ .held)) (H .⇛ (C #closing·close (sliceVal (β, ι) ν ∷ sliceVal (β₂, ι₂) ν₂ ∷ stage-mach stage ∷ mach-merged merged ∷ sliceVal (β₃, ι₃) ν₃ ∷ sliceVal (β₄, ι₄) ν₄ ∷ sliceVal (β₅, ι₅) ν₅ ∷ sliceVal (β₆, ι₆) ν₆ ∷ []) (λ w. mean 𝓤 H A (After-close-see-mut-mut-mut-mut-mut w))))
-    close-see-mut-mut-mut-mut-mut long₂ long₃ long₄ long₅ long₆ sized₂ sized₃ sized₄ sized₅ sized₆ g-stage g-merged l = loan-call 𝓤 H A W (Loan-close-see-mut-mut-mut-mut-mut long₂ long₃ long₄ long₅ long₆ sized₂ sized₃ sized₄ sized₅ sized₆) B.the-row (λ x r. (profile : Profile) (axes mode : ℕ) (old : List ℕ) (count : ℕ) (mid : List ℕ) → OpenedAt profile axes mode job old count mid stage → Joined stage merged mid work → Closed profile axes mode job old count r (buffers out ids map log) (buffers (x .1 .1 .0) (x .1 .1 .1 .0) (x .1 .1 .1 .1 .0) (x .1 .1 .1 .1 .1)) (x .1 .0)) C fm #closing·close (sliceVal (β, ι) ν ∷ sliceVal (β₂, ι₂) ν₂ ∷ stage-mach stage ∷ mach-merged merged ∷ sliceVal (β₃, ι₃) ν₃ ∷ sliceVal (β₄, ι₄) ν₄ ∷ sliceVal (β₅, ι₅) ν₅ ∷ sliceVal (β₆, ι₆) ν₆ ∷ []) (λ g.
-        qed W (Loan-close-see-mut-mut-mut-mut-mut long₂ long₃ long₄ long₅ long₆ sized₂ sized₃ sized₄ sized₅ sized₆ .goes g ∷ []) ∵
-        suffices ! (C #closing·close (sliceVal (β, ι) ν ∷ sliceVal (β₂, ι₂) ν₂ ∷ stage-mach stage ∷ mach-merged merged ∷ sliceVal (β₃, ι₃) ν₃ ∷ sliceVal (β₄, ι₄) ν₄ ∷ sliceVal (β₅, ι₅) ν₅ ∷ sliceVal (β₆, ι₆) ν₆ ∷ []) (Close-of 𝓤 H A mem run .post (at-close-see-mut-mut-mut-mut-mut g))) (fm→monoC 𝓤 H (W .laws) C fm #closing·close (sliceVal (β, ι) ν ∷ sliceVal (β₂, ι₂) ν₂ ∷ stage-mach stage ∷ mach-merged merged ∷ sliceVal (β₃, ι₃) ν₃ ∷ sliceVal (β₄, ι₄) ν₄ ∷ sliceVal (β₅, ι₅) ν₅ ∷ sliceVal (β₆, ι₆) ν₆ ∷ []) (Close-of 𝓤 H A mem run .post (at-close-see-mut-mut-mut-mut-mut g)) _ (leaves-close-see-mut-mut-mut-mut-mut long₂ long₃ long₄ long₅ long₆ sized₂ sized₃ sized₄ sized₅ sized₆ g)) $
-        suffices ! (Close-of 𝓤 H A mem run .pre (at-close-see-mut-mut-mut-mut-mut g)) (known (at-close-see-mut-mut-mut-mut-mut g)) $ split ! $
+    pub close-see-mut-mut-mut-mut-mut-mut : (long₂ : length work ≡ ν₂) (long₃ : length out ≡ ν₃) (long₄ : length ids ≡ ν₄) (long₅ : length map ≡ ν₅) (long₆ : length log ≡ ν₆) (long₇ : length origins ≡ ν₇) (sized₂ : Room u32 ν₂) (sized₃ : Room u8 ν₃) (sized₄ : Room u32 ν₄) (sized₅ : Room u32 ν₅) (sized₆ : Room u32 ν₆) (sized₇ : Room u32 ν₇) → Is S.the-row stage (stage-mach stage ∷ []) → Is D.the-row merged (mach-merged merged ∷ []) → (CloseFit job stage merged work) → ent 𝓤 (mean 𝓤 H A (Loan-close-see-mut-mut-mut-mut-mut-mut long₂ long₃ long₄ long₅ long₆ long₇ sized₂ sized₃ sized₄ sized₅ sized₆ sized₇ .held)) (H .⇛ (C #closing·close (sliceVal (β, ι) ν ∷ sliceVal (β₂, ι₂) ν₂ ∷ stage-mach stage ∷ mach-merged merged ∷ sliceVal (β₃, ι₃) ν₃ ∷ sliceVal (β₄, ι₄) ν₄ ∷ sliceVal (β₅, ι₅) ν₅ ∷ sliceVal (β₆, ι₆) ν₆ ∷ sliceVal (β₇, ι₇) ν₇ ∷ []) (λ w. mean 𝓤 H A (After-close-see-mut-mut-mut-mut-mut-mut w))))
+    close-see-mut-mut-mut-mut-mut-mut long₂ long₃ long₄ long₅ long₆ long₇ sized₂ sized₃ sized₄ sized₅ sized₆ sized₇ g-stage g-merged l = loan-call 𝓤 H A W (Loan-close-see-mut-mut-mut-mut-mut-mut long₂ long₃ long₄ long₅ long₆ long₇ sized₂ sized₃ sized₄ sized₅ sized₆ sized₇) B.the-row (λ x r. (profile : Profile) (axes mode : ℕ) (old : List ℕ) (count : ℕ) (mid : List ℕ) → OpenedAt profile axes mode job old count mid stage → Joined stage merged mid work → Closed profile axes mode job old count r (buffers out ids map log origins) (buffers (x .1 .1 .0) (x .1 .1 .1 .0) (x .1 .1 .1 .1 .0) (x .1 .1 .1 .1 .1 .0) (x .1 .1 .1 .1 .1 .1)) (x .1 .0)) C fm #closing·close (sliceVal (β, ι) ν ∷ sliceVal (β₂, ι₂) ν₂ ∷ stage-mach stage ∷ mach-merged merged ∷ sliceVal (β₃, ι₃) ν₃ ∷ sliceVal (β₄, ι₄) ν₄ ∷ sliceVal (β₅, ι₅) ν₅ ∷ sliceVal (β₆, ι₆) ν₆ ∷ sliceVal (β₇, ι₇) ν₇ ∷ []) (λ g.
+        qed W (Loan-close-see-mut-mut-mut-mut-mut-mut long₂ long₃ long₄ long₅ long₆ long₇ sized₂ sized₃ sized₄ sized₅ sized₆ sized₇ .goes g ∷ []) ∵
+        suffices ! (C #closing·close (sliceVal (β, ι) ν ∷ sliceVal (β₂, ι₂) ν₂ ∷ stage-mach stage ∷ mach-merged merged ∷ sliceVal (β₃, ι₃) ν₃ ∷ sliceVal (β₄, ι₄) ν₄ ∷ sliceVal (β₅, ι₅) ν₅ ∷ sliceVal (β₆, ι₆) ν₆ ∷ sliceVal (β₇, ι₇) ν₇ ∷ []) (Close-of 𝓤 H A mem run .post (at-close-see-mut-mut-mut-mut-mut-mut g))) (fm→monoC 𝓤 H (W .laws) C fm #closing·close (sliceVal (β, ι) ν ∷ sliceVal (β₂, ι₂) ν₂ ∷ stage-mach stage ∷ mach-merged merged ∷ sliceVal (β₃, ι₃) ν₃ ∷ sliceVal (β₄, ι₄) ν₄ ∷ sliceVal (β₅, ι₅) ν₅ ∷ sliceVal (β₆, ι₆) ν₆ ∷ sliceVal (β₇, ι₇) ν₇ ∷ []) (Close-of 𝓤 H A mem run .post (at-close-see-mut-mut-mut-mut-mut-mut g)) _ (leaves-close-see-mut-mut-mut-mut-mut-mut long₂ long₃ long₄ long₅ long₆ long₇ sized₂ sized₃ sized₄ sized₅ sized₆ sized₇ g)) $
+        suffices ! (Close-of 𝓤 H A mem run .pre (at-close-see-mut-mut-mut-mut-mut-mut g)) (known (at-close-see-mut-mut-mut-mut-mut-mut g)) $ split ! $
+        split ! $
+        move ! (2 ∷ []) $
+        split ! $
         split ! $
         move ! (2 ∷ []) $
         split ! $
@@ -401,7 +415,11 @@ module _ {M : Type 1} (𝓤 : URA M) (H : Heap 𝓤) (A : Atoms 𝓤) (W : Given
         join ! $
         move ! (6 ∷ 0 ∷ []) $
         join ! $
+        move ! (7 ∷ 0 ∷ []) $
+        join ! $
         nothing ! $
+        move ! (2 ∷ 0 ∷ []) $
+        fjoin ! $
         move ! (2 ∷ 0 ∷ []) $
         fjoin ! $
         move ! (2 ∷ 0 ∷ []) $

@@ -23,12 +23,13 @@ pub fn build(
     ids: &mut [u32],
     map: &mut [u32],
     log: &mut [u32],
+    origins: &mut [u32],
 ) -> Built
-    ensures { λ r. ⌜ ObeysBy profile (lending axes mode (now (job .entry)) (now (work .entry)) (now (pairs .entry)) (buffers (now (out .entry)) (now (ids .entry)) (now (map .entry)) (now (log .entry)))) r (leaves (now (work .exit)) (now (pairs .exit)) (buffers (now (out .exit)) (now (ids .exit)) (now (map .exit)) (now (log .exit)))) ⌝ }
+    ensures { λ r. ⌜ ObeysBy profile (lending axes mode (now (job .entry)) (now (work .entry)) (now (pairs .entry)) (buffers (now (out .entry)) (now (ids .entry)) (now (map .entry)) (now (log .entry)) (now (origins .entry)))) r (leaves (now (work .exit)) (now (pairs .exit)) (buffers (now (out .exit)) (now (ids .exit)) (now (map .exit)) (now (log .exit)) (now (origins .exit)))) ⌝ }
 {
     let s = open(profile, axes, mode, job, work, pairs.len());
     let m = optimize(pairs, work, tables(s.places, s.groups));
-    let r = close(job, work, s, m, out, ids, map, log);
+    let r = close(job, work, s, m, out, ids, map, log, origins);
     pairs::clear_pairs(pairs, pairs_used(s, pairs.len()));
     r
 }

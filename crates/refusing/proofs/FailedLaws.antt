@@ -1,5 +1,5 @@
 -- Tests in their order: which one answers. Assumes nothing.
-use mathlib.Core.Path.{_≡_, refl}
+use mathlib.Core.Path.{_≡_, refl, sym}
 use mathlib.Core.Bool.{Bool, true, false, not, _&&_, _||_}
 use mathlib.Core.List.{List, [], _∷_}
 use mathlib.Core.Logic.{_⊎_, inl, inr}
@@ -7,6 +7,7 @@ use Prim.Native.Nat.{ℕ, _≤_, _<_}
 use native.Mathlib.Omega.{arith}
 use Rattle.laws.specs.Every.{All}
 use Rattle.laws.proofs.Cases.{true-false}
+use Rattle.laws.proofs.EveryLaws.{all-imp}
 use Rattle.said.specs.Refusals.{firstFailed}
 
 abbrev pub Tests : Type 0
@@ -16,18 +17,25 @@ Tests = List (Bool × ℕ)
 abbrev pub Above : ℕ → Tests → Type 0
 Above n l = All (λ (t : Bool × ℕ). n < t .1) l
 
-rest-not : (n : ℕ) (l : Tests) → 0 < n → Above n l → firstFailed l ≡ n → ⊥
+-- none of them is n
+abbrev pub Without : ℕ → Tests → Type 0
+Without n l = All (λ (t : Bool × ℕ). n ≡ t .1 → ⊥) l
+
+rest-not : (n : ℕ) (l : Tests) → 0 < n → Without n l → firstFailed l ≡ n → ⊥
 unfolding firstFailed
 rest-not n [] p a e = omega arith
 rest-not n ((true, m) ∷ l) p a e = rest-not n l p (a .1) e
-rest-not n ((false, m) ∷ l) p a e = let h = a .0 in omega arith
+rest-not n ((false, m) ∷ l) p a e = a .0 (sym e)
 
 module _ (n : ℕ) (l : Tests) where
   -- a test fails, and no later one has its number
-  pub this : (b : Bool) → 0 < n → Above n l → firstFailed ((b, n) ∷ l) ≡ n → b ≡ false
+  pub this-alone : (b : Bool) → 0 < n → Without n l → firstFailed ((b, n) ∷ l) ≡ n → b ≡ false
   unfolding firstFailed
-  this true p a e = absurd (rest-not n l p a e)
-  this false p a e = refl
+  this-alone true p a e = absurd (rest-not n l p a e)
+  this-alone false p a e = refl
+
+  pub this : (b : Bool) → 0 < n → Above n l → firstFailed ((b, n) ∷ l) ≡ n → b ≡ false
+  this b p a e = this-alone b p (all-imp (λ t h z. omega arith) l a) e
 
   pub failed : (b : Bool) → b ≡ false → firstFailed ((b, n) ∷ l) ≡ n
   unfolding firstFailed
@@ -62,11 +70,14 @@ second-failed n true b e = rw e
 second-failed n false b e = refl
 
 -- the number is one of the tests', or 0
-pub among : (low high : ℕ) (l : Tests) → All (λ (t : Bool × ℕ). (low ≤ t .1) × (t .1 ≤ high)) l → (firstFailed l ≡ 0) ⊎ ((low ≤ firstFailed l) × (firstFailed l ≤ high))
+pub among-such : (P : ℕ → Type 0) (l : Tests) → All (λ (t : Bool × ℕ). P (t .1)) l → (firstFailed l ≡ 0) ⊎ P (firstFailed l)
 unfolding firstFailed
-among low high [] a = inl refl
-among low high ((true, n) ∷ l) a = among low high l (a .1)
-among low high ((false, n) ∷ l) a = inr (a .0)
+among-such P [] a = inl refl
+among-such P ((true, n) ∷ l) a = among-such P l (a .1)
+among-such P ((false, n) ∷ l) a = inr (a .0)
+
+pub among : (low high : ℕ) (l : Tests) → All (λ (t : Bool × ℕ). (low ≤ t .1) × (t .1 ≤ high)) l → (firstFailed l ≡ 0) ⊎ ((low ≤ firstFailed l) × (firstFailed l ≤ high))
+among low high = among-such (λ n. (low ≤ n) × (n ≤ high))
 
 pub none-failed : firstFailed [] ≡ 0
 unfolding firstFailed

@@ -44,6 +44,9 @@ impl Refusal {
 
     pub const REGION_UNFINISHED: usize = 34;
 
+    // Of a job whose records are all right, by what mode 0 is lent beside its log.
+    pub const ORIGINS_SHORT: usize = 61;
+
     // Of two sets of a job that are compared.
     pub const NO_SET: usize = 64;
 

@@ -9,6 +9,7 @@ use Rattle.laws.specs.Every.{All, EachTwo}
 use Rattle.laws.specs.Bag.{weigh}
 use Rattle.laws.specs.Bounded.{upTo}
 use Rattle.laws.specs.Sorting.{keep}
+use Rattle.shapes.specs.Shape.{Shape, join}
 use Rattle.shapes.specs.Group.{Group, groupCost, maxItems}
 use Rattle.sets.specs.Set.{Set}
 use Rattle.sets.specs.Ids.{distinct}
@@ -23,6 +24,11 @@ costOf f = groupCost (record { shape = f .shape; sets = length (f .ids) })
 
 abbrev pub groupAt : List Group → ℕ → Group
 groupAt groups i = getD groups i (record { shape = []; sets = 0 })
+
+-- the shapes of some starting groups, joined
+unfoldable pub shapesJoined : List Group → List ℕ → Shape
+shapesJoined xs [] = []
+shapesJoined xs (i ∷ l) = join (groupAt xs i .shape) (shapesJoined xs l)
 
 -- the number of the starting group that id x's set is in
 abbrev pub startingOf : ℕ → List Set → ℕ → ℕ

@@ -19,11 +19,11 @@ use Rattle.encoder.specs.Packed.{Packed, shared}
 use Rattle.encoder.proofs.DenseIds.{ids-length}
 use Rattle.finishing.specs.declared.answers.Report.{Report}
 use Rattle.finishing.specs.declared.answers.Built.the-variants.{Done}
-use Rattle.finishing.specs.Late.{storeFor, reportOf}
+use Rattle.finishing.specs.Late.{storeFor, originWords, reportOf}
 use Rattle.call.specs.Lending.{Lending}
 use Rattle.call.specs.Build.{coordsInUse, packedOf, outcomeOf, answerOf, after}
 use Rattle.accepted.proofs.PackedLaws.{WellPacked, shared-good}
-use Rattle.accepted.proofs.Accepted.{Accepted, accepted, packedIn, map-is, store-front, log-front, id-at}
+use Rattle.accepted.proofs.Accepted.{Accepted, accepted, packedIn, map-is, store-front, log-front, origins-front, id-at}
 use Rattle.unordered.proofs.Alike.{Fine}
 
 -- ---- the packed sets of mode 0
@@ -55,6 +55,7 @@ pub record IsDone (axes : ℕ) (a : Lending) (s : Said) (c : Report) : Type 0 wh
   pub map-room : length (packedOf 0 s .sets) ≤ length (a .lent .map)
   pub store-is : take (c .bytes) (after a .lent .out) ≡ storeFor axes (coordsInUse s) (packedOf 0 s)
   pub log-is : take (3 * c .merges) (after a .lent .log) ≡ words (packedOf 0 s .log)
+  pub origins-is : take (2 * c .groups) (after a .lent .origins) ≡ originWords 0 (packedOf 0 s .origins)
   pub map-is : after a .lent .map ≡ stored (idWords 0 (allRuns (packedOf 0 s .finals))) (a .lent .map)
   -- the id of set n is the place of that among the distinct ones
   pub id-is : (n : ℕ) → n < length (s .sets) → getD (after a .lent .ids) n 0 ≡ place (getD (s .sets) n []) (distinct (s .sets))
@@ -85,6 +86,7 @@ module _ (a : Lending) (c : Report) (mode : a .mode ≡ 0) (bytes : Bytes (a .jo
         map-room = subst (λ (k : Packed). length (k .sets) ≤ length (a .lent .map)) packed-is (z .room .map-fits);
         store-is = store-front a c z ∙ ap (storeFor (a .axes) (coordsInUse s)) packed-is;
         log-is = log-front a c z ∙ ap (λ (k : Packed). words (k .log)) packed-is;
+        origins-is = origins-front a c z ∙ ap (λ (k : Packed). originWords 0 (k .origins)) packed-is;
         map-is = map-is a c z ∙ ap (λ (k : Packed). stored (idWords 0 (allRuns (k .finals))) (a .lent .map)) packed-is;
         id-is = id-at-set;
       }

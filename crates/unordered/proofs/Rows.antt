@@ -23,7 +23,7 @@ use Rattle.sets.proofs.IdLaws.{place-here, place-first}
 use Rattle.rule.specs.Model.{Living, start, merged, total}
 use Rattle.groups.specs.Groups.{groupsOf}
 use Rattle.store.specs.Placing.{Final}
-use Rattle.encoder.specs.Packed.{Packed, noLater, dense, belongs, finalOf, isAhead, finalsOf, shared}
+use Rattle.encoder.specs.Packed.{Packed, noLater, dense, belongs, finalOf, originsOf, isAhead, finalsOf, shared}
 use Rattle.encoder.specs.Lent.{relabel}
 use Rattle.encoder.proofs.DenseIds.{dense-below}
 use Rattle.encoder.proofs.NumberLaws.{mem-at}
@@ -85,6 +85,7 @@ pub record Renamed (f : ℕ → ℕ) (k m : Packed) : Type 0 where
   pub sets-are : (x : ℕ) → x < length (k .sets) → getD (k .sets) x [] ≡ getD (m .sets) (f x) []
   pub count-is : length (k .sets) ≡ length (m .sets)
   pub groups-are : k .groups ≡ m .groups
+  pub origins-are : k .origins ≡ m .origins
   pub log-is : k .log ≡ m .log
   pub weighed-is : k .weighed ≡ m .weighed
   pub before-is : k .before ≡ m .before
@@ -135,6 +136,7 @@ module _ (regions : ℕ) (s t : List Set) (fine-s : All (Fine regions) s) (fine-
     sets-are = λ x h. sym (place-here (getD (distinct s) x []) (distinct t) (id-low x h));
     count-is = bag-length (distinct s) (distinct t) (distinct-bag regions s t fine-s fine-t there back);
     groups-are = ap length groups-are;
+    origins-are = ap originsOf groups-are;
     log-is = ap (λ (gs : List Group). merged gs .log) groups-are;
     weighed-is = ap (λ (gs : List Group). merged gs .weighed) groups-are;
     before-is = ap (λ (gs : List Group). total (start gs .living)) groups-are;

@@ -15,7 +15,7 @@ use Rattle.said.proofs.SoundLaws.{Bytes}
 use Rattle.encoder.specs.Packed.{Packed, shared}
 use Rattle.finishing.specs.declared.answers.Report.{Report}
 use Rattle.finishing.specs.declared.answers.Built.the-variants.{Done}
-use Rattle.finishing.specs.Late.{storeFor, reportOf}
+use Rattle.finishing.specs.Late.{storeFor, originWords, reportOf}
 use Rattle.call.specs.Lending.{Lending}
 use Rattle.call.specs.Build.{regionBytes, coordsInUse, packedOf, outcomeOf, answerOf, after}
 use Rattle.accepted.proofs.PackedLaws.{WellPacked}
@@ -81,6 +81,7 @@ module _ (axes : ℕ) (a b : Lending) (s t : Said) (c d : Report) (same : SameSe
     store-is = p .store-is ∙ sym (ap (λ (n : ℕ). storeFor n (coordsInUse s) (packedOf 0 s)) f);
     out = p .store-is ∙ stores ∙ sym (q .store-is);
     log = p .log-is ∙ ap words (renamed .log-is) ∙ sym (q .log-is);
+    origins = p .origins-is ∙ ap (originWords 0) (renamed .origins-are) ∙ sym (q .origins-is);
     places = places-same;
   }
 

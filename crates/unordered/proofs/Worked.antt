@@ -45,7 +45,7 @@ use Rattle.finishing.specs.declared.answers.Built.the-variants.{Done}
 use Rattle.pairs.specs.declared.Pair.{Pair}
 use Rattle.pairs.specs.LentQueue.{none}
 use Rattle.finishing.specs.Buffers.{Buffers, buffers, lengths}
-use Rattle.finishing.specs.Late.{storeFor, regionsKept, lateNo, reportOf, lateAnswer, written, buffersLeft}
+use Rattle.finishing.specs.Late.{storeFor, regionsKept, originWords, lateNo, reportOf, lateAnswer, written, buffersLeft}
 use Rattle.call.specs.Lending.{Lending, lending}
 use Rattle.call.specs.Build.{regionBytes, coordsInUse, packedOf, answerFrom, leftFrom, outcomeOf, answerOf}
 use Rattle.unordered.specs.Same.{SameSets, SameBuild}
@@ -81,10 +81,10 @@ job-b =
     ++ (valueRecord 0 1 44 ++ endRecord))))))))
 
 abbrev lent-a : Buffers
-lent-a = buffers (replicate 64 0) (replicate 3 0) (replicate 3 0) (replicate 6 0)
+lent-a = buffers (replicate 64 0) (replicate 3 0) (replicate 3 0) (replicate 6 0) (replicate 6 0)
 
 abbrev lent-b : Buffers
-lent-b = buffers (replicate 60 9) (replicate 5 9) (replicate 4 9) (replicate 7 9)
+lent-b = buffers (replicate 60 9) (replicate 5 9) (replicate 4 9) (replicate 7 9) (replicate 7 9)
 
 -- with work and pair records of these lengths, whatever they hold
 abbrev words-lent : ℕ
@@ -176,10 +176,11 @@ Answers =
     × (left-a .ids ≡ 0 ∷ 1 ∷ 2 ∷ []) × (left-b .ids ≡ 0 ∷ 1 ∷ 2 ∷ 0 ∷ 9 ∷ [])
     × (left-a .map ≡ 1 ∷ 2 ∷ 0 ∷ []) × (left-b .map ≡ 2 ∷ 0 ∷ 1 ∷ 9 ∷ [])
     × (left-a .log ≡ 1 ∷ 2 ∷ 10 ∷ 0 ∷ 3 ∷ 7 ∷ []) × (left-b .log ≡ 1 ∷ 2 ∷ 10 ∷ 0 ∷ 3 ∷ 7 ∷ 9 ∷ [])
+    × (left-a .origins ≡ 0 ∷ 0 ∷ 1 ∷ 0 ∷ 2 ∷ 0 ∷ []) × (left-b .origins ≡ 0 ∷ 0 ∷ 1 ∷ 0 ∷ 2 ∷ 0 ∷ 9 ∷ [])
 
 answers : Answers
-unfolding weigh tabulate be bytesOf compared thenBy isMost fits isZero signed twos word value insert sorted keep widthOf costOf rowCost columns overhead join shapes.widthsOrder shapes.order groupCost joined gain wordOf sameSet sets.byWords sets.partNone sets.partHead sets.parting sets.orderOf sets.order place withSet idsFrom distinctFrom groups.shapeOf groups.putShape groups.withShape groups.groupsFrom groups.groupsOf rule.keepOut rule.outs rule.pairWith rule.keepPair rule.pairs rule.better rule.lead rule.best rule.worth rule.ifWorth rule.choice rule.entry rule.merge rule.follow rule.step rule.run rule.number rule.start rule.merged rule.total words addIf ofWidth columnsOf wordCount bytesFor wordIn cellsOf rowOf joinAll rows.runCount store.runsOf store.allRuns store.inRun store.idWords store.names store.slotOf store.madeOf stores.tableBytes stores.slotBytes stores.offsets stores.listBytes stores.place store.storeOf columnAt store.runBytes store.forecastOf stored mustBeZero firstNotZero wrongByte valueWord firstFailed publishedWork earlyNo inTurn formNo valueNo endNo said.coordinates said.regionList said.sameRegion said.like said.firstLike said.has said.withUse said.indexIn said.withEntry said.withValue job.unless job.afterValue job.afterEnd job.valueStep job.endStep job.regionsOnly job.saidAt job.axesBefore job.isLate job.kindStep job.step job.endedSets job.ended job.follow job.recordsFrom job.outcomeFrom job.outcome packed.noLater packed.dense packed.sameShape packed.numberOf packed.isAmong packed.belongs packed.finalOf packed.isAhead packed.finalsOf packed.shared storeFor regionsKept lateNo reportOf lateAnswer written buffersLeft regionBytes coordsInUse packedOf answerFrom leftFrom
-answers = (refl, refl, refl, refl, refl, refl, refl, refl)
+unfolding weigh tabulate be bytesOf compared thenBy isMost fits isZero signed twos word value insert sorted keep widthOf costOf rowCost columns overhead join shapes.widthsOrder shapes.order groupCost joined gain wordOf sameSet sets.byWords sets.partNone sets.partHead sets.parting sets.orderOf sets.order place withSet idsFrom distinctFrom groups.shapeOf groups.putShape groups.withShape groups.groupsFrom groups.groupsOf rule.keepOut rule.outs rule.pairWith rule.keepPair rule.pairs rule.better rule.lead rule.best rule.worth rule.ifWorth rule.choice rule.entry rule.merge rule.follow rule.step rule.run rule.number rule.start rule.merged rule.total words addIf ofWidth columnsOf wordCount bytesFor wordIn cellsOf rowOf joinAll rows.runCount store.runsOf store.allRuns store.inRun store.idWords store.names store.slotOf store.madeOf stores.tableBytes stores.slotBytes stores.offsets stores.listBytes stores.place store.storeOf columnAt store.runBytes store.forecastOf stored mustBeZero firstNotZero wrongByte valueWord firstFailed publishedWork earlyNo inTurn formNo valueNo endNo said.coordinates said.regionList said.sameRegion said.like said.firstLike said.has said.withUse said.indexIn said.withEntry said.withValue job.unless job.afterValue job.afterEnd job.valueStep job.endStep job.regionsOnly job.saidAt job.axesBefore job.isLate job.kindStep job.step job.endedSets job.ended job.follow job.recordsFrom job.outcomeFrom job.outcome packed.noLater packed.dense packed.sameShape packed.numberOf packed.isAmong packed.belongs packed.finalOf packed.isAhead packed.homeOf packed.originsOf packed.finalsOf packed.shared storeFor regionsKept originWords lateNo reportOf lateAnswer written buffersLeft regionBytes coordsInUse packedOf answerFrom leftFrom
+answers = (refl, refl, refl, refl, refl, refl, refl, refl, refl, refl)
 
 module _ (work : List ℕ) (pairs : List Pair) (w : length work ≡ words-lent) (p : length pairs ≡ pairRecords) where
   abbrev a : Lending

@@ -36,6 +36,8 @@ pub record SameBuild (a b : Lending) (s t : Said) (c d : Report) : Type 0 where
   pub out : take (c .bytes) (after a .lent .out) ≡ take (d .bytes) (after b .lent .out)
   -- the log (M5), an entry of three words a merge
   pub log : take (3 * c .merges) (after a .lent .log) ≡ take (3 * d .merges) (after b .lent .log)
+  -- the origins (F6), two words a starting group
+  pub origins : take (2 * c .groups) (after a .lent .origins) ≡ take (2 * d .groups) (after b .lent .origins)
   -- a set that is in both has one place
   pub places : (x y : ℕ) → x < length (s .sets) → y < length (t .sets) → getD (s .sets) x [] ≡ getD (t .sets) y []
       → placeOf a x ≡ placeOf b y

@@ -13,8 +13,8 @@ returns c = λ profile axes mode old pairs mid p j. close-early old pairs mid p 
 
 pack-sets-requires : tie.Need-pack-sets-requires
 pack-sets-requires c κs =
-    let q = c .before .before .before .before .before .before .before .before .before .before .before .before .pre in
-    close-settle (q .old) (q .pairs) (q .mid) (q .opened) (q .joined) (c .before .before .before .before .before .if1 .left)
+    let q = c .before .before .before .before .before .before .before .before .before .before .before .before .before .before .pre in
+    close-settle (q .old) (q .pairs) (q .mid) (q .opened) (q .joined) (c .before .before .before .before .before .before .if1 .left)
 
 clear-work-requires : tie.Need-clear-work-requires
 clear-work-requires c κs = search needs
@@ -34,8 +34,11 @@ same-length-4 c = search needs
 same-length-5 : tie.Need-same-length-5
 same-length-5 c = search needs
 
+same-length-6 : tie.Need-same-length-6
+same-length-6 c = search needs
+
 returns-2 : tie.Need-returns-2
-returns-2 c = λ profile axes mode old pairs mid p j. close-late old pairs mid p j (c .before .before .before .before .before .before .before .before .before .before .before .before .before .before .before .before .before .before .before .before .if1 .left) _ _ _ (c .before .before .before .before .before .before .before .before .before .before .before .before .before .before .pack-sets .ensures) _ (c .before .before .before .before .before .before .before .before .before .before .before .before .before .before .pack-sets .kept .1 .0) _ (c .before .before .clear-work .ensures)
+returns-2 c = λ profile axes mode old pairs mid p j. close-late old pairs mid p j (c .before .before .before .before .before .before .before .before .before .before .before .before .before .before .before .before .before .before .before .before .before .before .before .if1 .left) _ _ _ (c .before .before .before .before .before .before .before .before .before .before .before .before .before .before .before .before .pack-sets .ensures) _ (c .before .before .before .before .before .before .before .before .before .before .before .before .before .before .before .before .pack-sets .kept .1 .0) _ (c .before .before .clear-work .ensures)
 
 pub close-spec : {M : Type 1} → statement M
 close-spec =
@@ -49,4 +52,5 @@ close-spec =
     same-length-3
     same-length-4
     same-length-5
+    same-length-6
     returns-2)

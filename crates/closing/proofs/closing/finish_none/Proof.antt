@@ -18,7 +18,7 @@ null-packing-requires : tie.Need-null-packing-requires
 null-packing-requires c κs = search needs
 
 finish-requires : tie.Need-finish-requires
-finish-requires c κs = none-fit _ _ (c .before .before .before .before .null-packing .ensures) _ (c .before .before .before .before .before .before .before .before .before .before .before .pre)
+finish-requires c κs = none-fit _ _ (c .before .before .before .before .before .null-packing .ensures) _ (c .before .before .before .before .before .before .before .before .before .before .before .before .before .pre)
 
 same-length : tie.Need-same-length
 same-length c = search needs
@@ -32,8 +32,11 @@ same-length-3 c = search needs
 same-length-4 : tie.Need-same-length-4
 same-length-4 c = search needs
 
+same-length-5 : tie.Need-same-length-5
+same-length-5 c = search needs
+
 returns : tie.Need-returns
-returns c = none-done _ _ (c .before .before .before .before .before .before .before .before .before .before .before .before .before .before .null-packing .ensures) _ _ _ _ (c .before .before .before .before .before .before .before .before .before .finish .ensures)
+returns c = none-done _ _ (c .before .before .before .before .before .before .before .before .before .before .before .before .before .before .before .before .before .null-packing .ensures) _ _ _ _ (c .before .before .before .before .before .before .before .before .before .before .before .finish .ensures)
 
 pub finish-none-spec : {M : Type 1} → statement M
 finish-none-spec =
@@ -47,4 +50,5 @@ finish-none-spec =
     same-length-2
     same-length-3
     same-length-4
+    same-length-5
     returns)

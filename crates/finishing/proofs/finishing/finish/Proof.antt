@@ -17,16 +17,16 @@ slice-aggregate-measure-2 : tie.Need-slice-aggregate-measure-2
 slice-aggregate-measure-2 c = search needs
 
 measure-requires : tie.Need-measure-requires
-measure-requires c κs = let q = c .before .before .before .before .before .before .before .before .before .pre in (q .axes-few, (words-fit q, (omega arith, omega arith)))
+measure-requires c κs = let q = c .before .before .before .before .before .before .before .before .before .before .pre in (q .axes-few, (words-fit q, (omega arith, omega arith)))
 
 short-no-requires : tie.Need-short-no-requires
-short-no-requires c κs = c .before .before .before .before .before .before .before .before .before .before .before .before .before .before .pre .packed .groups-few
+short-no-requires c κs = c .before .before .before .before .before .before .before .before .before .before .before .before .before .before .before .pre .packed .groups-few
 
 same-length : tie.Need-same-length
 same-length c = search needs
 
 returns : tie.Need-returns
-returns c x at = refused-as (c .before .before .before .before .before .before .before .before .before .before .before .before .before .before .before .before .pre) (c .before .before .before .before .before .before .measure .ensures .drafted) x at _ _ (c .before .short-no .ensures) (c .if1 .taken)
+returns c x at = refused-as (c .before .before .before .before .before .before .before .before .before .before .before .before .before .before .before .before .before .pre) (c .before .before .before .before .before .before .measure .ensures .drafted) x at _ _ (c .before .short-no .ensures) (c .if1 .taken)
 
 slice-aggregate-write-out : tie.Need-slice-aggregate-write-out
 slice-aggregate-write-out c = search needs
@@ -36,15 +36,15 @@ slice-aggregate-write-out-2 c = search needs
 
 write-out-requires : tie.Need-write-out-requires
 write-out-requires c κs =
-    let q = c .before .before .before .before .before .before .before .before .before .before .before .before .before .before .before .before .before .before .before .before .pre in
+    let q = c .before .before .before .before .before .before .before .before .before .before .before .before .before .before .before .before .before .before .before .before .before .pre in
     let d = c .before .before .before .before .before .before .before .before .before .before .measure .ensures .drafted in
     (q, (plan q d, room q d (c .before .before .before .before .before .short-no .ensures) (c .before .before .before .before .if1 .left) .out-room))
 
 write-words-requires : tie.Need-write-words-requires
 write-words-requires c κs =
-    let q = c .before .before .before .before .before .before .before .before .before .before .before .before .before .before .before .before .before .before .before .before .before .before .before .before .before .before .before .pre in
-    let r = room q (c .before .before .before .before .before .before .before .before .before .before .before .before .before .before .before .before .before .measure .ensures .drafted) (c .before .before .before .before .before .before .before .before .before .before .before .before .short-no .ensures) (c .before .before .before .before .before .before .before .before .before .before .before .if1 .left) in
-    (words-fit q, (r .ids-room, (r .map-room, log-fits q r)))
+    let q = c .before .before .before .before .before .before .before .before .before .before .before .before .before .before .before .before .before .before .before .before .before .before .before .before .before .before .before .before .before .pre in
+    let r = room q (c .before .before .before .before .before .before .before .before .before .before .before .before .before .before .before .before .before .before .measure .ensures .drafted) (c .before .before .before .before .before .before .before .before .before .before .before .before .before .short-no .ensures) (c .before .before .before .before .before .before .before .before .before .before .before .before .if1 .left) in
+    (words-fit q, (r .ids-room, (r .map-room, (log-fits q r, r .origins-room))))
 
 same-length-2 : tie.Need-same-length-2
 same-length-2 c = search needs
@@ -61,8 +61,11 @@ same-length-5 c = search needs
 same-length-6 : tie.Need-same-length-6
 same-length-6 c = search needs
 
+same-length-7 : tie.Need-same-length-7
+same-length-7 c = search needs
+
 returns-2 : tie.Need-returns-2
-returns-2 c x at = done-as (c .before .before .before .before .before .before .before .before .before .before .before .before .before .before .before .before .before .before .before .before .before .before .before .before .before .before .before .before .before .before .before .before .before .before .before .before .pre) (c .before .before .before .before .before .before .before .before .before .before .before .before .before .before .before .before .before .before .before .before .before .before .before .before .before .before .measure .ensures .drafted) x at _ _ _ _ (c .before .before .before .before .before .before .before .before .before .before .before .before .before .before .before .before .before .before .before .before .before .short-no .ensures) (c .before .before .before .before .before .before .before .before .before .before .before .before .before .before .before .before .before .before .before .before .if1 .left) (c .before .before .before .before .before .before .before .before .before .before .before .before .before .before .before .write-out .ensures) (c .before .before .before .before .before .before .before .before .before .before .before .before .before .before .before .before .before .before .before .before .before .before .before .before .before .before .measure .ensures .report-is) (c .before .before .before .before .before .before .before .before .write-words .ensures)
+returns-2 c x at = done-as (c .before .before .before .before .before .before .before .before .before .before .before .before .before .before .before .before .before .before .before .before .before .before .before .before .before .before .before .before .before .before .before .before .before .before .before .before .before .before .before .before .pre) (c .before .before .before .before .before .before .before .before .before .before .before .before .before .before .before .before .before .before .before .before .before .before .before .before .before .before .before .before .before .measure .ensures .drafted) x at _ _ _ _ (c .before .before .before .before .before .before .before .before .before .before .before .before .before .before .before .before .before .before .before .before .before .before .before .before .short-no .ensures) (c .before .before .before .before .before .before .before .before .before .before .before .before .before .before .before .before .before .before .before .before .before .before .before .if1 .left) (c .before .before .before .before .before .before .before .before .before .before .before .before .before .before .before .before .before .before .write-out .ensures) (c .before .before .before .before .before .before .before .before .before .before .before .before .before .before .before .before .before .before .before .before .before .before .before .before .before .before .before .before .before .measure .ensures .report-is) (c .before .before .before .before .before .before .before .before .before .before .write-words .ensures)
 
 pub finish-spec : {M : Type 1} → statement M
 finish-spec =
@@ -83,4 +86,5 @@ finish-spec =
     same-length-4
     same-length-5
     same-length-6
+    same-length-7
     returns-2)
