@@ -23,6 +23,7 @@ pub struct Buffers {
     ids: Guarded<u32>,
     map: Guarded<u32>,
     log: Guarded<u32>,
+    origins: Guarded<u32>,
 }
 
 impl Buffers {
@@ -104,6 +105,7 @@ pub fn packed(case: &Case<'_>) -> Said {
             ids: packed.ids,
             map: packed.map,
             log: packed.log,
+            origins: packed.origins,
         }),
         Err(refused) => {
             assert_eq!(refused.name(), plain::name(refused.number));
@@ -153,6 +155,7 @@ fn least(case: &Case<'_>, said: &Said) -> Sizes {
             ids: 6,
             map: 5,
             log: 7,
+            origins: 9,
         },
     }
 }
@@ -166,6 +169,7 @@ fn over(least: &Sizes) -> Sizes {
         ids: least.ids + 2,
         map: least.map + 1,
         log: least.log + 4,
+        origins: least.origins + 3,
     }
 }
 
@@ -194,6 +198,7 @@ fn compare_for(
     buffers.ids.fill(sizes.ids);
     buffers.map.fill(sizes.map);
     buffers.log.fill(sizes.log);
+    buffers.origins.fill(sizes.origins);
     let mut report: [u64; 16] = std::array::from_fn(|i| u64::from(u32::noise()[i]) << 17);
     let mut lent = Lent {
         work: buffers.work.lend(),
@@ -202,6 +207,7 @@ fn compare_for(
         ids: buffers.ids.lend(),
         map: buffers.map.lend(),
         log: buffers.log.lend(),
+        origins: buffers.origins.lend(),
     };
     let (axes, mode, job) = (case.axes, case.mode, case.job);
     let answer = ivs::build_report_for(profile, axes, mode, job, &mut lent, &mut report);
@@ -213,14 +219,19 @@ fn compare_for(
 
 /// What stands in the lent memory: what was due, then noise.
 fn left(buffers: &mut Buffers, due: &Said) -> Result<(), String> {
-    let (store, ids, map, log): (&[u8], &[u32], &[u32], &[u32]) = match due {
-        Ok(done) => (&done.store, &done.ids, &done.map, &done.log),
-        Err(_) => (&[], &[], &[], &[]),
+    let (store, words): (&[u8], [&[u32]; 4]) = match due {
+        Ok(done) => (
+            &done.store,
+            [&done.ids, &done.map, &done.log, &done.origins],
+        ),
+        Err(_) => (&[], [&[]; 4]),
     };
+    let [ids, map, log, origins] = words;
     begins("out", &buffers.out, store)?;
     begins("ids", &buffers.ids, ids)?;
     begins("map", &buffers.map, map)?;
     begins("log", &buffers.log, log)?;
+    begins("origins", &buffers.origins, origins)?;
     cleared(buffers, due)
 }
 

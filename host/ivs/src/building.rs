@@ -46,10 +46,13 @@ pub struct Lent<'a> {
     pub map: &'a mut [u32],
     /// For each merge: first number, second number, gain.
     pub log: &'a mut [u32],
+    /// For each starting shape, in order: its number, and the place of its final group.
+    pub origins: &'a mut [u32],
 }
 
 /// The numbers of a done build, or of a forecast. What a build has written: `store_bytes` of
-/// out, a word of ids for each set, `distinct_ids` words of map, 3 x `merges` words of log.
+/// out, a word of ids for each set, `distinct_ids` words of map, 3 x `merges` words of log,
+/// 2 x `shapes` words of origins.
 #[derive(Clone, Copy, Debug, Default, PartialEq, Eq)]
 pub struct Done {
     /// Bytes of the store.
@@ -113,6 +116,9 @@ pub struct Packed {
     pub map: Vec<u32>,
     /// For each merge: first number, second number, gain.
     pub log: Vec<u32>,
+    /// For each starting shape, in order: its number, and the place of its final group in the
+    /// final order, from 0, before cutting. None in mode 1.
+    pub origins: Vec<u32>,
 }
 
 /// The words of work that a job of so many records needs; 0 above the record limit.
@@ -136,7 +142,7 @@ pub fn work_words(records: usize) -> usize {
 ///
 /// let mut work = vec![0; ivs::work_words(job.len() / 12)];
 /// let mut pairs = vec![ivs::Pair::default(); ivs::PAIRS];
-/// let (mut out, mut ids, mut map) = ([0xFF; 40], [0; 1], [0; 1]);
+/// let (mut out, mut ids, mut map, mut origins) = ([0xFF; 40], [0; 1], [0; 1], [0; 2]);
 /// let mut lent = ivs::Lent {
 ///     work: &mut work,
 ///     pairs: &mut pairs,
@@ -144,6 +150,7 @@ pub fn work_words(records: usize) -> usize {
 ///     ids: &mut ids,
 ///     map: &mut map,
 ///     log: &mut [],
+///     origins: &mut origins,
 /// };
 /// let done = ivs::build_into(1, 0, &job, &mut lent)?;
 /// assert_eq!((done.store_bytes, done.forecast), (31, 31));
@@ -175,7 +182,7 @@ pub fn build_into(axes: u32, mode: u32, job: &[u8], lent: &mut Lent<'_>) -> Resu
 ///
 /// let mut work = vec![0; ivs::work_words(job.len() / 12)];
 /// let mut pairs = vec![ivs::Pair::default(); ivs::PAIRS];
-/// let (mut out, mut ids, mut map) = ([0xFF; 40], [0; 1], [0; 1]);
+/// let (mut out, mut ids, mut map, mut origins) = ([0xFF; 40], [0; 1], [0; 1], [0; 2]);
 /// let mut lent = ivs::Lent {
 ///     work: &mut work,
 ///     pairs: &mut pairs,
@@ -183,6 +190,7 @@ pub fn build_into(axes: u32, mode: u32, job: &[u8], lent: &mut Lent<'_>) -> Resu
 ///     ids: &mut ids,
 ///     map: &mut map,
 ///     log: &mut [],
+///     origins: &mut origins,
 /// };
 /// assert!(ivs::build_into_for(ivs::Profile::Plain, 1, 0, &job, &mut lent).is_ok());
 /// let refused = ivs::build_into_for(ivs::Profile::Panel, 1, 0, &job, &mut lent).unwrap_err();
@@ -212,6 +220,7 @@ pub fn build_into_for(
 ///     ids: &mut [],
 ///     map: &mut [],
 ///     log: &mut [],
+///     origins: &mut [],
 /// };
 /// let mut report = [9; 16];
 /// assert_eq!(ivs::build_report(1, 0, &[], &mut lent, &mut report), 0);
@@ -238,6 +247,7 @@ pub fn build_report(
 ///     ids: &mut [],
 ///     map: &mut [],
 ///     log: &mut [],
+///     origins: &mut [],
 /// };
 /// let mut report = [9; 16];
 /// let number = ivs::build_report_for(ivs::Profile::Panel, 1, 0, &[], &mut lent, &mut report);
@@ -269,6 +279,7 @@ pub fn build_report_for(
 /// let word = packed.map[1];                          // outer x 65,536 + inner of id 1
 /// let value = ivs::read(&packed.store, word >> 16, word & 0xFFFF, 0)?;
 /// assert_eq!(value, ivs::Reading::Written(-300));
+/// assert_eq!(packed.origins, [0, 0, 1, 0]);          // both shapes went into one group
 ///
 /// let refused = ivs::pack(1, 0, &job[..12 * 2]).unwrap_err();
 /// assert_eq!((refused.number, refused.name(), refused.place), (8, "UNFINISHED", 2));
@@ -304,6 +315,7 @@ pub fn pack_for(profile: Profile, axes: u32, mode: u32, job: &[u8]) -> Result<Pa
     let mut out = vec![0; told.store_bytes as usize];
     let (mut ids, mut map) = (vec![0; sets], vec![0; told.distinct_ids as usize]);
     let mut log = vec![0; 3 * told.shapes.saturating_sub(1) as usize];
+    let mut origins = vec![0; 2 * told.shapes as usize];
     let mut lent = Lent {
         work: &mut work,
         pairs: &mut pairs,
@@ -311,6 +323,7 @@ pub fn pack_for(profile: Profile, axes: u32, mode: u32, job: &[u8]) -> Result<Pa
         ids: &mut ids,
         map: &mut map,
         log: &mut log,
+        origins: &mut origins,
     };
     let done = build_into_for(profile, axes, mode, job, &mut lent)?;
     log.truncate(3 * done.merges as usize);
@@ -320,6 +333,7 @@ pub fn pack_for(profile: Profile, axes: u32, mode: u32, job: &[u8]) -> Result<Pa
         ids,
         map,
         log,
+        origins,
     })
 }
 
@@ -336,6 +350,7 @@ fn earlier(profile: Profile, axes: u32, mode: u32, job: &[u8], refused: Refused)
         ids: &mut [],
         map: &mut [],
         log: &mut [],
+        origins: &mut [],
     };
     build_into_for(profile, axes, mode, job, &mut lent).map_or_else(|refused| refused, |_| refused)
 }

@@ -115,6 +115,7 @@ fn lending<'a>(work: &'a mut [u32], pairs: &'a mut [Pair], out: &'a mut [u8]) ->
         ids: &mut [],
         map: &mut [],
         log: &mut [],
+        origins: &mut [],
     }
 }
 
@@ -160,6 +161,7 @@ impl Server {
             lent.ids.len(),
             lent.map.len(),
             lent.log.len(),
+            lent.origins.len(),
         ];
         let held = lent.pairs.iter().any(|pair| *pair != Pair::default());
         let head = what.into_iter().chain(lengths.map(|length| length as u64));
@@ -175,6 +177,7 @@ impl Server {
         self.give_words(lent.ids)?;
         self.give_words(lent.map)?;
         self.give_words(lent.log)?;
+        self.give_words(lent.origins)?;
         for word in report.iter() {
             self.to.write_all(&word.to_le_bytes())?;
         }
@@ -194,6 +197,7 @@ impl Server {
             self.take_words(lent.ids)?;
             self.take_words(lent.map)?;
             self.take_words(lent.log)?;
+            self.take_words(lent.origins)?;
             for word in report {
                 *word = self.take_word()?;
             }

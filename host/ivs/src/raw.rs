@@ -36,6 +36,8 @@ extern "C" {
         map_len: usize,
         log: *mut u32,
         log_len: usize,
+        origins: *mut u32,
+        origins_len: usize,
         report: *mut u64,
     ) -> u32;
 
@@ -56,6 +58,8 @@ extern "C" {
         map_len: usize,
         log: *mut u32,
         log_len: usize,
+        origins: *mut u32,
+        origins_len: usize,
         report: *mut u64,
     ) -> u32;
 
@@ -122,6 +126,8 @@ type Build = unsafe extern "C" fn(
     usize,
     *mut u32,
     usize,
+    *mut u32,
+    usize,
     *mut u64,
 ) -> u32;
 
@@ -159,6 +165,8 @@ pub fn build(
             lent.map.len(),
             lent.log.as_mut_ptr(),
             lent.log.len(),
+            lent.origins.as_mut_ptr(),
+            lent.origins.len(),
             report.as_mut_ptr(),
         )
     }
