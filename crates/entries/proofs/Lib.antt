@@ -2,4 +2,5 @@ pub mod EntryLaws
 pub mod OrderLaws
 pub mod MergeLaws
 pub mod HalfLaws
+pub mod InsertLaws
 pub mod Unique
