@@ -1,0 +1,2 @@
+pub mod LentHalves
+pub mod Lent
