@@ -114,7 +114,7 @@ zeroed-all n old new z e =
 
 -- ---- R20 and R50
 
-whole-of : (s : List ℕ) → parses (parse s) ≡ true → wholeOk s ≡ true
+pub whole-of : (s : List ℕ) → parses (parse s) ≡ true → wholeOk s ≡ true
 unfolding parse parses
 whole-of s h = go (which (wholeOk s)) h
   where

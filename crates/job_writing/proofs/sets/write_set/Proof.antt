@@ -64,14 +64,14 @@ in-four-requires c κs = (c .column-bytes .ensures .1, rw (c .column-bytes .ensu
 put-value-requires : tie.Need-put-value-requires Inv-loop μ-loop
 put-value-requires c κs =
     let a = c .before .before .before .before .before .before .before .before .before .before .before .before .args in (
-      set-room (now (a .s)) (a .row) (c .before .before .before .before .before .before .before .before .before .be .result) (c .before .before .before .before .before .before .before .before .be2 .result) (a .table + 6) (c .before .before .before .before .before .before .before .loop .j) (c .before .before .before .before .before .cell .result) (c .before .before .before .before .before .before .loop-test .taken) (c .before .before .before .before .before .cell .ensures .is) (c .before .before .before .before .before .before .before .before .before .before .before .before .pre .1) (c .before .before .before .before .before .before .before .loop .inv) (c .before .before .before .before .if1 .taken),
+      set-room (now (a .s)) (a .row) (c .before .before .before .before .before .before .before .before .before .be .result) (c .before .before .before .before .before .before .before .before .be2 .result) (a .table + 6) (c .before .before .before .before .before .before .before .loop .j) (c .before .before .before .before .before .cell .result) (c .before .before .before .before .before .before .loop-test .taken) (c .before .before .before .before .before .cell .ensures .is) (c .before .before .before .before .before .before .before .before .before .before .before .before .pre .1) (c .before .before .before .before .before .before .before .loop .inv) (λ e. omega arith),
       low-here _ _ _ _ _ (c .before .before .before .before .before .before .before .before .before .before .before .before .pre .0 .1) (c .before .before .before .before .before .before .before .before .be2 .ensures .is) (c .before .before .before .before .before .before .loop-test .taken) (c .before .before .before .be3 .ensures .is),
     )
 
 add-p : tie.Need-add-p Inv-loop μ-loop
 add-p c =
     let a = c .before .before .before .before .before .before .before .before .before .before .before .before .before .before .before .args in
-    omega (arith, set-room (now (a .s)) (a .row) (c .before .before .before .before .before .before .before .before .before .before .before .before .be .result) (c .before .before .before .before .before .before .before .before .before .before .before .be2 .result) (a .table + 6) (c .before .before .before .before .before .before .before .before .before .before .loop .j) (c .before .before .before .before .before .before .before .before .cell .result) (c .before .before .before .before .before .before .before .before .before .loop-test .taken) (c .before .before .before .before .before .before .before .before .cell .ensures .is) (c .before .before .before .before .before .before .before .before .before .before .before .before .before .before .before .pre .1) (c .before .before .before .before .before .before .before .before .before .before .loop .inv) (c .before .before .before .before .before .before .before .if1 .taken))
+    omega (arith, set-room (now (a .s)) (a .row) (c .before .before .before .before .before .before .before .before .before .before .before .before .be .result) (c .before .before .before .before .before .before .before .before .before .before .before .be2 .result) (a .table + 6) (c .before .before .before .before .before .before .before .before .before .before .loop .j) (c .before .before .before .before .before .before .before .before .cell .result) (c .before .before .before .before .before .before .before .before .before .loop-test .taken) (c .before .before .before .before .before .before .before .before .cell .ensures .is) (c .before .before .before .before .before .before .before .before .before .before .before .before .before .before .before .pre .1) (c .before .before .before .before .before .before .before .before .before .before .loop .inv) (λ e. omega arith))
 
 add-j : tie.Need-add-j Inv-loop μ-loop
 add-j c = omega arith
@@ -82,7 +82,7 @@ loop-less c = omega arith
 loop-again : tie.Need-loop-again Inv-loop μ-loop
 loop-again c =
     let a = c .before .before .before .before .before .before .before .before .before .before .before .before .before .before .before .args in
-    piece-put _ _ (c .before .before .before .before .before .before .before .before .before .before .before .before .before .before .before .pre .1) (c .before .before .before .before .before .before .before .before .before .before .loop .inv) (set-more (now (a .s)) (a .row) (c .before .before .before .before .before .before .before .before .before .before .before .before .be .result) (c .before .before .before .before .before .before .before .before .before .before .before .be2 .result) (a .table + 6) (c .before .before .before .before .before .before .before .before .before .before .loop .j) (c .before .before .before .before .before .before .before .before .cell .result) (c .before .before .before .before .before .before .before .before .before .loop-test .taken) (c .before .before .before .before .before .before .before .before .cell .ensures .is) (c .before .before .before .before .before .before .before .if1 .taken) (c .before .before .before .before .before .before .be3 .result) (c .before .before .before .before .column-bytes .result) (c .before .before .before .in-four .result) (c .before .before .before .before .before .before .be3 .ensures .is) (c .before .before .before .before .column-bytes .ensures .0) (c .before .before .before .in-four .ensures)) (c .before .before .put-value .ensures)
+    piece-put _ _ (c .before .before .before .before .before .before .before .before .before .before .before .before .before .before .before .pre .1) (c .before .before .before .before .before .before .before .before .before .before .loop .inv) (set-more (now (a .s)) (a .row) (c .before .before .before .before .before .before .before .before .before .before .before .before .be .result) (c .before .before .before .before .before .before .before .before .before .before .before .be2 .result) (a .table + 6) (c .before .before .before .before .before .before .before .before .before .before .loop .j) (c .before .before .before .before .before .before .before .before .cell .result) (c .before .before .before .before .before .before .before .before .before .loop-test .taken) (c .before .before .before .before .before .before .before .before .cell .ensures .is) (λ e. omega arith) (c .before .before .before .before .before .before .be3 .result) (c .before .before .before .before .column-bytes .result) (c .before .before .before .in-four .result) (c .before .before .before .before .before .before .be3 .ensures .is) (c .before .before .before .before .column-bytes .ensures .0) (c .before .before .before .in-four .ensures)) (c .before .before .put-value .ensures)
 
 add-j-2 : tie.Need-add-j-2 Inv-loop μ-loop
 add-j-2 c = omega arith
