@@ -1,0 +1,2 @@
+pub mod Recover
+pub mod Exactly
