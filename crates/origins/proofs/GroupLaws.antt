@@ -136,7 +136,7 @@ module _ (regions : ℕ) (jobs : List Set) where
   abbrev final : Living → Final
   final = finalOf regions (groupsOf regions jobs) (distinct jobs)
 
-  finals-long : length finals ≡ length line
+  pub finals-long : length finals ≡ length line
   unfolding finalsOf
   finals-long = length-map line final
 
@@ -179,7 +179,7 @@ module _ (regions : ℕ) (jobs : List Set) where
         let n = finals-long in
         record {
           long = told-long starting;
-          numbered = told-number starting;
+          numbered = λ i h. omega (arith, told-number starting i h);
           placed = λ i h. omega (arith, told-place starting i h);
           some-rows = λ q h. omega (arith, final-some q (omega arith), final-rows q (omega arith));
           tables-are = λ q k h b.

@@ -5,14 +5,20 @@ use mathlib.Core.List.{List, [], _∷_, map}
 use mathlib.Core.Option.{Option, none, some}
 use Prim.Native.Nat.{ℕ, _+_, _-_, _*_, _<_, min}
 use lib.Dec.{eqb}
-use lib.ListN.{length, getD}
+use lib.ListN.{length, getD, take}
 use Rattle.laws.specs.Pick.{pick}
 use Rattle.laws.specs.Bag.{weigh, sum}
 use Rattle.shapes.specs.Shape.{Shape}
 use Rattle.shapes.specs.Group.{Group, maxItems}
 use Rattle.rows.specs.Columns.{columnsOf, wordCount}
 use Rattle.rows.specs.Subtable.{runCount}
-use Rattle.stores.specs.Stores.{Table}
+use Rattle.groups.specs.Groups.{groupsOf}
+use Rattle.stores.specs.Stores.{Table, Parsed, parse}
+use Rattle.store.specs.Placing.{newIndex}
+use Rattle.said.specs.Job.{Said, fine}
+use Rattle.finishing.specs.declared.answers.Report.{Report}
+use Rattle.call.specs.Lending.{Lending}
+use Rattle.call.specs.Build.{packedOf, outcomeOf, after}
 use Rattle.sizes.specs.Sizes.{groupAt, shapesJoined}
 
 -- the starting groups that the words name for final group q: two words each, its number and the final group
@@ -53,3 +59,13 @@ pub record Rebuilt (xs : List Group) (words : List ℕ) (number : ℕ → ℕ) (
       → TableOf number (shapeBack xs words q) (min maxItems (rowsBack xs words q - maxItems * k)) (getD tables (tablesBefore xs words q + k) none)
   -- there is no other subtable
   pub tables-all : length tables ≡ tablesBefore xs words count
+
+-- A done build in mode 0: the output begins with a store, and the words that the lent origins begin with make every final
+-- group again. There are N less the merges.
+pub record Back (c : Lending) (r : Report) : Type 0 where
+  pub said : Said
+  pub said-is : outcomeOf c ≡ fine said
+  pub store : Parsed
+  pub parsed : parse (take (r .bytes) (after c .lent .out)) ≡ some store
+  pub rebuilt : Rebuilt (groupsOf (length (said .used)) (said .sets)) (take (2 * r .groups) (after c .lent .origins))
+      (newIndex (packedOf 0 said .finals)) (store .tables) (r .groups - r .merges)
