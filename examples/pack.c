@@ -24,7 +24,7 @@ static void *room(size_t bytes) {
 
 /* Built in as much memory as the forecast says. README shows this function. */
 uint32_t build(uint32_t axes, const uint8_t *job, size_t records, size_t sets, packed *p) {
-    static uint32_t log[3 * 1023];
+    static uint32_t log[3 * 1023], origins[2 * 1024];
     static ivs_pair pairs[IVS_PAIRS]; /* 12 MiB, for every job */
     size_t words = ivs_work_words(records), job_len = 12 * records;
     uint32_t *work = room(4 * words);
@@ -35,7 +35,7 @@ uint32_t build(uint32_t axes, const uint8_t *job, size_t records, size_t sets, p
         p->ids = room(4 * sets);
         p->map = room(4 * ids);
         number = ivs_build(axes, 0, job, job_len, work, words, pairs, IVS_PAIRS, p->out, bytes, p->ids, sets, p->map, ids,
-                           log, 3 * 1023, p->report);
+                           log, 3 * 1023, origins, 2 * 1024, p->report);
     }
     free(work);
     return number; /* 0, or the refusal, with its place in report[1] and its byte in report[12] */

@@ -21,23 +21,30 @@ static const uint8_t job[] = {
 int main(void) {
     static ivs_pair pairs[IVS_PAIRS]; /* 12 MiB, for every job */
     size_t words = ivs_work_words(sizeof job / 12);
-    uint32_t *work = malloc(4 * words), ids[2], map[2], log[3];
+    uint32_t *work = malloc(4 * words), ids[2]; /* an id for each set */
     uint64_t report[16];
+    if (!work) abort();
 
-    /* What a build would say: here the bytes to lend. */
+    /* What a build would say: how much to lend for it. */
     uint32_t number = ivs_forecast(1, IVS_DEDUPLICATING, job, sizeof job, work, words, pairs, IVS_PAIRS, report);
     if (number != IVS_DONE) {
         fprintf(stderr, "refused: %u %s at record %llu\n", number, ivs_name(number), (unsigned long long)report[1]);
         return 2;
     }
-    size_t bytes = report[2];
+    size_t bytes = report[2], rows = report[5], shapes = report[6];
     uint8_t *store = malloc(bytes);
-    ivs_build(1, IVS_DEDUPLICATING, job, sizeof job, work, words, pairs, IVS_PAIRS, store, bytes, ids, 2, map, 2, log, 3, report);
+    uint32_t *map = malloc(4 * rows), *log = malloc(12 * shapes), *origins = malloc(8 * shapes);
+    if (!store || !map || !log || !origins) abort();
+    ivs_build(1, IVS_DEDUPLICATING, job, sizeof job, work, words, pairs, IVS_PAIRS, store, bytes, ids, 2, map, rows,
+              log, 3 * shapes, origins, 2 * shapes, report);
 
     /* Set 1 has an id, the id has a row; bold and light are regions 0 and 1 of the store too, by their first use. */
     uint32_t row = map[ids[1]];
     uint64_t value = ivs_read(store, bytes, row >> 16, row & 0xFFFF, 1);
     printf("set 1, light: %d\n", value >> 32 == 0 ? (int32_t)(uint32_t)value : 0);
+    free(origins);
+    free(log);
+    free(map);
     free(store);
     free(work);
     return 0;

@@ -48,6 +48,7 @@ extern "C" {
     EACH(41, GLYPH_MAP_SHORT) \
     EACH(42, BAD_GLYPH_MAP) \
     EACH(43, BAD_WIDTHS) \
+    EACH(61, ORIGINS_SHORT) \
     EACH(64, NO_SET)
 
 /* The numbers by their names: IVS_DONE is 0, IVS_BAD_AXES is 1 and so on. Functions answer plain numbers. */
@@ -92,17 +93,18 @@ typedef struct {
 #define IVS_PAIRS 1048576
 
 /* One build: a job (records of 12 bytes, J1) into a store. The mode is 0 deduplicating or 1 implicit indices. The
- * answer is the refusal number, 0 for done; R1 to R34 say when each is given, T1 to T6 which one (1 BAD_AXES,
+ * answer is the refusal number, 0 for done; R1 to R61 say when each is given, T1 to T6 which one (1 BAD_AXES,
  * 2 BAD_MODE, 3 BAD_JOB_LENGTH, 4 WORK_SHORT, 6 UNKNOWN_REGION, 7 REGION_TWICE, 8 UNFINISHED, 9 SETS_FULL,
  * 10 SHAPES_FULL, 11 IDS_SHORT, 12 MAP_SHORT, 13 LOG_SHORT, 14 OUT_SHORT; of a record's form 30 UNKNOWN_KIND,
- * 31 NOT_ZERO, 32 AXIS_OUT_OF_TURN, 33 AXIS_TOO_LATE, 34 REGION_UNFINISHED).
+ * 31 NOT_ZERO, 32 AXIS_OUT_OF_TURN, 33 AXIS_TOO_LATE, 34 REGION_UNFINISHED; just behind 13, 61 ORIGINS_SHORT).
  *
  * Lent: work, as many words as ivs_work_words says; pairs, at least IVS_PAIRS records; out, for the store's bytes; ids,
  * a word for each set, its id; map, a word for each distinct id, outer x 65,536 + inner; log, 3 words for each shape
- * but one, of which each merge fills 3: first number, second number, gain. What they hold before does not matter. What
- * is not written is left as it was, and a refusal writes nothing to out, ids, map and log. Refusals 1 to 4 leave work
- * and pairs as they were; every other answer leaves zeros in all of them (L1 to L4). Too few words of work and too few
- * pairs are both WORK_SHORT.
+ * but one, of which each merge fills 3: first number, second number, gain; origins, 2 words for each shape: its number
+ * and the place of the final group that it went into, from 0, before groups are cut into subtables (F6; mode 1 has no
+ * log and no origins). What they hold before does not matter. What is not written is left as it was, and a refusal
+ * writes nothing to out, ids, map, log and origins. Refusals 1 to 4 leave work and pairs as they were; every other
+ * answer leaves zeros in all of them (L1 to L4). Too few words of work and too few pairs are both WORK_SHORT.
  *
  * The report has 16 words, and all are written (H2, A1): 0 the number, 1 the place (which record, from 0 on, for 6, 7,
  * 9 and 30 to 34; how many records for 8; 0 for all others), 2 store bytes, 3 subtables, 4 regions kept, 5 distinct
@@ -111,13 +113,13 @@ typedef struct {
  * others), 13 to 15 zero. A refusal has zeros in 2 to 11. */
 uint32_t ivs_build(uint32_t axes, uint32_t mode, const uint8_t *job, size_t job_len, uint32_t *work, size_t work_len, ivs_pair *pairs,
                    size_t pairs_len, uint8_t *out, size_t out_len, uint32_t *ids, size_t ids_len, uint32_t *map, size_t map_len,
-                   uint32_t *log, size_t log_len, uint64_t *report);
+                   uint32_t *log, size_t log_len, uint32_t *origins, size_t origins_len, uint64_t *report);
 
 /* What ivs_build would say of a job, with nothing lent to write to (A4, H5): how many bytes the store takes, and how
  * much to lend for it. Answer and report are those of a build that is lent enough of all else: refusals 1 to 4, 6 to 10
  * and 30 to 34, or the ten counts. A build then needs report[2] bytes of out, a word of ids for each set (each end
- * record), report[5] words of map and 3 words of log for each shape but one (report[6]). Work and pairs are lent as for
- * a build, and left as by it. */
+ * record), report[5] words of map, 3 words of log for each shape but one (report[6]) and 2 words of origins for each.
+ * Work and pairs are lent as for a build, and left as by it. */
 uint32_t ivs_forecast(uint32_t axes, uint32_t mode, const uint8_t *job, size_t job_len, uint32_t *work, size_t work_len,
                       ivs_pair *pairs, size_t pairs_len, uint64_t *report);
 

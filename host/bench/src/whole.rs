@@ -73,6 +73,7 @@ fn same(workload: &Workload, packed: Packed) {
         ids: packed.ids,
         map: packed.map,
         log: packed.log,
+        origins: packed.origins,
     };
     let source = Source::of(&workload.job, workload.mode);
     let held = differential::check::source(workload.mode, &done, source.as_ref());
@@ -85,16 +86,18 @@ struct Buffers {
     ids: Vec<u32>,
     map: Vec<u32>,
     log: Vec<u32>,
+    origins: Vec<u32>,
 }
 
 impl Buffers {
-    /// As much as that build filled, and for the log what any could ask for.
+    /// As much as that build filled, and for log and origins what any could ask for.
     fn like(packed: &Packed) -> Buffers {
         Buffers {
             out: vec![0; packed.store.len()],
             ids: vec![0; packed.ids.len()],
             map: vec![0; packed.map.len()],
             log: vec![0; 3 * 1_023],
+            origins: vec![0; 2 * 1_024],
         }
     }
 
@@ -106,6 +109,7 @@ impl Buffers {
             ids: &mut self.ids,
             map: &mut self.map,
             log: &mut self.log,
+            origins: &mut self.origins,
         }
     }
 }

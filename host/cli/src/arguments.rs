@@ -83,7 +83,10 @@ pub struct Build {
     /// Where to write the merges: first number, second number and gain a line
     #[arg(long, value_name = "F")]
     pub log: Option<PathBuf>,
-    /// Print the numbers as JSON
+    /// Where to write the origins: each starting shape's number and its final group a line
+    #[arg(long, value_name = "F")]
+    pub origins: Option<PathBuf>,
+    /// Print the numbers as JSON, with the origins
     #[arg(long)]
     pub json: bool,
 }

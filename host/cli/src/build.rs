@@ -21,7 +21,7 @@ pub fn run(arguments: &Build) -> Result<(), Failure> {
     files::write(&outputs)?;
     let numbers = numbers::of(&packed.done);
     let said = if arguments.json {
-        format!("{}\n", numbers::json(&numbers))
+        format!("{}\n", json(&numbers, &packed.origins))
     } else {
         table(&numbers)
     };
@@ -33,11 +33,12 @@ type Part = fn(&ivs::Packed) -> Vec<u8>;
 
 /// Where each part goes.
 fn places(arguments: &Build) -> Vec<(&Path, Part)> {
-    let asked: [(&Option<_>, Part); 4] = [
+    let asked: [(&Option<_>, Part); 5] = [
         (&arguments.store, |packed| packed.store.clone()),
         (&arguments.ids, |packed| lines(&packed.ids, 1)),
         (&arguments.map, |packed| lines(&packed.map, 1)),
         (&arguments.log, |packed| lines(&packed.log, 3)),
+        (&arguments.origins, |packed| lines(&packed.origins, 2)),
     ];
     let given = asked.into_iter();
     given
@@ -54,6 +55,17 @@ fn lines(words: &[u32], a_line: usize) -> Vec<u8> {
         text.push('\n');
     }
     text.into_bytes()
+}
+
+/// The numbers, and of each starting shape its number and its final group.
+fn json(numbers: &[Number], origins: &[u32]) -> String {
+    let origins: Vec<String> = origins
+        .chunks(2)
+        .map(|origin| format!("[{}, {}]", origin[0], origin[1]))
+        .collect();
+    let numbers = numbers::json(numbers);
+    let open = numbers.trim_end_matches('}');
+    format!("{open}, \"origins\": [{}]}}", origins.join(", "))
 }
 
 fn table(numbers: &[Number]) -> String {

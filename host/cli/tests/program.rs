@@ -70,18 +70,19 @@ fn from_text_to_a_value_read_back() {
     );
     let table = done(
         &folder,
-        "build job --axes 1 -o store --ids ids --map map --log log",
+        "build job --axes 1 -o store --ids ids --map map --log log --origins origins",
     );
     assert!(table.starts_with("bytes                 42\n"), "{table}");
     let text = |name: &str| fs::read_to_string(folder.join(name)).unwrap();
     assert_eq!(text("ids"), "0\n1\n");
     assert_eq!(text("map"), "1\n0\n");
     assert_eq!(text("log"), "0 1 8\n");
+    assert_eq!(text("origins"), "0 0\n1 0\n");
     assert_eq!(done(&folder, "read store 0 1 0"), "1\n");
     assert_eq!(done(&folder, "read store 0 1 1"), "0\n");
     let shown = done(&folder, "show store");
     assert!(shown.contains("subtable 0: 2 rows of 2 bytes"), "{shown}");
-    let all = ["ids", "job", "log", "map", "store", "text"];
+    let all = ["ids", "job", "log", "map", "origins", "store", "text"];
     assert_eq!(files(&folder), all);
 }
 
@@ -93,8 +94,11 @@ fn numbers_as_json() {
     assert_eq!(
         json,
         "{\"bytes\": 42, \"subtables\": 1, \"regions\": 2, \"ids\": 2, \"shapes\": 0, \
-         \"merges\": 0, \"pairs\": 0, \"size_before\": 18, \"size_after\": 18, \"forecast\": 42}\n"
+         \"merges\": 0, \"pairs\": 0, \"size_before\": 18, \"size_after\": 18, \"forecast\": 42, \
+         \"origins\": []}\n"
     );
+    let json = done(&folder, "build job --axes 1 --json");
+    assert!(json.ends_with("\"origins\": [[0, 0], [1, 0]]}\n"), "{json}");
 }
 
 /// The text of a job in a file `job` of the folder.
@@ -125,7 +129,8 @@ fn a_forecast_of_both_modes() {
             "{built}"
         );
         let told = done(&folder, "forecast job --axes 1 --json");
-        let alike = format!("\"{mode}\": {}", built.trim_end());
+        let counts = built.split(", \"origins\"").next().unwrap();
+        let alike = format!("\"{mode}\": {counts}}}");
         assert!(told.contains(&alike), "{told}");
         assert!(told.ends_with(", \"smaller\": \"dedup\"}\n"), "{told}");
     }

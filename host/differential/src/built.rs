@@ -3,9 +3,9 @@
 //! plain reading and by the proved build, line by line.
 //!
 //! A case is a line of hexadecimal bytes: axes, mode, the bytes of out (two of them), the
-//! words of ids, map and log, then the job. Blanks are passed over, and so is the rest of a
+//! words of ids, map, log and origins, then the job. Blanks are passed over, and so is the rest of a
 //! line from a '#' on. What is lent holds, before each case, 7777 in 4,096 words of work,
-//! ee in the bytes of out and 9999 in the words of ids, map and log. Of work an answer says
+//! ee in the bytes of out and 9999 in the words of ids, map, log and origins. Of work an answer says
 //! only whether it is zero or untouched; the pair records must be the same.
 
 use crate::check::same;
@@ -23,7 +23,7 @@ const WORK: u32 = 7_777;
 const BYTE: u8 = 0xEE;
 const WORD: u32 = 9_999;
 
-/// The most bytes of out, and the most words of ids, map and log.
+/// The most bytes of out, and the most words of ids, map, log and origins.
 const MOST: [usize; 2] = [512, 64];
 
 /// A case of the list.
@@ -57,11 +57,11 @@ pub fn all(folder: &Path) -> Result<Run, String> {
     Ok(run)
 }
 
-/// The case of a line; of fewer than seven bytes there is none.
+/// The case of a line; of fewer than eight bytes there is none.
 fn listed(line: &str) -> Option<Listed<'_>> {
     let (digits, name) = line.split_once('#').unwrap_or((line, ""));
     let bytes = hex::to_bytes(digits)?;
-    let [axes, mode, high, low, ids, map, log, job @ ..] = &bytes[..] else {
+    let [axes, mode, high, low, ids, map, log, origins, job @ ..] = &bytes[..] else {
         return None;
     };
     let [out, words] = MOST;
@@ -77,6 +77,7 @@ fn listed(line: &str) -> Option<Listed<'_>> {
             ids: few(*ids),
             map: few(*map),
             log: few(*log),
+            origins: few(*origins),
         },
         job: job.to_vec(),
     })
@@ -91,17 +92,23 @@ fn lines(case: &Listed<'_>, said: &str, due: &str) -> Result<(), String> {
     same("lines", &said.lines().count(), &due.lines().count()).map_err(told)
 }
 
+/// The words that are lent beside work: of ids, map, log and origins.
+fn words_of(sizes: &Sizes) -> [Vec<u32>; 4] {
+    [sizes.ids, sizes.map, sizes.log, sizes.origins].map(|n| vec![WORD; n])
+}
+
 /// What the plain reading says of a case.
 fn plain(case: &Listed<'_>) -> String {
     let sizes = &case.sizes;
     let mut out = vec![BYTE; sizes.out];
-    let [mut ids, mut map, mut log] = [sizes.ids, sizes.map, sizes.log].map(|n| vec![WORD; n]);
+    let [mut ids, mut map, mut log, mut origins] = words_of(sizes);
     let (head, untouched) = match plain::build(case.axes, case.mode, &case.job, sizes) {
         Ok(done) => {
             out[..done.store.len()].copy_from_slice(&done.store);
             ids[..done.ids.len()].copy_from_slice(&done.ids);
             map[..done.map.len()].copy_from_slice(&done.map);
             log[..done.log.len()].copy_from_slice(&done.log);
+            origins[..done.origins.len()].copy_from_slice(&done.origins);
             (done_line(&done.counts), false)
         }
         Err(refused) => (
@@ -110,7 +117,7 @@ fn plain(case: &Listed<'_>) -> String {
         ),
     };
     let work = if untouched { "untouched" } else { "zero" };
-    shown(&head, &out, [&ids, &map, &log], work)
+    shown(&head, &out, [&ids, &map, &log, &origins], work)
 }
 
 /// What the proved build answers and leaves.
@@ -118,7 +125,7 @@ fn proved(case: &Listed<'_>, pairs: &mut Pairs) -> Result<String, String> {
     let sizes = &case.sizes;
     let mut work = vec![WORK; sizes.work];
     let mut out = vec![BYTE; sizes.out];
-    let [mut ids, mut map, mut log] = [sizes.ids, sizes.map, sizes.log].map(|n| vec![WORD; n]);
+    let [mut ids, mut map, mut log, mut origins] = words_of(sizes);
     pairs.ready(sizes.pairs)?;
     let mut lent = Lent {
         work: &mut work,
@@ -127,6 +134,7 @@ fn proved(case: &Listed<'_>, pairs: &mut Pairs) -> Result<String, String> {
         ids: &mut ids,
         map: &mut map,
         log: &mut log,
+        origins: &mut origins,
     };
     let head = match ivs::build_into(case.axes, case.mode, &case.job, &mut lent) {
         Ok(done) => done_line(&counts(&done)),
@@ -142,7 +150,7 @@ fn proved(case: &Listed<'_>, pairs: &mut Pairs) -> Result<String, String> {
         (_, true) => "untouched",
         _ => "left",
     };
-    Ok(shown(&head, &out, [&ids, &map, &log], work))
+    Ok(shown(&head, &out, [&ids, &map, &log, &origins], work))
 }
 
 /// The first line of a done build.
@@ -169,12 +177,12 @@ fn refused_line(number: u32, place: u64, byte: u64) -> String {
 }
 
 /// An answer as the list has it: its first line, then what was lent.
-fn shown(head: &str, out: &[u8], words: [&[u32]; 3], work: &str) -> String {
+fn shown(head: &str, out: &[u8], words: [&[u32]; 4], work: &str) -> String {
     let mut text = format!("{head}\nout ");
     for byte in out {
         let _ = write!(text, "{byte:02x}");
     }
-    for (name, words) in ["ids", "map", "log"].iter().zip(words) {
+    for (name, words) in ["ids", "map", "log", "origins"].iter().zip(words) {
         let _ = write!(text, "\n{name}");
         for word in words {
             let _ = write!(text, " {word}");

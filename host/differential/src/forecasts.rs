@@ -37,6 +37,7 @@ pub fn around(case: &Case<'_>, said: &Said, buffers: &mut Buffers) -> Result<(),
         ids: case.job.chunks(RECORD).filter(|r| r[0] == 3).count(),
         map: report[5] as usize,
         log: 3 * report[6].saturating_sub(1) as usize,
+        origins: 2 * report[6] as usize,
     };
     // Of work and pairs the build alone is asked, as ever.
     let written = |around: &(Sizes, Option<u32>)| around.1 != Some(number::WORK_SHORT);

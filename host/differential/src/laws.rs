@@ -3,13 +3,14 @@
 use crate::check::same;
 use jobs::{Job, Region};
 use plain::{Done, Reading};
-use std::collections::BTreeMap;
+use std::collections::{BTreeMap, BTreeSet};
 
 /// All laws that are cheap.
 pub fn done(job: &Job, mode: u32, done: &Done) -> Result<(), String> {
     counts(job, done)?;
     if mode == 0 {
-        merging(done)
+        merging(done)?;
+        origins(job, done)
     } else {
         implicit(job, done)
     }?;
@@ -42,6 +43,8 @@ fn merging(done: &Done) -> Result<(), String> {
     let pairs = n * n.saturating_sub(1) / 2 + m * n.saturating_sub(1) - m * (m + 1) / 2;
     same("pairs", &c.pairs, &pairs)?;
     let mut living: Vec<u32> = (0..n as u32).collect();
+    // The starting groups of each number, as the log says it.
+    let mut of: Vec<Vec<u32>> = living.iter().map(|&number| vec![number]).collect();
     for (k, entry) in done.log.chunks(3).enumerate() {
         let [first, second, gain] = entry else {
             return Err("the log has no whole entries".into());
@@ -52,8 +55,88 @@ fn merging(done: &Done) -> Result<(), String> {
         }
         living.retain(|g| g != first && g != second);
         living.push(n as u32 + k as u32);
+        of.push([&of[*first as usize][..], &of[*second as usize][..]].concat());
+    }
+    let groups: BTreeSet<Vec<u32>> = living.iter().map(|&g| sorted(&of[g as usize])).collect();
+    same("groups by log and by origins", &groups, &told(done)?)
+}
+
+/// The starting groups of each final group, as the origins tell it; they tell of each
+/// starting group once, in order (F6).
+fn told(done: &Done) -> Result<BTreeSet<Vec<u32>>, String> {
+    let n = done.counts.shapes as usize;
+    same("origins", &done.origins.len(), &(2 * n))?;
+    let mut groups = vec![Vec::new(); n - done.counts.merges as usize];
+    for (number, origin) in done.origins.chunks(2).enumerate() {
+        same("origin", &origin[0], &(number as u32))?;
+        let group = groups.get_mut(origin[1] as usize);
+        group.ok_or("an origin of no group")?.push(origin[0]);
+    }
+    Ok(groups.into_iter().collect())
+}
+
+fn sorted(numbers: &[u32]) -> Vec<u32> {
+    let mut numbers = numbers.to_vec();
+    numbers.sort_unstable();
+    numbers
+}
+
+/// Each set's row is in a subtable of the final group that the set's shape went into, by the
+/// origins, where groups are cut at 65,535 rows. (The source's map is the same.)
+fn origins(job: &Job, done: &Done) -> Result<(), String> {
+    let shapes = shapes(job);
+    let starting: BTreeSet<&Shape> = shapes.iter().collect();
+    same("N", &done.counts.shapes, &(starting.len() as u64))?;
+    let place: BTreeMap<&Shape, usize> = starting
+        .into_iter()
+        .zip(done.origins.chunks(2).map(|origin| origin[1] as usize))
+        .collect();
+    let mut rows = vec![0; place.len()];
+    let mut seen = vec![false; done.map.len()];
+    for (shape, id) in shapes.iter().zip(&done.ids) {
+        if !std::mem::replace(&mut seen[*id as usize], true) {
+            rows[place[shape]] += 1;
+        }
+    }
+    let mut subtables = vec![0];
+    for group in &rows {
+        let before = subtables[subtables.len() - 1];
+        subtables.push(before + (*group as u32).div_ceil(65_535));
+    }
+    for (shape, id) in shapes.iter().zip(&done.ids) {
+        let (at, outer) = (place[shape], done.map[*id as usize] >> 16);
+        let within = (subtables[at]..subtables[at + 1]).contains(&outer);
+        same("a row of its shape's group", &within, &true)?;
     }
     Ok(())
+}
+
+/// The row cost, and the bytes of each region's value from the last region in use on: in the
+/// order W9.
+type Shape = (u32, Vec<u8>);
+
+/// The shape of each set.
+fn shapes(job: &Job) -> Vec<Shape> {
+    let mut index: BTreeMap<&Region, usize> = BTreeMap::new();
+    for (region, _) in job.sets.iter().flatten() {
+        let next = index.len();
+        index.entry(&job.regions[*region as usize]).or_insert(next);
+    }
+    let bytes = |value: i32| match value {
+        0 => 0,
+        _ if i8::try_from(value).is_ok() => 1,
+        _ if i16::try_from(value).is_ok() => 2,
+        _ => 4,
+    };
+    let shape = |set: &Vec<(u8, i32)>| {
+        let mut widths = vec![0; index.len()];
+        for (region, value) in set {
+            let at = index[&job.regions[*region as usize]];
+            widths[index.len() - 1 - at] = bytes(*value);
+        }
+        (widths.iter().map(|&width| u32::from(width)).sum(), widths)
+    };
+    job.sets.iter().map(shape).collect()
 }
 
 /// Mode 1: an id for each set, its row in order of adding; no merging.
@@ -64,6 +147,7 @@ fn implicit(job: &Job, done: &Done) -> Result<(), String> {
     let c = &done.counts;
     let nothing = (c.shapes, c.merges, c.pairs, c.subtables);
     same("N, merges, pairs, subtables", &nothing, &(0, 0, 0, 1))?;
+    same("origins", &done.origins.len(), &0)?;
     same("sizes", &c.size_before, &c.size_after)
 }
 

@@ -23,6 +23,7 @@ pub struct Buffers {
     ids: Guarded<u32>,
     map: Guarded<u32>,
     log: Guarded<u32>,
+    origins: Guarded<u32>,
 }
 
 impl Buffers {
@@ -85,6 +86,7 @@ pub fn packed(case: &Case<'_>) -> Said {
             ids: packed.ids,
             map: packed.map,
             log: packed.log,
+            origins: packed.origins,
         }),
         Err(refused) => {
             assert_eq!(refused.name(), plain::name(refused.number));
@@ -134,6 +136,7 @@ fn least(case: &Case<'_>, said: &Said) -> Sizes {
             ids: 6,
             map: 5,
             log: 7,
+            origins: 9,
         },
     }
 }
@@ -147,6 +150,7 @@ fn over(least: &Sizes) -> Sizes {
         ids: least.ids + 2,
         map: least.map + 1,
         log: least.log + 4,
+        origins: least.origins + 3,
     }
 }
 
@@ -164,6 +168,7 @@ pub(crate) fn compare(
     buffers.ids.fill(sizes.ids);
     buffers.map.fill(sizes.map);
     buffers.log.fill(sizes.log);
+    buffers.origins.fill(sizes.origins);
     let mut report: [u64; 16] = std::array::from_fn(|i| u64::from(u32::noise()[i]) << 17);
     let mut lent = Lent {
         work: buffers.work.lend(),
@@ -172,6 +177,7 @@ pub(crate) fn compare(
         ids: buffers.ids.lend(),
         map: buffers.map.lend(),
         log: buffers.log.lend(),
+        origins: buffers.origins.lend(),
     };
     let answer = ivs::build_report(case.axes, case.mode, case.job, &mut lent, &mut report);
     same("report", &report, &report_of(due))
@@ -182,14 +188,19 @@ pub(crate) fn compare(
 
 /// What stands in the lent memory: what was due, then noise.
 fn left(buffers: &mut Buffers, due: &Said) -> Result<(), String> {
-    let (store, ids, map, log): (&[u8], &[u32], &[u32], &[u32]) = match due {
-        Ok(done) => (&done.store, &done.ids, &done.map, &done.log),
-        Err(_) => (&[], &[], &[], &[]),
+    let (store, words): (&[u8], [&[u32]; 4]) = match due {
+        Ok(done) => (
+            &done.store,
+            [&done.ids, &done.map, &done.log, &done.origins],
+        ),
+        Err(_) => (&[], [&[]; 4]),
     };
+    let [ids, map, log, origins] = words;
     begins("out", &buffers.out, store)?;
     begins("ids", &buffers.ids, ids)?;
     begins("map", &buffers.map, map)?;
     begins("log", &buffers.log, log)?;
+    begins("origins", &buffers.origins, origins)?;
     cleared(buffers, due)
 }
 

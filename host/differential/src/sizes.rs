@@ -14,6 +14,7 @@ pub fn least(job: &[u8], done: &Done) -> Sizes {
         ids: done.ids.len(),
         map: done.map.len(),
         log: log_words(&done.counts),
+        origins: done.origins.len(),
     }
 }
 
@@ -27,12 +28,13 @@ fn log_words(counts: &Counts) -> usize {
 /// answers.
 pub fn around(least: &Sizes) -> Vec<(Sizes, Option<u32>)> {
     type Field = fn(&mut Sizes) -> &mut usize;
-    let fields: [(u32, Field); 6] = [
+    let fields: [(u32, Field); 7] = [
         (number::WORK_SHORT, |s| &mut s.work),
         (number::WORK_SHORT, |s| &mut s.pairs),
         (number::IDS_SHORT, |s| &mut s.ids),
         (number::MAP_SHORT, |s| &mut s.map),
         (number::LOG_SHORT, |s| &mut s.log),
+        (number::ORIGINS_SHORT, |s| &mut s.origins),
         (number::OUT_SHORT, |s| &mut s.out),
     ];
     let mut over = *least;

@@ -36,12 +36,14 @@ fn nothing_changed() {
 #[test]
 fn a_word_of_the_plain_readings_answer() {
     type Change = fn(&mut plain::Done);
-    let changes: [Change; 15] = [
+    let changes: [Change; 17] = [
         |d| d.store[30] ^= 1,
         |d| d.store.push(0),
         |d| d.ids[3] += 1,
         |d| d.map[0] ^= 0x1_0000,
         |d| d.log[2] += 1,
+        |d| d.origins[1] ^= 1,
+        |d| d.origins[2] += 1,
         |d| d.counts.store_bytes += 1,
         |d| d.counts.subtables += 1,
         |d| d.counts.regions_kept += 1,

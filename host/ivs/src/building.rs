@@ -41,10 +41,13 @@ pub struct Lent<'a> {
     pub map: &'a mut [u32],
     /// For each merge: first number, second number, gain.
     pub log: &'a mut [u32],
+    /// For each starting shape, in order: its number, and the place of its final group.
+    pub origins: &'a mut [u32],
 }
 
 /// The numbers of a done build, or of a forecast. What a build has written: `store_bytes` of
-/// out, a word of ids for each set, `distinct_ids` words of map, 3 x `merges` words of log.
+/// out, a word of ids for each set, `distinct_ids` words of map, 3 x `merges` words of log,
+/// 2 x `shapes` words of origins.
 ///
 /// ```
 /// let done = ivs::pack(1, 1, &[])?.done;              // no sets in mode 1: one subtable, null
@@ -114,6 +117,9 @@ pub struct Packed {
     pub map: Vec<u32>,
     /// For each merge: first number, second number, gain.
     pub log: Vec<u32>,
+    /// For each starting shape, in order: its number, and the place of its final group in the
+    /// final order, from 0, before cutting. None in mode 1.
+    pub origins: Vec<u32>,
     /// For each region of the job its number in the store's list, or none where no row has a
     /// column for it: [`Packed::region`].
     pub regions: Vec<Option<u32>>,
@@ -140,7 +146,7 @@ pub fn work_words(records: usize) -> usize {
 ///
 /// let mut work = vec![0; ivs::work_words(job.len() / 12)];
 /// let mut pairs = vec![ivs::Pair::default(); ivs::PAIRS];
-/// let (mut out, mut ids, mut map) = ([0xFF; 40], [0; 1], [0; 1]);
+/// let (mut out, mut ids, mut map, mut origins) = ([0xFF; 40], [0; 1], [0; 1], [0; 2]);
 /// let mut lent = ivs::Lent {
 ///     work: &mut work,
 ///     pairs: &mut pairs,
@@ -148,6 +154,7 @@ pub fn work_words(records: usize) -> usize {
 ///     ids: &mut ids,
 ///     map: &mut map,
 ///     log: &mut [],
+///     origins: &mut origins,
 /// };
 /// let done = ivs::build_into(1, 0, &job, &mut lent)?;
 /// assert_eq!((done.store_bytes, done.forecast), (31, 31));
@@ -182,6 +189,7 @@ pub fn build_into(axes: u32, mode: u32, job: &[u8], lent: &mut Lent<'_>) -> Resu
 ///     ids: &mut [],
 ///     map: &mut [],
 ///     log: &mut [],
+///     origins: &mut [],
 /// };
 /// let mut report = [9; 16];
 /// assert_eq!(ivs::build_report(1, 0, &[], &mut lent, &mut report), 0);
@@ -213,6 +221,7 @@ pub fn build_report(
 /// let word = packed.map[1];                          // outer x 65,536 + inner of id 1
 /// let value = ivs::read(&packed.store, word >> 16, word & 0xFFFF, 0)?;
 /// assert_eq!(value, ivs::Reading::Written(-300));
+/// assert_eq!(packed.origins, [0, 0, 1, 0]);          // both shapes went into one group
 ///
 /// let refused = ivs::pack(1, 0, &job[..12 * 2]).unwrap_err();
 /// assert_eq!((refused.number, refused.name(), refused.place), (8, "UNFINISHED", 2));
@@ -226,6 +235,7 @@ pub fn pack(axes: u32, mode: u32, job: &[u8]) -> Result<Packed, Refused> {
     let mut out = vec![0; told.store_bytes as usize];
     let (mut ids, mut map) = (vec![0; sets], vec![0; told.distinct_ids as usize]);
     let mut log = vec![0; 3 * told.shapes.saturating_sub(1) as usize];
+    let mut origins = vec![0; 2 * told.shapes as usize];
     let mut lent = Lent {
         work: &mut work,
         pairs: &mut pairs,
@@ -233,6 +243,7 @@ pub fn pack(axes: u32, mode: u32, job: &[u8]) -> Result<Packed, Refused> {
         ids: &mut ids,
         map: &mut map,
         log: &mut log,
+        origins: &mut origins,
     };
     let done = build_into(axes, mode, job, &mut lent)?;
     log.truncate(3 * done.merges as usize);
@@ -243,5 +254,6 @@ pub fn pack(axes: u32, mode: u32, job: &[u8]) -> Result<Packed, Refused> {
         ids,
         map,
         log,
+        origins,
     })
 }

@@ -103,6 +103,7 @@ fn lending<'a>(work: &'a mut [u32], pairs: &'a mut [Pair], out: &'a mut [u8]) ->
         ids: &mut [],
         map: &mut [],
         log: &mut [],
+        origins: &mut [],
     }
 }
 
@@ -148,6 +149,7 @@ impl Server {
             lent.ids.len(),
             lent.map.len(),
             lent.log.len(),
+            lent.origins.len(),
         ];
         let held = lent.pairs.iter().any(|pair| *pair != Pair::default());
         let head = what.into_iter().chain(lengths.map(|length| length as u64));
@@ -163,6 +165,7 @@ impl Server {
         self.give_words(lent.ids)?;
         self.give_words(lent.map)?;
         self.give_words(lent.log)?;
+        self.give_words(lent.origins)?;
         for word in report.iter() {
             self.to.write_all(&word.to_le_bytes())?;
         }
@@ -182,6 +185,7 @@ impl Server {
             self.take_words(lent.ids)?;
             self.take_words(lent.map)?;
             self.take_words(lent.log)?;
+            self.take_words(lent.origins)?;
             for word in report {
                 *word = self.take_word()?;
             }

@@ -20,7 +20,7 @@
 //! let mut job = ivs::JobWriter::new(1);
 //! let bold = job.region(&[(0, 0x4000, 0x4000)])?;    // start, peak, end as F2Dot14; one triple an axis
 //! job.set(&[(bold, 10)])?;
-//! let packed = ivs::pack(1, 0, &job.finish())?;      // store, ids, map, log, numbers
+//! let packed = ivs::pack(1, 0, &job.finish())?;      // store, ids, map, log, origins, numbers
 //! let value = ivs::read(&packed.store, 0, 0, 0)?;    // Reading::Written(10)
 //! # assert_eq!(value, ivs::Reading::Written(10));
 //! # Ok::<(), Box<dyn std::error::Error>>(())

@@ -36,6 +36,8 @@ extern "C" {
         map_len: usize,
         log: *mut u32,
         log_len: usize,
+        origins: *mut u32,
+        origins_len: usize,
         report: *mut u64,
     ) -> u32;
 
@@ -108,6 +110,8 @@ pub fn build(axes: u32, mode: u32, job: &[u8], lent: &mut Lent<'_>, report: &mut
             lent.map.len(),
             lent.log.as_mut_ptr(),
             lent.log.len(),
+            lent.origins.as_mut_ptr(),
+            lent.origins.len(),
             report.as_mut_ptr(),
         )
     }

@@ -51,7 +51,7 @@ pub(crate) const NO_SET: u32 = 64;
 /// ```
 #[derive(Clone, Copy, Debug, PartialEq, Eq)]
 pub struct Refused {
-    /// The refusal number: 1 to 14 and 30 to 34 of a job, 20 to 22 of a reading, 40 to 42 of a
+    /// The refusal number: 1 to 14, 30 to 34 and 61 of a job, 20 to 22 of a reading, 40 to 42 of a
     /// glyph map, 43 of a width table, 64 of a set.
     pub number: u32,
     /// The record's index from 0 for 6, 7, 9 and 30 to 34; the record count for 8; else 0.

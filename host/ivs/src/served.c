@@ -2,8 +2,8 @@
  * library cannot be linked and this program runs under the emulator of Rattle's kit
  * (src/emulated.rs asks). It has no C library: three system calls and memset.
  *
- * A question is 12 words of 64 bits (what is asked, three numbers, the lengths of job,
- * work, pairs, out, ids, map and log, and whether the pairs hold anything), then what is
+ * A question is 13 words of 64 bits (what is asked, three numbers, the lengths of job,
+ * work, pairs, out, ids, map, log and origins, and whether the pairs hold anything), then what is
  * lent, the report of 16 words last. The answer is a word, then of a call that has a report
  * everything lent but the job, with a word before the pairs that says whether they hold
  * anything. Pairs that hold nothing are zeros, and are not sent. Of a glyph map written the
@@ -18,7 +18,8 @@ typedef struct {
 
 u64 ivs_work_words(u64 records);
 u32 ivs_build(u32 axes, u32 mode, const u8 *job, u64 job_len, u32 *work, u64 work_len, pair *pairs, u64 pairs_len,
-              u8 *out, u64 out_len, u32 *ids, u64 ids_len, u32 *map, u64 map_len, u32 *log, u64 log_len, u64 *report);
+              u8 *out, u64 out_len, u32 *ids, u64 ids_len, u32 *map, u64 map_len, u32 *log, u64 log_len, u32 *origins,
+              u64 origins_len, u64 *report);
 u32 ivs_forecast(u32 axes, u32 mode, const u8 *job, u64 job_len, u32 *work, u64 work_len, pair *pairs, u64 pairs_len,
                  u64 *report);
 u32 ivs_part(u32 axes, const u8 *job, u64 job_len, u32 first, u32 second, u32 *work, u64 work_len, u64 *report);
@@ -93,8 +94,8 @@ static int holds(const u8 *at, u64 count) {
 enum { WORK_WORDS, BUILD, READ, WRITE_GLYPHS, READ_GLYPH, FORECAST, PART, WRITE_WIDTHS = 20, READ_WIDTH };
 
 /* The parts of a question, with the bytes of one of each. */
-enum { JOB, WORK, PAIRS, OUT, IDS, MAP, LOG, REPORT, PARTS };
-static const u64 size[PARTS] = {1, 4, sizeof(pair), 1, 4, 4, 4, 8};
+enum { JOB, WORK, PAIRS, OUT, IDS, MAP, LOG, ORIGINS, REPORT, PARTS };
+static const u64 size[PARTS] = {1, 4, sizeof(pair), 1, 4, 4, 4, 4, 8};
 
 /* So many bytes of the pairs' room, from its start, may be other than zero. */
 static u64 used_pairs;
@@ -122,7 +123,7 @@ static void give_pairs(const u8 *pairs, u64 bytes) {
 static u64 build(const u64 *asked, const u64 *count, u8 **at) {
     return ivs_build((u32)asked[1], (u32)asked[2], at[JOB], count[JOB], (u32 *)at[WORK], count[WORK], (pair *)at[PAIRS],
                      count[PAIRS], at[OUT], count[OUT], (u32 *)at[IDS], count[IDS], (u32 *)at[MAP], count[MAP],
-                     (u32 *)at[LOG], count[LOG], (u64 *)at[REPORT]);
+                     (u32 *)at[LOG], count[LOG], (u32 *)at[ORIGINS], count[ORIGINS], (u64 *)at[REPORT]);
 }
 
 static u64 forecast(const u64 *asked, const u64 *count, u8 **at) {
@@ -157,12 +158,12 @@ __attribute__((force_align_arg_pointer)) void _start(void) {
     u8 *room = (u8 *)system_call(9, 0, ROOM + PAIRS_ROOM, 3, 0x4022, -1, 0);
     if ((long)room < 0) leave(2);
     for (;;) {
-        u64 asked[12], bytes[PARTS], answer, used = 0;
+        u64 asked[13], bytes[PARTS], answer, used = 0;
         const u64 *count = asked + 4;
         u8 *at[PARTS];
         take((u8 *)asked, sizeof asked);
-        u64 held = asked[11];
-        asked[11] = 16; /* words of the report */
+        u64 held = asked[12];
+        asked[12] = 16; /* words of the report */
         for (int i = 0; i < PARTS; i++) {
             bytes[i] = count[i] * size[i];
             if (i == PAIRS) {

@@ -124,6 +124,11 @@ pub fn of(number: u32) -> (&'static str, &'static str, &'static str) {
             "the bytes are no width table, or its store or its map stands outside them",
             "look whether the table was cut off or damaged",
         ),
+        61 => (
+            "ORIGINS_SHORT",
+            "the origins lent are too few",
+            "lend 2 words for each shape (2,048 always do)",
+        ),
         64 => (
             "NO_SET",
             "the job has no set of that number",

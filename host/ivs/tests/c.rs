@@ -113,9 +113,9 @@ static ivs_pair pairs[IVS_PAIRS + 1];
 
 static uint32_t build(size_t count) {
     static uint8_t job[1], out[12];
-    static uint32_t work[1], ids[1], map[1], log[1];
+    static uint32_t work[1], ids[1], map[1], log[1], origins[1];
     uint64_t report[16];
-    return ivs_build(1, 0, job, 0, work, 0, pairs, count, out, sizeof out, ids, 1, map, 1, log, 1, report);
+    return ivs_build(1, 0, job, 0, work, 0, pairs, count, out, sizeof out, ids, 1, map, 1, log, 1, origins, 1, report);
 }
 
 static size_t sevens(void) {

@@ -3,11 +3,13 @@
 use crate::sets::{dense, Set};
 use crate::widths::Shape;
 
-/// A shape and the sets (by id) that are laid into it.
+/// A shape, the sets (by id) that are laid into it, and the numbers of the starting groups
+/// that went into it.
 #[derive(Clone, Debug)]
 pub struct Group {
     pub shape: Shape,
     pub sets: Vec<usize>,
+    pub origins: Vec<u32>,
 }
 
 impl Group {
@@ -21,6 +23,7 @@ impl Group {
         Group {
             shape: self.shape.join(&other.shape),
             sets: [&self.sets[..], &other.sets[..]].concat(),
+            origins: [&self.origins[..], &other.origins[..]].concat(),
         }
     }
 }
@@ -40,9 +43,13 @@ pub fn by_shape(sets: &[Set], regions: usize) -> Vec<Group> {
                 Group {
                     shape,
                     sets: vec![id],
+                    origins: Vec::new(),
                 },
             ),
         }
+    }
+    for (number, group) in groups.iter_mut().enumerate() {
+        group.origins.push(number as u32);
     }
     groups
 }
@@ -53,6 +60,7 @@ pub fn of_all(sets: &[Set], regions: usize) -> Option<Group> {
     shapes.reduce(|a, b| a.join(&b)).map(|shape| Group {
         shape,
         sets: (0..sets.len()).collect(),
+        origins: Vec::new(),
     })
 }
 
@@ -65,4 +73,15 @@ pub fn final_order(mut groups: Vec<Group>, sets: &[Set], regions: usize) -> Vec<
     }
     groups.sort_by(|a, b| a.shape.order(&b.shape));
     groups
+}
+
+/// Two words a starting group, in starting order: its number, and the place of the final
+/// group that it went into (F6).
+pub fn origins(groups: &[Group]) -> Vec<u32> {
+    let mut places: Vec<[u32; 2]> = Vec::new();
+    for (place, group) in groups.iter().enumerate() {
+        places.extend(group.origins.iter().map(|&number| [number, place as u32]));
+    }
+    places.sort_unstable();
+    places.concat()
 }

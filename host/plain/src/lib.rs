@@ -34,7 +34,7 @@ pub const RECORD_LIMIT: usize = 1_048_576;
 pub const PAIRS: usize = 1_048_576;
 
 /// How much memory the caller lends: words of work, pair records, bytes of output,
-/// words of ids, map and log.
+/// words of ids, map, log and origins.
 #[derive(Clone, Copy, Debug, PartialEq, Eq)]
 pub struct Sizes {
     /// Words of work.
@@ -49,6 +49,8 @@ pub struct Sizes {
     pub map: usize,
     /// Words of log.
     pub log: usize,
+    /// Words of origins.
+    pub origins: usize,
 }
 
 impl Sizes {
@@ -60,6 +62,7 @@ impl Sizes {
         ids: usize::MAX,
         map: usize::MAX,
         log: usize::MAX,
+        origins: usize::MAX,
     };
 }
 
@@ -101,6 +104,8 @@ pub struct Done {
     pub map: Vec<u32>,
     /// For each merge: first number, second number, gain.
     pub log: Vec<u32>,
+    /// For each starting group: its number, the place of its final group (F6).
+    pub origins: Vec<u32>,
 }
 
 /// The published number of work words for a job of `records` records (J7); 0 above
@@ -151,6 +156,9 @@ pub fn build(axes: u32, mode: u32, job: &[u8], sizes: &Sizes) -> Result<Done, Re
     if mode == 0 && counts.shapes >= 1 && (sizes.log as u64) < 3 * (counts.shapes - 1) {
         return Err(Refused::at(number::LOG_SHORT, 0));
     }
+    if mode == 0 && (sizes.origins as u64) < 2 * counts.shapes {
+        return Err(Refused::at(number::ORIGINS_SHORT, 0));
+    }
     if (sizes.out as u64) < counts.store_bytes {
         return Err(Refused::at(number::OUT_SHORT, 0));
     }
@@ -160,6 +168,7 @@ pub fn build(axes: u32, mode: u32, job: &[u8], sizes: &Sizes) -> Result<Done, Re
         ids: numbered.ids,
         map: laid.map,
         log: plan.log,
+        origins: groups::origins(&plan.groups),
     })
 }
 

@@ -56,6 +56,9 @@ fn print_done(done: &plain::Done) {
             entry[0], entry[1], entry[2]
         );
     }
+    for origin in done.origins.chunks(2) {
+        println!("shape {}       in group {}", origin[0], origin[1]);
+    }
     let hex: String = done
         .store
         .iter()
