@@ -7,9 +7,7 @@ fn main() -> Result<(), ivs::Error> {
     job.set(&[(bold, 10)])?;
     job.set(&[(light, -300)])?;
     let packed = job.job().pack(ivs::Mode::Deduplicating)?;
-    println!(
-        "set 1, light: {}",
-        packed.value(1, light).unwrap_or_default()
-    );
+    let value = packed.value(1, light).unwrap_or_default();
+    println!("set 1, light: {value}");
     Ok(())
 }
