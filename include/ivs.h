@@ -49,7 +49,10 @@ extern "C" {
     EACH(42, BAD_GLYPH_MAP) \
     EACH(43, BAD_WIDTHS) \
     EACH(61, ORIGINS_SHORT) \
-    EACH(64, NO_SET)
+    EACH(64, NO_SET) \
+    EACH(70, LONG_VALUE) \
+    EACH(71, BAD_REGION) \
+    EACH(72, WIDE_SUBTABLE)
 
 /* The numbers by their names: IVS_DONE is 0, IVS_BAD_AXES is 1 and so on. Functions answer plain numbers. */
 enum ivs_refusal {
@@ -114,6 +117,15 @@ typedef struct {
 uint32_t ivs_build(uint32_t axes, uint32_t mode, const uint8_t *job, size_t job_len, uint32_t *work, size_t work_len, ivs_pair *pairs,
                    size_t pairs_len, uint8_t *out, size_t out_len, uint32_t *ids, size_t ids_len, uint32_t *map, size_t map_len,
                    uint32_t *log, size_t log_len, uint32_t *origins, size_t origins_len, uint64_t *report);
+
+/* The same for the instrument makers' reader, which knows no 32-bit rows and skips odd regions: a build as ivs_build's,
+ * or refused. After the checks above of a record, 70 LONG_VALUE (a value that 16 bits do not hold) and 71 BAD_REGION (an
+ * axis record whose start, peak and end are not in order and within -1.0 to 1.0, or whose peak is not 0 where start is
+ * below 0 and end above) at that record; after 10, 72 WIDE_SUBTABLE (a subtable of more than 32 columns) at place 0. */
+uint32_t ivs_build_panel(uint32_t axes, uint32_t mode, const uint8_t *job, size_t job_len, uint32_t *work, size_t work_len,
+                         ivs_pair *pairs, size_t pairs_len, uint8_t *out, size_t out_len, uint32_t *ids, size_t ids_len,
+                         uint32_t *map, size_t map_len, uint32_t *log, size_t log_len, uint32_t *origins,
+                         size_t origins_len, uint64_t *report);
 
 /* What ivs_build would say of a job, with nothing lent to write to (A4, H5): how many bytes the store takes, and how
  * much to lend for it. Answer and report are those of a build that is lent enough of all else: refusals 1 to 4, 6 to 10

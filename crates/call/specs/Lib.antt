@@ -1,3 +1,4 @@
 pub mod Build
 pub mod Foretold
 pub mod Lending
+pub mod Profiled

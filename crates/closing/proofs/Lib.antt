@@ -1,2 +1,3 @@
+pub mod WideLaws
 pub mod CloseLaws
 pub mod Unique

@@ -10,14 +10,16 @@ use Rattle.finishing.specs.declared.answers.Built.{Built}
 use Rattle.call.specs.Foretold.{foretoldFrom}
 use Rattle.opening.specs.declared.opening.Stage.{Stage}
 use Rattle.finishing.specs.Buffers.{Buffers, lengths}
-use Rattle.call.specs.Build.{answerFrom, leftFrom}
+use Rattle.panel.specs.declared.Profile.{Profile}
+use Rattle.panel.specs.Panelled.{panelled}
+use Rattle.call.specs.Profiled.{answerWith, leftWith}
 use Rattle.opening.specs.LentOpened.{OpenedAt}
 use Rattle.arranging.specs.LentArranged.{Joined, PackFit}
 
--- what the records say is answered, and the buffers are as it says
-pub record RecordsBuilt (axes mode : ℕ) (o : Outcome) (r : Built) (old new : Buffers) : Type 0 where
-  pub answer : r ≡ answerFrom axes mode (lengths old) o
-  pub left : new ≡ leftFrom axes mode old o
+-- what the records say is answered by the profile, and the buffers are as it says
+pub record RecordsBuilt (p : Profile) (axes mode : ℕ) (o : Outcome) (r : Built) (old new : Buffers) : Type 0 where
+  pub answer : r ≡ answerWith p axes mode (lengths old) o
+  pub left : new ≡ leftWith p axes mode old o
 
 -- ---- what it asks: a build that was opened and its groups joined
 
@@ -27,12 +29,13 @@ pub record ForetellFit (s : Stage) (m : Merged) (w : List ℕ) : Type 0 where
   pub fits : PackFit job s m w
 
 pub record CloseFit (job : List ℕ) (s : Stage) (m : Merged) (w : List ℕ) : Type 0 where
+  pub profile : Profile
   pub axes : ℕ
   pub mode : ℕ
   pub old : List ℕ
   pub pairs : ℕ
   pub mid : List ℕ
-  pub opened : OpenedAt axes mode job old pairs mid s
+  pub opened : OpenedAt profile axes mode job old pairs mid s
   pub joined : Joined s m mid w
 
 pub record ForeseeFit (s : Stage) (m : Merged) (w : List ℕ) : Type 0 where
@@ -41,8 +44,8 @@ pub record ForeseeFit (s : Stage) (m : Merged) (w : List ℕ) : Type 0 where
 
 -- ---- and what it leaves: what the build answers, the buffers and work
 
-pub record Closed (axes mode : ℕ) (job work : List ℕ) (pairs : ℕ) (r : Built) (old new : Buffers) (work′ : List ℕ) : Type 0 where
-  pub built : RecordsBuilt axes mode (outcome axes mode job (length work) pairs) r old new
+pub record Closed (p : Profile) (axes mode : ℕ) (job work : List ℕ) (pairs : ℕ) (r : Built) (old new : Buffers) (work′ : List ℕ) : Type 0 where
+  pub built : RecordsBuilt p axes mode (panelled p job (outcome axes mode job (length work) pairs)) r old new
   pub work-is : work′ ≡ workLeft axes mode (length job) pairs work
 
 pub record Foreseen (axes mode : ℕ) (job work : List ℕ) (pairs : ℕ) (r : Built) (work′ : List ℕ) : Type 0 where

@@ -6,7 +6,10 @@ use finishing::Built;
 use finishing::finish;
 use job::clear_work;
 use merging::Merged;
+use narrow::too_wide;
 use opening::Stage;
+use said::Refusal;
+use store::Finals;
 ghost use mathlib.Core.List.{List, []};
 ghost use Prim.Native.Nat.{ℕ, _≤_};
 ghost use Rattle.said.specs.Job.{Outcome};
@@ -14,6 +17,7 @@ ghost use Rattle.encoder.specs.Packed.{own};
 ghost use Rattle.finishing.specs.Buffers.{buffers};
 ghost use Rattle.finishing.specs.Lent.{Finished};
 ghost use Rattle.limits.specs.Limits.{mostAxes};
+ghost use Rattle.panel.specs.declared.Profile.{Profile};
 ghost use Rattle.opening.specs.LentOpened.{Read, OpenedAt};
 ghost use Rattle.arranging.specs.LentArranged.{Joined, PackFit};
 ghost use Rattle.closing.specs.LentClosed.{RecordsBuilt, CloseFit, Closed};
@@ -45,7 +49,7 @@ fn finish_none(
     )
 }
 
-// Packs the sets by their mode, and finishes.
+// Packs the sets by their mode, looks whether the profile takes the columns, and finishes.
 fn pack_sets(
     job: &[u8],
     work: &mut [u32],
@@ -58,7 +62,7 @@ fn pack_sets(
     origins: &mut [u32],
 ) -> Built
     requires { ⌜ PackFit (now job) s m (now work) ⌝ }
-    ensures { λ r. ⌜ ((axes mode : ℕ) (o : Outcome) (mid : List ℕ) → Read axes mode (now (job .entry)) o s mid → Joined s m mid (now (work .entry)) → RecordsBuilt axes mode o r (buffers (now (out .entry)) (now (ids .entry)) (now (map .entry)) (now (log .entry)) (now (origins .entry))) (buffers (now (out .exit)) (now (ids .exit)) (now (map .exit)) (now (log .exit)) (now (origins .exit)))) ⌝ }
+    ensures { λ r. ⌜ ((axes mode : ℕ) (o : Outcome) (mid : List ℕ) → Read axes mode (now (job .entry)) o s mid → Joined s m mid (now (work .entry)) → RecordsBuilt (s .profile) axes mode o r (buffers (now (out .entry)) (now (ids .entry)) (now (map .entry)) (now (log .entry)) (now (origins .entry))) (buffers (now (out .exit)) (now (ids .exit)) (now (map .exit)) (now (log .exit)) (now (origins .exit)))) ⌝ }
 {
     if s.no != 0 {
         return Built::Refused(s.no, s.at);
@@ -67,6 +71,18 @@ fn pack_sets(
         return finish_none(job, s.axes, out, ids, map, log, origins);
     }
     let k = arrange(work, s, m);
+    let p = k.places;
+    let e = k.encoded;
+    let t = Finals {
+        regions: p.regions,
+        groups: p.finals,
+        count: e.count,
+        index: 0,
+    };
+    let profile = s.profile;
+    if too_wide(profile, work, t) {
+        return Built::Refused(Refusal::WIDE_SUBTABLE, 0);
+    }
     finish(job, work, k, out, ids, map, log, origins)
 }
 
@@ -83,7 +99,7 @@ pub fn close(
     origins: &mut [u32],
 ) -> Built
     requires { ⌜ CloseFit (now job) s m (now work) ⌝ }
-    ensures { λ r. ⌜ ((axes mode : ℕ) (old : List ℕ) (pairs : ℕ) (mid : List ℕ) → OpenedAt axes mode (now (job .entry)) old pairs mid s → Joined s m mid (now (work .entry)) → Closed axes mode (now (job .entry)) old pairs r (buffers (now (out .entry)) (now (ids .entry)) (now (map .entry)) (now (log .entry)) (now (origins .entry))) (buffers (now (out .exit)) (now (ids .exit)) (now (map .exit)) (now (log .exit)) (now (origins .exit))) (now (work .exit))) ⌝ }
+    ensures { λ r. ⌜ ((profile : Profile) (axes mode : ℕ) (old : List ℕ) (pairs : ℕ) (mid : List ℕ) → OpenedAt profile axes mode (now (job .entry)) old pairs mid s → Joined s m mid (now (work .entry)) → Closed profile axes mode (now (job .entry)) old pairs r (buffers (now (out .entry)) (now (ids .entry)) (now (map .entry)) (now (log .entry)) (now (origins .entry))) (buffers (now (out .exit)) (now (ids .exit)) (now (map .exit)) (now (log .exit)) (now (origins .exit))) (now (work .exit))) ⌝ }
 {
     if s.early {
         return Built::Refused(s.no, s.at);

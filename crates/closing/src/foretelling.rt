@@ -15,6 +15,7 @@ ghost use Rattle.said.specs.Job.{Outcome};
 ghost use Rattle.encoder.specs.Packed.{own};
 ghost use Rattle.finishing.specs.Late.{reportOf};
 ghost use Rattle.limits.specs.Limits.{mostAxes};
+ghost use Rattle.panel.specs.declared.Profile.the-variants.{Plain};
 ghost use Rattle.call.specs.Foretold.{foretoldFrom};
 ghost use Rattle.opening.specs.LentOpened.{Read, OpenedAt};
 ghost use Rattle.arranging.specs.LentArranged.{Joined};
@@ -48,7 +49,7 @@ fn foretell_sets(work: &mut [u32], s: Stage, m: Merged) -> Built
 // Answers, and clears work unless nothing was written there.
 pub fn foresee(work: &mut [u32], s: Stage, m: Merged) -> Built
     requires { ⌜ ForeseeFit s m (now work) ⌝ }
-    ensures { λ r. ⌜ ((axes mode : ℕ) (job old : List ℕ) (pairs : ℕ) (mid : List ℕ) → OpenedAt axes mode job old pairs mid s → Joined s m mid (now (work .entry)) → Foreseen axes mode job old pairs r (now (work .exit))) ⌝ }
+    ensures { λ r. ⌜ ((axes mode : ℕ) (job old : List ℕ) (pairs : ℕ) (mid : List ℕ) → OpenedAt Plain axes mode job old pairs mid s → Joined s m mid (now (work .entry)) → Foreseen axes mode job old pairs r (now (work .exit))) ⌝ }
 {
     if s.early {
         return Built::Refused(s.no, s.at);

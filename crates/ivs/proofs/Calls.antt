@@ -29,13 +29,16 @@ use denote.Triple.Statement.{Contract, Triple}
 use denote.Triple.Clauses.{Lasts, lasts}
 use Rattle.finishing.specs.Buffers.{buffers}
 use Rattle.call.specs.Lending.{lending, leaves, noBuffers}
-use Rattle.packer.specs.Promised.{Obeys, Foretells}
+use Rattle.packer.specs.Promised.{ObeysBy, Foretells}
 use Rattle.reporting.specs.Answers.{numberOf, reportWords, filled, numberFew, byteWithin}
 use Rattle.pairs.specs.declared.Pair.{Pair}
 use Rattle.pairs.proofs.Pair as T
 use Rattle.finishing.specs.declared.answers.Built.{Built}
 use Rattle.finishing.proofs.answers.Built as D
 use Rattle.finishing.proofs.answers.Built.Laws as D′
+use Rattle.panel.specs.declared.Profile.{Profile}
+use Rattle.panel.proofs.Profile as E
+use Rattle.panel.proofs.Profile.Laws as E′
 use Rattle.pairs.proofs.Loan.{Loan, both, Gives, gives, loan-call}
 use Rattle.pairs.proofs.Slices.{ref, Has, Sees, lent-mut, lent-see}
 use Rattle.pairs.proofs.Refs.{HasRef, at-ref, lent-ref}
@@ -60,23 +63,25 @@ module _ {M : Type 1} (𝓤 : URA M) (H : Heap 𝓤) (A : Atoms 𝓤) (mem : Mem
   Tell-of = tripleOf 𝓤 H A tell.signature (tell.spec 𝓤 H A mem run)
 
 module _ {M : Type 1} (𝓤 : URA M) (H : Heap 𝓤) (A : Atoms 𝓤) (W : Given 𝓤 H A) (mem : Memory → SProp 𝓤) (run : Routine → Fun 𝓤) where
-  module _ (C : Calls 𝓤 H) (fm : FmC 𝓤 H (W .laws) C) (known : Triple 𝓤 (C #packer·build) (Build-of 𝓤 H A mem run)) (κ : Lft) (θ : Share) (γ : GName) (β ι : ℕ) (ν : ℕ) (job : List ℕ) (κ₂ : Lft) (θ₂ : Share) (γ₂ : GName) (β₂ ι₂ : ℕ) (ν₂ : ℕ) (work : List ℕ) (κ₃ : Lft) (θ₃ : Share) (γ₃ : GName) (β₃ ι₃ : ℕ) (ν₃ : ℕ) (pairs : List Pair) (κ₄ : Lft) (θ₄ : Share) (γ₄ : GName) (β₄ ι₄ : ℕ) (ν₄ : ℕ) (out : List ℕ) (κ₅ : Lft) (θ₅ : Share) (γ₅ : GName) (β₅ ι₅ : ℕ) (ν₅ : ℕ) (ids : List ℕ) (κ₆ : Lft) (θ₆ : Share) (γ₆ : GName) (β₆ ι₆ : ℕ) (ν₆ : ℕ) (map : List ℕ) (κ₇ : Lft) (θ₇ : Share) (γ₇ : GName) (β₇ ι₇ : ℕ) (ν₇ : ℕ) (log : List ℕ) (κ₈ : Lft) (θ₈ : Share) (γ₈ : GName) (β₈ ι₈ : ℕ) (ν₈ : ℕ) (origins : List ℕ) (axes : ℕ) (mode : ℕ) where
+  module _ (C : Calls 𝓤 H) (fm : FmC 𝓤 H (W .laws) C) (known : Triple 𝓤 (C #packer·build) (Build-of 𝓤 H A mem run)) (κ : Lft) (θ : Share) (γ : GName) (β ι : ℕ) (ν : ℕ) (job : List ℕ) (κ₂ : Lft) (θ₂ : Share) (γ₂ : GName) (β₂ ι₂ : ℕ) (ν₂ : ℕ) (work : List ℕ) (κ₃ : Lft) (θ₃ : Share) (γ₃ : GName) (β₃ ι₃ : ℕ) (ν₃ : ℕ) (pairs : List Pair) (κ₄ : Lft) (θ₄ : Share) (γ₄ : GName) (β₄ ι₄ : ℕ) (ν₄ : ℕ) (out : List ℕ) (κ₅ : Lft) (θ₅ : Share) (γ₅ : GName) (β₅ ι₅ : ℕ) (ν₅ : ℕ) (ids : List ℕ) (κ₆ : Lft) (θ₆ : Share) (γ₆ : GName) (β₆ ι₆ : ℕ) (ν₆ : ℕ) (map : List ℕ) (κ₇ : Lft) (θ₇ : Share) (γ₇ : GName) (β₇ ι₇ : ℕ) (ν₇ : ℕ) (log : List ℕ) (κ₈ : Lft) (θ₈ : Share) (γ₈ : GName) (β₈ ι₈ : ℕ) (ν₈ : ℕ) (origins : List ℕ) (profile : Profile) (axes : ℕ) (mode : ℕ) where
     abbrev Loan-build-see-mut-mut-mut-mut-mut-mut-mut : (long₂ : length work ≡ ν₂) (long₃ : length pairs ≡ ν₃) (long₄ : length out ≡ ν₄) (long₅ : length ids ≡ ν₅) (long₆ : length map ≡ ν₆) (long₇ : length log ≡ ν₇) (long₈ : length origins ≡ ν₈) (sized₂ : Room u32 ν₂) (sized₃ : Room T.the-row ν₃) (sized₄ : Room u8 ν₄) (sized₅ : Room u32 ν₅) (sized₆ : Room u32 ν₆) (sized₇ : Room u32 ν₇) (sized₈ : Room u32 ν₈) → Loan 𝓤 H A
     Loan-build-see-mut-mut-mut-mut-mut-mut-mut long₂ long₃ long₄ long₅ long₆ long₇ long₈ sized₂ sized₃ sized₄ sized₅ sized₆ sized₇ sized₈ = both 𝓤 H A W (lent-see u8 κ θ γ β ι 𝓤 H A W job ν) (both 𝓤 H A W (lent-mut u32 κ₂ θ₂ γ₂ β₂ ι₂ 𝓤 H A W work ν₂ long₂ sized₂) (both 𝓤 H A W (lent-mut T.the-row κ₃ θ₃ γ₃ β₃ ι₃ 𝓤 H A W pairs ν₃ long₃ sized₃) (both 𝓤 H A W (lent-mut u8 κ₄ θ₄ γ₄ β₄ ι₄ 𝓤 H A W out ν₄ long₄ sized₄) (both 𝓤 H A W (lent-mut u32 κ₅ θ₅ γ₅ β₅ ι₅ 𝓤 H A W ids ν₅ long₅ sized₅) (both 𝓤 H A W (lent-mut u32 κ₆ θ₆ γ₆ β₆ ι₆ 𝓤 H A W map ν₆ long₆ sized₆) (both 𝓤 H A W (lent-mut u32 κ₇ θ₇ γ₇ β₇ ι₇ 𝓤 H A W log ν₇ long₇ sized₇) (lent-mut u32 κ₈ θ₈ γ₈ β₈ ι₈ 𝓤 H A W origins ν₈ long₈ sized₈)))))))
 
     abbrev pub After-build-see-mut-mut-mut-mut-mut-mut-mut : Val → Item 𝓤
-    After-build-see-mut-mut-mut-mut-mut-mut-mut w = later (some (λ (r : Built). some (λ (x : Unit {0} × (List ℕ × (List Pair × (List ℕ × (List ℕ × (List ℕ × (List ℕ × List ℕ))))))). given ((Unit {0} × ((length (x .1 .0) ≡ ν₂) × ((length (x .1 .1 .0) ≡ ν₃) × ((length (x .1 .1 .1 .0) ≡ ν₄) × ((length (x .1 .1 .1 .1 .0) ≡ ν₅) × ((length (x .1 .1 .1 .1 .1 .0) ≡ ν₆) × ((length (x .1 .1 .1 .1 .1 .1 .0) ≡ ν₇) × (length (x .1 .1 .1 .1 .1 .1 .1) ≡ ν₈)))))))) × (Obeys (lending axes mode job work pairs (buffers out ids map log origins)) r (leaves (x .1 .0) (x .1 .1 .0) (buffers (x .1 .1 .1 .0) (x .1 .1 .1 .1 .0) (x .1 .1 .1 .1 .1 .0) (x .1 .1 .1 .1 .1 .1 .0) (x .1 .1 .1 .1 .1 .1 .1))))) ((Sees u8 κ θ γ β ι 𝓤 ν job ⊛ (Has u32 κ₂ θ₂ γ₂ β₂ ι₂ 𝓤 ν₂ (x .1 .0) ⊛ (Has T.the-row κ₃ θ₃ γ₃ β₃ ι₃ 𝓤 ν₃ (x .1 .1 .0) ⊛ (Has u8 κ₄ θ₄ γ₄ β₄ ι₄ 𝓤 ν₄ (x .1 .1 .1 .0) ⊛ (Has u32 κ₅ θ₅ γ₅ β₅ ι₅ 𝓤 ν₅ (x .1 .1 .1 .1 .0) ⊛ (Has u32 κ₆ θ₆ γ₆ β₆ ι₆ 𝓤 ν₆ (x .1 .1 .1 .1 .1 .0) ⊛ (Has u32 κ₇ θ₇ γ₇ β₇ ι₇ 𝓤 ν₇ (x .1 .1 .1 .1 .1 .1 .0) ⊛ Has u32 κ₈ θ₈ γ₈ β₈ ι₈ 𝓤 ν₈ (x .1 .1 .1 .1 .1 .1 .1)))))))) ⊛ ‵ (D.the-row .own r (w ∷ []))))))
+    After-build-see-mut-mut-mut-mut-mut-mut-mut w = later (some (λ (r : Built). some (λ (x : Unit {0} × (List ℕ × (List Pair × (List ℕ × (List ℕ × (List ℕ × (List ℕ × List ℕ))))))). given ((Unit {0} × ((length (x .1 .0) ≡ ν₂) × ((length (x .1 .1 .0) ≡ ν₃) × ((length (x .1 .1 .1 .0) ≡ ν₄) × ((length (x .1 .1 .1 .1 .0) ≡ ν₅) × ((length (x .1 .1 .1 .1 .1 .0) ≡ ν₆) × ((length (x .1 .1 .1 .1 .1 .1 .0) ≡ ν₇) × (length (x .1 .1 .1 .1 .1 .1 .1) ≡ ν₈)))))))) × (ObeysBy profile (lending axes mode job work pairs (buffers out ids map log origins)) r (leaves (x .1 .0) (x .1 .1 .0) (buffers (x .1 .1 .1 .0) (x .1 .1 .1 .1 .0) (x .1 .1 .1 .1 .1 .0) (x .1 .1 .1 .1 .1 .1 .0) (x .1 .1 .1 .1 .1 .1 .1))))) ((Sees u8 κ θ γ β ι 𝓤 ν job ⊛ (Has u32 κ₂ θ₂ γ₂ β₂ ι₂ 𝓤 ν₂ (x .1 .0) ⊛ (Has T.the-row κ₃ θ₃ γ₃ β₃ ι₃ 𝓤 ν₃ (x .1 .1 .0) ⊛ (Has u8 κ₄ θ₄ γ₄ β₄ ι₄ 𝓤 ν₄ (x .1 .1 .1 .0) ⊛ (Has u32 κ₅ θ₅ γ₅ β₅ ι₅ 𝓤 ν₅ (x .1 .1 .1 .1 .0) ⊛ (Has u32 κ₆ θ₆ γ₆ β₆ ι₆ 𝓤 ν₆ (x .1 .1 .1 .1 .1 .0) ⊛ (Has u32 κ₇ θ₇ γ₇ β₇ ι₇ 𝓤 ν₇ (x .1 .1 .1 .1 .1 .1 .0) ⊛ Has u32 κ₈ θ₈ γ₈ β₈ ι₈ 𝓤 ν₈ (x .1 .1 .1 .1 .1 .1 .1)))))))) ⊛ ‵ (D.the-row .own r (w ∷ []))))))
 
     abbrev at-build-see-mut-mut-mut-mut-mut-mut-mut : (g : Unit {0} × ((ℕ × GName) × ((ℕ × GName) × ((ℕ × GName) × ((ℕ × GName) × ((ℕ × GName) × ((ℕ × GName) × (ℕ × GName)))))))) → Build-of 𝓤 H A mem run .Ghost
-    at-build-see-mut-mut-mut-mut-mut-mut-mut g = (((κ, (g .1 .0 .0 ∷ [], (g .1 .1 .0 .0 ∷ [], (g .1 .1 .1 .0 .0 ∷ [], (g .1 .1 .1 .1 .0 .0 ∷ [], (g .1 .1 .1 .1 .1 .0 .0 ∷ [], (g .1 .1 .1 .1 .1 .1 .0 .0 ∷ [], (g .1 .1 .1 .1 .1 .1 .1 .0 ∷ [], tt)))))))), (θ, (fullShare, (fullShare, (fullShare, (fullShare, (fullShare, (fullShare, (fullShare, tt)))))))), tt, (axes, (mode, (ref u8 κ θ γ β ι γ job, (ref u32 κ₂ θ₂ γ₂ β₂ ι₂ (g .1 .0 .1) work, (ref T.the-row κ₃ θ₃ γ₃ β₃ ι₃ (g .1 .1 .0 .1) pairs, (ref u8 κ₄ θ₄ γ₄ β₄ ι₄ (g .1 .1 .1 .0 .1) out, (ref u32 κ₅ θ₅ γ₅ β₅ ι₅ (g .1 .1 .1 .1 .0 .1) ids, (ref u32 κ₆ θ₆ γ₆ β₆ ι₆ (g .1 .1 .1 .1 .1 .0 .1) map, (ref u32 κ₇ θ₇ γ₇ β₇ ι₇ (g .1 .1 .1 .1 .1 .1 .0 .1) log, (ref u32 κ₈ θ₈ γ₈ β₈ ι₈ (g .1 .1 .1 .1 .1 .1 .1 .1) origins, tt)))))))))), (vint w32 axes ∷ [], (vint w32 mode ∷ [], (sliceVal (β, ι) ν ∷ [], (sliceVal (β₂, ι₂) ν₂ ∷ [], (sliceVal (β₃, ι₃) ν₃ ∷ [], (sliceVal (β₄, ι₄) ν₄ ∷ [], (sliceVal (β₅, ι₅) ν₅ ∷ [], (sliceVal (β₆, ι₆) ν₆ ∷ [], (sliceVal (β₇, ι₇) ν₇ ∷ [], (sliceVal (β₈, ι₈) ν₈ ∷ [], tt))))))))))), tt)
+    at-build-see-mut-mut-mut-mut-mut-mut-mut g = (((κ, (g .1 .0 .0 ∷ [], (g .1 .1 .0 .0 ∷ [], (g .1 .1 .1 .0 .0 ∷ [], (g .1 .1 .1 .1 .0 .0 ∷ [], (g .1 .1 .1 .1 .1 .0 .0 ∷ [], (g .1 .1 .1 .1 .1 .1 .0 .0 ∷ [], (g .1 .1 .1 .1 .1 .1 .1 .0 ∷ [], tt)))))))), (θ, (fullShare, (fullShare, (fullShare, (fullShare, (fullShare, (fullShare, (fullShare, tt)))))))), tt, (profile, (axes, (mode, (ref u8 κ θ γ β ι γ job, (ref u32 κ₂ θ₂ γ₂ β₂ ι₂ (g .1 .0 .1) work, (ref T.the-row κ₃ θ₃ γ₃ β₃ ι₃ (g .1 .1 .0 .1) pairs, (ref u8 κ₄ θ₄ γ₄ β₄ ι₄ (g .1 .1 .1 .0 .1) out, (ref u32 κ₅ θ₅ γ₅ β₅ ι₅ (g .1 .1 .1 .1 .0 .1) ids, (ref u32 κ₆ θ₆ γ₆ β₆ ι₆ (g .1 .1 .1 .1 .1 .0 .1) map, (ref u32 κ₇ θ₇ γ₇ β₇ ι₇ (g .1 .1 .1 .1 .1 .1 .0 .1) log, (ref u32 κ₈ θ₈ γ₈ β₈ ι₈ (g .1 .1 .1 .1 .1 .1 .1 .1) origins, tt))))))))))), (EL.val E.the-type E′.the-laws profile ∷ [], (vint w32 axes ∷ [], (vint w32 mode ∷ [], (sliceVal (β, ι) ν ∷ [], (sliceVal (β₂, ι₂) ν₂ ∷ [], (sliceVal (β₃, ι₃) ν₃ ∷ [], (sliceVal (β₄, ι₄) ν₄ ∷ [], (sliceVal (β₅, ι₅) ν₅ ∷ [], (sliceVal (β₆, ι₆) ν₆ ∷ [], (sliceVal (β₇, ι₇) ν₇ ∷ [], (sliceVal (β₈, ι₈) ν₈ ∷ [], tt)))))))))))), tt)
 
-    leaves-build-see-mut-mut-mut-mut-mut-mut-mut : (long₂ : length work ≡ ν₂) (long₃ : length pairs ≡ ν₃) (long₄ : length out ≡ ν₄) (long₅ : length ids ≡ ν₅) (long₆ : length map ≡ ν₆) (long₇ : length log ≡ ν₇) (long₈ : length origins ≡ ν₈) (sized₂ : Room u32 ν₂) (sized₃ : Room T.the-row ν₃) (sized₄ : Room u8 ν₄) (sized₅ : Room u32 ν₅) (sized₆ : Room u32 ν₆) (sized₇ : Room u32 ν₇) (sized₈ : Room u32 ν₈) → (g : Unit {0} × ((ℕ × GName) × ((ℕ × GName) × ((ℕ × GName) × ((ℕ × GName) × ((ℕ × GName) × ((ℕ × GName) × (ℕ × GName)))))))) → (w : Val) → ent 𝓤 (Build-of 𝓤 H A mem run .post (at-build-see-mut-mut-mut-mut-mut-mut-mut g) w) (mean 𝓤 H A (Gives 𝓤 H A W (Loan-build-see-mut-mut-mut-mut-mut-mut-mut long₂ long₃ long₄ long₅ long₆ long₇ long₈ sized₂ sized₃ sized₄ sized₅ sized₆ sized₇ sized₈) D.the-row (λ x r. Obeys (lending axes mode job work pairs (buffers out ids map log origins)) r (leaves (x .1 .0) (x .1 .1 .0) (buffers (x .1 .1 .1 .0) (x .1 .1 .1 .1 .0) (x .1 .1 .1 .1 .1 .0) (x .1 .1 .1 .1 .1 .1 .0) (x .1 .1 .1 .1 .1 .1 .1)))) g w))
+    leaves-build-see-mut-mut-mut-mut-mut-mut-mut : (long₂ : length work ≡ ν₂) (long₃ : length pairs ≡ ν₃) (long₄ : length out ≡ ν₄) (long₅ : length ids ≡ ν₅) (long₆ : length map ≡ ν₆) (long₇ : length log ≡ ν₇) (long₈ : length origins ≡ ν₈) (sized₂ : Room u32 ν₂) (sized₃ : Room T.the-row ν₃) (sized₄ : Room u8 ν₄) (sized₅ : Room u32 ν₅) (sized₆ : Room u32 ν₆) (sized₇ : Room u32 ν₇) (sized₈ : Room u32 ν₈) → (g : Unit {0} × ((ℕ × GName) × ((ℕ × GName) × ((ℕ × GName) × ((ℕ × GName) × ((ℕ × GName) × ((ℕ × GName) × (ℕ × GName)))))))) → (w : Val) → ent 𝓤 (Build-of 𝓤 H A mem run .post (at-build-see-mut-mut-mut-mut-mut-mut-mut g) w) (mean 𝓤 H A (Gives 𝓤 H A W (Loan-build-see-mut-mut-mut-mut-mut-mut-mut long₂ long₃ long₄ long₅ long₆ long₇ long₈ sized₂ sized₃ sized₄ sized₅ sized₆ sized₇ sized₈) D.the-row (λ x r. ObeysBy profile (lending axes mode job work pairs (buffers out ids map log origins)) r (leaves (x .1 .0) (x .1 .1 .0) (buffers (x .1 .1 .1 .0) (x .1 .1 .1 .1 .0) (x .1 .1 .1 .1 .1 .0) (x .1 .1 .1 .1 .1 .1 .0) (x .1 .1 .1 .1 .1 .1 .1)))) g w))
     leaves-build-see-mut-mut-mut-mut-mut-mut-mut long₂ long₃ long₄ long₅ long₆ long₇ long₈ sized₂ sized₃ sized₄ sized₅ sized₆ sized₇ sized₈ g w =
         qed W (later (some (λ (r : Built). ((‵ (flft (κ) θ) ⊛ ‵ (flft (g .1 .0 .0 ∷ []) fullShare) ⊛ ‵ (flft (g .1 .1 .0 .0 ∷ []) fullShare) ⊛ ‵ (flft (g .1 .1 .1 .0 .0 ∷ []) fullShare) ⊛ ‵ (flft (g .1 .1 .1 .1 .0 .0 ∷ []) fullShare) ⊛ ‵ (flft (g .1 .1 .1 .1 .1 .0 .0 ∷ []) fullShare) ⊛ ‵ (flft (g .1 .1 .1 .1 .1 .1 .0 .0 ∷ []) fullShare) ⊛ ‵ (flft (g .1 .1 .1 .1 .1 .1 .1 .0 ∷ []) fullShare) ⊛ ‵ ftrue) ⊛ ‵ (D.the-row .own r (w ∷ [])))
-        ⊛ some (λ (ws : Lasts build.ended (κ, (g .1 .0 .0 ∷ [], (g .1 .1 .0 .0 ∷ [], (g .1 .1 .1 .0 .0 ∷ [], (g .1 .1 .1 .1 .0 .0 ∷ [], (g .1 .1 .1 .1 .1 .0 .0 ∷ [], (g .1 .1 .1 .1 .1 .1 .0 .0 ∷ [], (g .1 .1 .1 .1 .1 .1 .1 .0 ∷ [], tt)))))))) (at-build-see-mut-mut-mut-mut-mut-mut-mut g .0 .3)). ‵ (lasts build.ended (κ, (g .1 .0 .0 ∷ [], (g .1 .1 .0 .0 ∷ [], (g .1 .1 .1 .0 .0 ∷ [], (g .1 .1 .1 .1 .0 .0 ∷ [], (g .1 .1 .1 .1 .1 .0 .0 ∷ [], (g .1 .1 .1 .1 .1 .1 .0 .0 ∷ [], (g .1 .1 .1 .1 .1 .1 .1 .0 ∷ [], tt)))))))) (at-build-see-mut-mut-mut-mut-mut-mut-mut g .0 .3) ws) ⊛ raw (fact 𝓤 (Obeys (lending axes mode job work pairs (buffers out ids map log origins)) r (leaves (ws .1 .1 .1 .0) (ws .1 .1 .1 .1 .0) (buffers (ws .1 .1 .1 .1 .1 .0) (ws .1 .1 .1 .1 .1 .1 .0) (ws .1 .1 .1 .1 .1 .1 .1 .0) (ws .1 .1 .1 .1 .1 .1 .1 .1 .0) (ws .1 .1 .1 .1 .1 .1 .1 .1 .1 .0)))))))) ∷ []) ∵
+        ⊛ some (λ (ws : Lasts build.ended (κ, (g .1 .0 .0 ∷ [], (g .1 .1 .0 .0 ∷ [], (g .1 .1 .1 .0 .0 ∷ [], (g .1 .1 .1 .1 .0 .0 ∷ [], (g .1 .1 .1 .1 .1 .0 .0 ∷ [], (g .1 .1 .1 .1 .1 .1 .0 .0 ∷ [], (g .1 .1 .1 .1 .1 .1 .1 .0 ∷ [], tt)))))))) (at-build-see-mut-mut-mut-mut-mut-mut-mut g .0 .3)). ‵ (lasts build.ended (κ, (g .1 .0 .0 ∷ [], (g .1 .1 .0 .0 ∷ [], (g .1 .1 .1 .0 .0 ∷ [], (g .1 .1 .1 .1 .0 .0 ∷ [], (g .1 .1 .1 .1 .1 .0 .0 ∷ [], (g .1 .1 .1 .1 .1 .1 .0 .0 ∷ [], (g .1 .1 .1 .1 .1 .1 .1 .0 ∷ [], tt)))))))) (at-build-see-mut-mut-mut-mut-mut-mut-mut g .0 .3) ws) ⊛ raw (fact 𝓤 (ObeysBy profile (lending axes mode job work pairs (buffers out ids map log origins)) r (leaves (ws .1 .1 .1 .1 .0) (ws .1 .1 .1 .1 .1 .0) (buffers (ws .1 .1 .1 .1 .1 .1 .0) (ws .1 .1 .1 .1 .1 .1 .1 .0) (ws .1 .1 .1 .1 .1 .1 .1 .1 .0) (ws .1 .1 .1 .1 .1 .1 .1 .1 .1 .0) (ws .1 .1 .1 .1 .1 .1 .1 .1 .1 .1 .0)))))))) ∷ []) ∵
         updating ! $ await ! tt $ pick ! (λ r. split ! $ move ! (1 ∷ []) $ pick ! (λ ws. split ! $
         move ! (1 ∷ []) $
-        heard ! (Obeys (lending axes mode job work pairs (buffers out ids map log origins)) r (leaves (ws .1 .1 .1 .0) (ws .1 .1 .1 .1 .0) (buffers (ws .1 .1 .1 .1 .1 .0) (ws .1 .1 .1 .1 .1 .1 .0) (ws .1 .1 .1 .1 .1 .1 .1 .0) (ws .1 .1 .1 .1 .1 .1 .1 .1 .0) (ws .1 .1 .1 .1 .1 .1 .1 .1 .1 .0)))) (λ e.
+        heard ! (ObeysBy profile (lending axes mode job work pairs (buffers out ids map log origins)) r (leaves (ws .1 .1 .1 .1 .0) (ws .1 .1 .1 .1 .1 .0) (buffers (ws .1 .1 .1 .1 .1 .1 .0) (ws .1 .1 .1 .1 .1 .1 .1 .0) (ws .1 .1 .1 .1 .1 .1 .1 .1 .0) (ws .1 .1 .1 .1 .1 .1 .1 .1 .1 .0) (ws .1 .1 .1 .1 .1 .1 .1 .1 .1 .1 .0)))) (λ e.
+        fsplit ! $
+        move ! (1 ∷ []) $
         fsplit ! $
         move ! (1 ∷ []) $
         fsplit ! $
@@ -117,7 +122,7 @@ module _ {M : Type 1} (𝓤 : URA M) (H : Heap 𝓤) (A : Atoms 𝓤) (W : Given
         fsplit ! $
         move ! (1 ∷ []) $
         feqL ! (λ l₇.
-        move ! (11 ∷ []) $
+        move ! (12 ∷ []) $
         split ! $
         split ! $
         move ! (1 ∷ []) $
@@ -163,12 +168,12 @@ module _ {M : Type 1} (𝓤 : URA M) (H : Heap 𝓤) (A : Atoms 𝓤) (W : Given
         join ! $
         move ! (2 ∷ 0 ∷ []) $
         join ! $
-        keep ! (0 ∷ 2 ∷ []) $ by ! (gives 𝓤 H A W (Loan-build-see-mut-mut-mut-mut-mut-mut-mut long₂ long₃ long₄ long₅ long₆ long₇ long₈ sized₂ sized₃ sized₄ sized₅ sized₆ sized₇ sized₈) D.the-row (λ x r. Obeys (lending axes mode job work pairs (buffers out ids map log origins)) r (leaves (x .1 .0) (x .1 .1 .0) (buffers (x .1 .1 .1 .0) (x .1 .1 .1 .1 .0) (x .1 .1 .1 .1 .1 .0) (x .1 .1 .1 .1 .1 .1 .0) (x .1 .1 .1 .1 .1 .1 .1)))) g w r ((tt, (ws .1 .1 .1 .0, (ws .1 .1 .1 .1 .0, (ws .1 .1 .1 .1 .1 .0, (ws .1 .1 .1 .1 .1 .1 .0, (ws .1 .1 .1 .1 .1 .1 .1 .0, (ws .1 .1 .1 .1 .1 .1 .1 .1 .0, ws .1 .1 .1 .1 .1 .1 .1 .1 .1 .0)))))))) ((tt, (l₁ ∙ long₂, (l₂ ∙ long₃, (l₃ ∙ long₄, (l₄ ∙ long₅, (l₅ ∙ long₆, (l₆ ∙ long₇, l₇ ∙ long₈))))))), e))))))))))))
+        keep ! (0 ∷ 2 ∷ []) $ by ! (gives 𝓤 H A W (Loan-build-see-mut-mut-mut-mut-mut-mut-mut long₂ long₃ long₄ long₅ long₆ long₇ long₈ sized₂ sized₃ sized₄ sized₅ sized₆ sized₇ sized₈) D.the-row (λ x r. ObeysBy profile (lending axes mode job work pairs (buffers out ids map log origins)) r (leaves (x .1 .0) (x .1 .1 .0) (buffers (x .1 .1 .1 .0) (x .1 .1 .1 .1 .0) (x .1 .1 .1 .1 .1 .0) (x .1 .1 .1 .1 .1 .1 .0) (x .1 .1 .1 .1 .1 .1 .1)))) g w r ((tt, (ws .1 .1 .1 .1 .0, (ws .1 .1 .1 .1 .1 .0, (ws .1 .1 .1 .1 .1 .1 .0, (ws .1 .1 .1 .1 .1 .1 .1 .0, (ws .1 .1 .1 .1 .1 .1 .1 .1 .0, (ws .1 .1 .1 .1 .1 .1 .1 .1 .1 .0, ws .1 .1 .1 .1 .1 .1 .1 .1 .1 .1 .0)))))))) ((tt, (l₁ ∙ long₂, (l₂ ∙ long₃, (l₃ ∙ long₄, (l₄ ∙ long₅, (l₅ ∙ long₆, (l₆ ∙ long₇, l₇ ∙ long₈))))))), e))))))))))))
 
-    pub build-see-mut-mut-mut-mut-mut-mut-mut : (long₂ : length work ≡ ν₂) (long₃ : length pairs ≡ ν₃) (long₄ : length out ≡ ν₄) (long₅ : length ids ≡ ν₅) (long₆ : length map ≡ ν₆) (long₇ : length log ≡ ν₇) (long₈ : length origins ≡ ν₈) (sized₂ : Room u32 ν₂) (sized₃ : Room T.the-row ν₃) (sized₄ : Room u8 ν₄) (sized₅ : Room u32 ν₅) (sized₆ : Room u32 ν₆) (sized₇ : Room u32 ν₇) (sized₈ : Room u32 ν₈) → axes < 2 ^ 32 → mode < 2 ^ 32 → ent 𝓤 (mean 𝓤 H A (Loan-build-see-mut-mut-mut-mut-mut-mut-mut long₂ long₃ long₄ long₅ long₆ long₇ long₈ sized₂ sized₃ sized₄ sized₅ sized₆ sized₇ sized₈ .held)) (H .⇛ (C #packer·build (vint w32 axes ∷ vint w32 mode ∷ sliceVal (β, ι) ν ∷ sliceVal (β₂, ι₂) ν₂ ∷ sliceVal (β₃, ι₃) ν₃ ∷ sliceVal (β₄, ι₄) ν₄ ∷ sliceVal (β₅, ι₅) ν₅ ∷ sliceVal (β₆, ι₆) ν₆ ∷ sliceVal (β₇, ι₇) ν₇ ∷ sliceVal (β₈, ι₈) ν₈ ∷ []) (λ w. mean 𝓤 H A (After-build-see-mut-mut-mut-mut-mut-mut-mut w))))
-    build-see-mut-mut-mut-mut-mut-mut-mut long₂ long₃ long₄ long₅ long₆ long₇ long₈ sized₂ sized₃ sized₄ sized₅ sized₆ sized₇ sized₈ g-axes g-mode = loan-call 𝓤 H A W (Loan-build-see-mut-mut-mut-mut-mut-mut-mut long₂ long₃ long₄ long₅ long₆ long₇ long₈ sized₂ sized₃ sized₄ sized₅ sized₆ sized₇ sized₈) D.the-row (λ x r. Obeys (lending axes mode job work pairs (buffers out ids map log origins)) r (leaves (x .1 .0) (x .1 .1 .0) (buffers (x .1 .1 .1 .0) (x .1 .1 .1 .1 .0) (x .1 .1 .1 .1 .1 .0) (x .1 .1 .1 .1 .1 .1 .0) (x .1 .1 .1 .1 .1 .1 .1)))) C fm #packer·build (vint w32 axes ∷ vint w32 mode ∷ sliceVal (β, ι) ν ∷ sliceVal (β₂, ι₂) ν₂ ∷ sliceVal (β₃, ι₃) ν₃ ∷ sliceVal (β₄, ι₄) ν₄ ∷ sliceVal (β₅, ι₅) ν₅ ∷ sliceVal (β₆, ι₆) ν₆ ∷ sliceVal (β₇, ι₇) ν₇ ∷ sliceVal (β₈, ι₈) ν₈ ∷ []) (λ g.
+    pub build-see-mut-mut-mut-mut-mut-mut-mut : (long₂ : length work ≡ ν₂) (long₃ : length pairs ≡ ν₃) (long₄ : length out ≡ ν₄) (long₅ : length ids ≡ ν₅) (long₆ : length map ≡ ν₆) (long₇ : length log ≡ ν₇) (long₈ : length origins ≡ ν₈) (sized₂ : Room u32 ν₂) (sized₃ : Room T.the-row ν₃) (sized₄ : Room u8 ν₄) (sized₅ : Room u32 ν₅) (sized₆ : Room u32 ν₆) (sized₇ : Room u32 ν₇) (sized₈ : Room u32 ν₈) → Is E.the-row profile (EL.val E.the-type E′.the-laws profile ∷ []) → axes < 2 ^ 32 → mode < 2 ^ 32 → ent 𝓤 (mean 𝓤 H A (Loan-build-see-mut-mut-mut-mut-mut-mut-mut long₂ long₃ long₄ long₅ long₆ long₇ long₈ sized₂ sized₃ sized₄ sized₅ sized₆ sized₇ sized₈ .held)) (H .⇛ (C #packer·build (EL.val E.the-type E′.the-laws profile ∷ vint w32 axes ∷ vint w32 mode ∷ sliceVal (β, ι) ν ∷ sliceVal (β₂, ι₂) ν₂ ∷ sliceVal (β₃, ι₃) ν₃ ∷ sliceVal (β₄, ι₄) ν₄ ∷ sliceVal (β₅, ι₅) ν₅ ∷ sliceVal (β₆, ι₆) ν₆ ∷ sliceVal (β₇, ι₇) ν₇ ∷ sliceVal (β₈, ι₈) ν₈ ∷ []) (λ w. mean 𝓤 H A (After-build-see-mut-mut-mut-mut-mut-mut-mut w))))
+    build-see-mut-mut-mut-mut-mut-mut-mut long₂ long₃ long₄ long₅ long₆ long₇ long₈ sized₂ sized₃ sized₄ sized₅ sized₆ sized₇ sized₈ g-profile g-axes g-mode = loan-call 𝓤 H A W (Loan-build-see-mut-mut-mut-mut-mut-mut-mut long₂ long₃ long₄ long₅ long₆ long₇ long₈ sized₂ sized₃ sized₄ sized₅ sized₆ sized₇ sized₈) D.the-row (λ x r. ObeysBy profile (lending axes mode job work pairs (buffers out ids map log origins)) r (leaves (x .1 .0) (x .1 .1 .0) (buffers (x .1 .1 .1 .0) (x .1 .1 .1 .1 .0) (x .1 .1 .1 .1 .1 .0) (x .1 .1 .1 .1 .1 .1 .0) (x .1 .1 .1 .1 .1 .1 .1)))) C fm #packer·build (EL.val E.the-type E′.the-laws profile ∷ vint w32 axes ∷ vint w32 mode ∷ sliceVal (β, ι) ν ∷ sliceVal (β₂, ι₂) ν₂ ∷ sliceVal (β₃, ι₃) ν₃ ∷ sliceVal (β₄, ι₄) ν₄ ∷ sliceVal (β₅, ι₅) ν₅ ∷ sliceVal (β₆, ι₆) ν₆ ∷ sliceVal (β₇, ι₇) ν₇ ∷ sliceVal (β₈, ι₈) ν₈ ∷ []) (λ g.
         qed W (Loan-build-see-mut-mut-mut-mut-mut-mut-mut long₂ long₃ long₄ long₅ long₆ long₇ long₈ sized₂ sized₃ sized₄ sized₅ sized₆ sized₇ sized₈ .goes g ∷ []) ∵
-        suffices ! (C #packer·build (vint w32 axes ∷ vint w32 mode ∷ sliceVal (β, ι) ν ∷ sliceVal (β₂, ι₂) ν₂ ∷ sliceVal (β₃, ι₃) ν₃ ∷ sliceVal (β₄, ι₄) ν₄ ∷ sliceVal (β₅, ι₅) ν₅ ∷ sliceVal (β₆, ι₆) ν₆ ∷ sliceVal (β₇, ι₇) ν₇ ∷ sliceVal (β₈, ι₈) ν₈ ∷ []) (Build-of 𝓤 H A mem run .post (at-build-see-mut-mut-mut-mut-mut-mut-mut g))) (fm→monoC 𝓤 H (W .laws) C fm #packer·build (vint w32 axes ∷ vint w32 mode ∷ sliceVal (β, ι) ν ∷ sliceVal (β₂, ι₂) ν₂ ∷ sliceVal (β₃, ι₃) ν₃ ∷ sliceVal (β₄, ι₄) ν₄ ∷ sliceVal (β₅, ι₅) ν₅ ∷ sliceVal (β₆, ι₆) ν₆ ∷ sliceVal (β₇, ι₇) ν₇ ∷ sliceVal (β₈, ι₈) ν₈ ∷ []) (Build-of 𝓤 H A mem run .post (at-build-see-mut-mut-mut-mut-mut-mut-mut g)) _ (leaves-build-see-mut-mut-mut-mut-mut-mut-mut long₂ long₃ long₄ long₅ long₆ long₇ long₈ sized₂ sized₃ sized₄ sized₅ sized₆ sized₇ sized₈ g)) $
+        suffices ! (C #packer·build (EL.val E.the-type E′.the-laws profile ∷ vint w32 axes ∷ vint w32 mode ∷ sliceVal (β, ι) ν ∷ sliceVal (β₂, ι₂) ν₂ ∷ sliceVal (β₃, ι₃) ν₃ ∷ sliceVal (β₄, ι₄) ν₄ ∷ sliceVal (β₅, ι₅) ν₅ ∷ sliceVal (β₆, ι₆) ν₆ ∷ sliceVal (β₇, ι₇) ν₇ ∷ sliceVal (β₈, ι₈) ν₈ ∷ []) (Build-of 𝓤 H A mem run .post (at-build-see-mut-mut-mut-mut-mut-mut-mut g))) (fm→monoC 𝓤 H (W .laws) C fm #packer·build (EL.val E.the-type E′.the-laws profile ∷ vint w32 axes ∷ vint w32 mode ∷ sliceVal (β, ι) ν ∷ sliceVal (β₂, ι₂) ν₂ ∷ sliceVal (β₃, ι₃) ν₃ ∷ sliceVal (β₄, ι₄) ν₄ ∷ sliceVal (β₅, ι₅) ν₅ ∷ sliceVal (β₆, ι₆) ν₆ ∷ sliceVal (β₇, ι₇) ν₇ ∷ sliceVal (β₈, ι₈) ν₈ ∷ []) (Build-of 𝓤 H A mem run .post (at-build-see-mut-mut-mut-mut-mut-mut-mut g)) _ (leaves-build-see-mut-mut-mut-mut-mut-mut-mut long₂ long₃ long₄ long₅ long₆ long₇ long₈ sized₂ sized₃ sized₄ sized₅ sized₆ sized₇ sized₈ g)) $
         suffices ! (Build-of 𝓤 H A mem run .pre (at-build-see-mut-mut-mut-mut-mut-mut-mut g)) (known (at-build-see-mut-mut-mut-mut-mut-mut-mut g)) $ split ! $
         split ! $
         move ! (2 ∷ []) $
@@ -228,6 +233,8 @@ module _ {M : Type 1} (𝓤 : URA M) (H : Heap 𝓤) (A : Atoms 𝓤) (W : Given
         owned ! u32 (Is u32) (uint-makes 𝓤 H A W w32) mode _ (refl, g-mode) $
         fjoin ! $
         owned ! u32 (Is u32) (uint-makes 𝓤 H A W w32) axes _ (refl, g-axes) $
+        fjoin ! $
+        owned ! E.the-row (Is E.the-row) (EL.makes E.the-type E′.the-plain 𝓤 H A) profile _ g-profile $
         fjoin ! $
         move ! (1 ∷ 0 ∷ []) $
         join ! $

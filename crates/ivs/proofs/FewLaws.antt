@@ -7,6 +7,9 @@ use Rattle.finishing.specs.declared.answers.Built.the-variants.{Refused, Done}
 use Rattle.finishing.specs.declared.answers.Built.the-variants as built
 use Rattle.call.specs.Lending.{Lending}
 use Rattle.call.specs.Build.{answerOf}
+use Rattle.call.specs.Profiled.{answerBy}
+use Rattle.panel.specs.declared.Profile.the-variants.{Panel}
+use Rattle.profiled.proofs.Rows.{panel-few, refused-alike}
 use Rattle.reporting.specs.Answers.{numberFew, byteWithin}
 use Rattle.demands.proofs.OutcomeRows.{numbers-most}
 use Rattle.demands.proofs.RecordRows.{zero-within}
@@ -17,12 +20,23 @@ use Rattle.demands.proofs.ForetoldLaws.{foretold-law}
 -- ---- a build
 
 pub answer-few : (c : Lending) (b : Built) → b ≡ answerOf c → numberFew b
-answer-few c (built.Refused n at) e = numbers-most c n at (sym e)
+answer-few c (built.Refused n at) e = let h = numbers-most c n at (sym e) in omega arith
 answer-few c (built.Done d) e = tt
 
 pub answer-within : (c : Lending) (b : Built) → b ≡ answerOf c → byteWithin (c .job) b
 answer-within c (built.Refused n at) e = λ z. let h = zero-within c at (sym e ∙ ap (λ (k : ℕ). Refused k at) z) in omega arith
 answer-within c (built.Done d) e = tt
+
+-- ---- a build by the panel's profile
+
+pub panel-answer-few : (c : Lending) (b : Built) → b ≡ answerBy Panel c → numberFew b
+panel-answer-few c (built.Refused n at) e = panel-few c n at (sym e)
+panel-answer-few c (built.Done d) e = tt
+
+pub panel-answer-within : (c : Lending) (b : Built) → b ≡ answerBy Panel c → byteWithin (c .job) b
+panel-answer-within c (built.Refused n at) e =
+    λ z. answer-within c (Refused n at) (sym (refused-alike c n at (λ y. omega arith) (λ y. omega arith) (λ y. omega arith) (sym e))) z
+panel-answer-within c (built.Done d) e = tt
 
 -- ---- a forecast, whose numbers are a build's
 

@@ -5,13 +5,21 @@ use Prim.Native.Nat.{ℕ}
 use Rattle.pairs.specs.declared.Pair.{Pair}
 use Rattle.finishing.specs.declared.answers.Built.{Built}
 use Rattle.call.specs.Lending.{Lending, Left}
-use Rattle.packer.specs.Promised.{Obeys, Foretells}
+use Rattle.packer.specs.Promised.{Obeys, ObeysBy, Foretells}
+use Rattle.panel.specs.declared.Profile.the-variants.{Panel}
 use Rattle.reporting.specs.Answers.{numberOf, reportWords, filled}
 
 -- the number that is returned, all that is left, and the report before and after
 pub record Answered (c : Lending) (number : ℕ) (l : Left) (report report′ : List ℕ) : Type 0 where
   pub answer : Built
   pub obeys : Obeys c answer l
+  pub number-is : number ≡ numberOf answer
+  pub report-is : report′ ≡ filled 0 (reportWords (c .job) answer) report
+
+-- by the panel's profile
+pub record PanelAnswered (c : Lending) (number : ℕ) (l : Left) (report report′ : List ℕ) : Type 0 where
+  pub answer : Built
+  pub obeys : ObeysBy Panel c answer l
   pub number-is : number ≡ numberOf answer
   pub report-is : report′ ≡ filled 0 (reportWords (c .job) answer) report
 

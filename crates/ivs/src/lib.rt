@@ -1,15 +1,18 @@
 // The library's entry points: what a host links (libivs.a). They turn answers into numbers, and do nothing else.
 mod foretelling;
 mod glyph_map;
+mod panel_build;
 mod part;
 mod width_table;
 
 pub use crate::foretelling::ivs_forecast;
 pub use crate::glyph_map::ivs_read_glyph;
 pub use crate::glyph_map::ivs_write_glyphs;
+pub use crate::panel_build::ivs_build_panel;
 pub use crate::part::ivs_part;
 pub use crate::width_table::ivs_read_width;
 pub use crate::width_table::ivs_write_widths;
+use packer::Profile;
 use pairs::Pair;
 use reporting::tell;
 ghost use mathlib.Core.Path.{_≡_};
@@ -53,6 +56,18 @@ pub extern "C" fn ivs_build(
 ) -> u32
     ensures { λ r. ⌜ Answered (lending axes mode (now (job .entry)) (now (work .entry)) (now (pairs .entry)) (buffers (now (out .entry)) (now (ids .entry)) (now (map .entry)) (now (log .entry)) (now (origins .entry)))) r (leaves (now (work .exit)) (now (pairs .exit)) (buffers (now (out .exit)) (now (ids .exit)) (now (map .exit)) (now (log .exit)) (now (origins .exit)))) (now (report .entry)) (now (report .exit)) ⌝ }
 {
-    let answer = packer::build(axes, mode, job, work, pairs, out, ids, map, log, origins);
+    let answer = packer::build(
+        Profile::Plain,
+        axes,
+        mode,
+        job,
+        work,
+        pairs,
+        out,
+        ids,
+        map,
+        log,
+        origins,
+    );
     tell(report, job, answer)
 }

@@ -2,3 +2,4 @@ pub mod KeptLaws
 pub mod OpenLaws
 pub mod RecordsLaws
 pub mod StartLaws
+pub mod TakenLaws

@@ -12,14 +12,16 @@ use Rattle.said.specs.Records.{recordCount}
 use Rattle.encoder.specs.declared.places.Places.{Places}
 use Rattle.encoder.specs.LentArranged.{tablesOf, JoinFit}
 use Rattle.opening.specs.declared.opening.Stage.{Stage}
+use Rattle.panel.specs.declared.Profile.{Profile}
+use Rattle.panel.specs.Panelled.{panelled}
 use Rattle.opening.specs.LentCollected.{Collected}
 
 -- no tables
 abbrev pub noPlaces : Places
 noPlaces = record { sets = 0; regions = 0; room = 0; line = 0; first = 0; ids = 0; kinds = 0; slots = 0; order = 0; counts = 0; homes = 0; place = 0; costs = 0; living = 0; columns = 0; spots = 0; finals = 0; into = 0; log = 0; rows = 3 }
 
-abbrev pub refusedAt : Bool → ℕ → ℕ → Stage
-refusedAt early n i = record { early = early; no = n; at = i; axes = 0; mode = 0; starts = 0; places = noPlaces; groups = 0; distinct = 0 }
+abbrev pub refusedAt : Profile → Bool → ℕ → ℕ → Stage
+refusedAt p early n i = record { profile = p; early = early; no = n; at = i; axes = 0; mode = 0; starts = 0; places = noPlaces; groups = 0; distinct = 0 }
 
 -- a job that says x is read: there are too many shapes, or its sets are held in work, and grouped in mode 0
 pub record Grouped (axes mode : ℕ) (job : List ℕ) (x : Said) (s : Stage) (w : List ℕ) : Type 0 where
@@ -35,14 +37,16 @@ abbrev pub Read : ℕ → ℕ → List ℕ → Outcome → Stage → List ℕ �
 Read axes mode job (refused n i) s w = (s .no ≡ n) × (s .at ≡ i) × (n ≡ 0 → ⊥)
 Read axes mode job (fine x) s w = Grouped axes mode job x s w
 
-pub record ReadAt (axes mode : ℕ) (job : List ℕ) (o : Outcome) (s : Stage) (w : List ℕ) : Type 0 where
+pub record ReadAt (p : Profile) (axes mode : ℕ) (job : List ℕ) (o : Outcome) (s : Stage) (w : List ℕ) : Type 0 where
+  pub profile-is : s .profile ≡ p
   pub not-early : s .early ≡ false
   pub is : Read axes mode job o s w
   pub ready : Ready (tablesOf (s .places) (s .groups)) w
 
--- a build that is lent so many pair records was opened
-pub record OpenedAt (axes mode : ℕ) (job old : List ℕ) (pairs : ℕ) (new : List ℕ) (s : Stage) : Type 0 where
+-- a build by a profile that is lent so many pair records was opened
+pub record OpenedAt (p : Profile) (axes mode : ℕ) (job old : List ℕ) (pairs : ℕ) (new : List ℕ) (s : Stage) : Type 0 where
+  pub profile-is : s .profile ≡ p
   pub long : length new ≡ length old
   pub at-once : s .early ≡ true → (new ≡ old) × (s .no ≡ earlyNo axes mode (length job) (length old) pairs) × (s .no ≡ 0 → ⊥) × (s .at ≡ 0) × (s .groups ≡ 0)
-  pub after : s .early ≡ false → (earlyNo axes mode (length job) (length old) pairs ≡ 0) × Read axes mode job (recordsFrom axes mode job job (recordCount job) 0 inAxes) s new
+  pub after : s .early ≡ false → (earlyNo axes mode (length job) (length old) pairs ≡ 0) × Read axes mode job (panelled p job (recordsFrom axes mode job job (recordCount job) 0 inAxes)) s new
   pub ready : Ready (tablesOf (s .places) (s .groups)) new

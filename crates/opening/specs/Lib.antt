@@ -1,2 +1,3 @@
 pub mod LentCollected
 pub mod LentOpened
+pub mod LentTaken

@@ -1,5 +1,6 @@
 // The first part of a build: a job checked, its records read into work, its sets grouped.
 mod opening;
+mod taking;
 
 pub use opening::Stage;
 pub use opening::nowhere;

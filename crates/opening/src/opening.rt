@@ -1,11 +1,12 @@
-// The first part of a build: the checks, a job's records read into work, its sets grouped.
+// The first part of a build: the checks, a job's records read into work by a profile, its sets grouped.
+use crate::taking::take_job;
 use encoder::Gathering;
 use encoder::Places;
 use encoder::gather;
 use encoder::lay_out;
 use job::early_no;
-use job::read_job;
 use laws::wide;
+use panel::Profile;
 use records::coords_start;
 use records::records_in;
 use said::Refusal;
@@ -13,16 +14,18 @@ ghost use mathlib.Core.Path.{_≡_};
 ghost use mathlib.Core.Bool.{true, false};
 ghost use Prim.Native.Nat.{ℕ, _+_, _*_, _<_, _≤_};
 ghost use lib.ListN.{length, getD};
-ghost use Rattle.said.specs.Records.{recordStart};
+ghost use Rattle.said.specs.Records.{recordStart, recordCount};
 ghost use Rattle.said.specs.Refusals.{publishedWork};
 ghost use Rattle.said.specs.Job.{recordsFrom, inAxes};
+ghost use Rattle.panel.specs.Panelled.{panelled};
 ghost use Rattle.limits.specs.Limits.{mostRecords, mostAxes, maxRegions};
 ghost use Rattle.opening.specs.LentCollected.{StartsAt};
 ghost use Rattle.opening.specs.LentOpened.{noPlaces, refusedAt, ReadAt, OpenedAt};
 
-// Where a build stands before merging: refused by number and place, `early` if nothing was written yet; or, where the number is 0, with its sets
+// Where a build by a profile stands before merging: refused by number and place, `early` if nothing was written yet; or, where the number is 0, with its sets
 // held in work, for so many axes and by a mode, in so many groups of so many distinct sets.
 pub struct Stage {
+    pub profile: Profile,
     pub early: bool,
     pub no: usize,
     pub at: usize,
@@ -63,10 +66,11 @@ pub fn nowhere() -> Places
 }
 
 // A refusal.
-fn refuse(early: bool, no: usize, at: usize) -> Stage
-    ensures { λ r. ⌜ r ≡ refusedAt early no at ⌝ }
+fn refuse(profile: Profile, early: bool, no: usize, at: usize) -> Stage
+    ensures { λ r. ⌜ r ≡ refusedAt profile early no at ⌝ }
 {
     Stage {
+        profile,
         early,
         no,
         at,
@@ -95,19 +99,28 @@ fn place_starts(work: &mut [u32], at: usize, n: usize, axes: usize)
 }
 
 // Reads the records of a job whose axis count, mode, length and work are right, and groups its sets in mode 0.
-fn open_records(axes: usize, mode: u32, job: &[u8], records: usize, work: &mut [u32]) -> Stage
+fn open_records(
+    profile: Profile,
+    axes: usize,
+    mode: u32,
+    job: &[u8],
+    records: usize,
+    work: &mut [u32],
+) -> Stage
+    requires { ⌜ records ≡ recordCount (now job) ⌝ }
     requires { ⌜ (recordStart records ≤ length (now job)) × (0 < axes) × (axes ≤ mostAxes) × (records ≤ mostRecords) × (publishedWork records ≤ length (now work)) ⌝ }
-    ensures { λ r. ⌜ ReadAt axes mode (now (job .entry)) (recordsFrom axes mode (now (job .entry)) (now (job .entry)) records 0 inAxes) r (now (work .exit)) ⌝ }
+    ensures { λ r. ⌜ ReadAt profile axes mode (now (job .entry)) (panelled profile (now (job .entry)) (recordsFrom axes mode (now (job .entry)) (now (job .entry)) records 0 inAxes)) r (now (work .exit)) ⌝ }
 {
-    let r = read_job(job, axes, mode, records, work);
+    let r = take_job(profile, job, axes, mode, records, work);
     if r.no != 0 {
-        return refuse(false, r.no, r.at);
+        return refuse(profile, false, r.no, r.at);
     }
     let starts = 4 * records;
     place_starts(work, starts, r.uses, axes);
     let places = lay_out(starts + r.uses, r.sets, r.uses);
     if mode != 0 {
         return Stage {
+            profile,
             early: false,
             no: 0,
             at: 0,
@@ -120,9 +133,10 @@ fn open_records(axes: usize, mode: u32, job: &[u8], records: usize, work: &mut [
         };
     }
     let Gathering::Groups(groups, distinct) = gather(work, places) else {
-        return refuse(false, Refusal::SHAPES_FULL, 0);
+        return refuse(profile, false, Refusal::SHAPES_FULL, 0);
     };
     Stage {
+        profile,
         early: false,
         no: 0,
         at: 0,
@@ -136,12 +150,19 @@ fn open_records(axes: usize, mode: u32, job: &[u8], records: usize, work: &mut [
 }
 
 // Takes every job, sound or not, with so many pair records lent.
-pub fn open(axes: u32, mode: u32, job: &[u8], work: &mut [u32], pairs: usize) -> Stage
-    ensures { λ r. ⌜ OpenedAt axes mode (now (job .entry)) (now (work .entry)) pairs (now (work .exit)) r ⌝ }
+pub fn open(
+    profile: Profile,
+    axes: u32,
+    mode: u32,
+    job: &[u8],
+    work: &mut [u32],
+    pairs: usize,
+) -> Stage
+    ensures { λ r. ⌜ OpenedAt profile axes mode (now (job .entry)) (now (work .entry)) pairs (now (work .exit)) r ⌝ }
 {
     let no = early_no(axes, mode, job.len(), work.len(), pairs);
     if no != 0 {
-        return refuse(true, no, 0);
+        return refuse(profile, true, no, 0);
     }
-    open_records(wide(axes), mode, job, records_in(job.len()), work)
+    open_records(profile, wide(axes), mode, job, records_in(job.len()), work)
 }

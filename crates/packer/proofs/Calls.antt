@@ -24,9 +24,11 @@ use denote.Builtin.{u8, u32, usize}
 use denote.Slice.{sliceVal, Room}
 use denote.Steps.{owned, heard, nothing}
 use denote.Struct.Laws as LL
+use denote.Enum.Laws as EL
 use denote.Triple.Spec.{tripleOf}
 use denote.Triple.Statement.{Contract, Triple}
 use denote.Triple.Clauses.{Lasts, lasts}
+use Rattle.panel.specs.declared.Profile.the-variants.{Plain}
 use Rattle.opening.specs.LentOpened.{OpenedAt}
 use Rattle.arranging.specs.LentArranged.{Joined, PairsUsed}
 use Rattle.closing.specs.LentClosed.{CloseFit, Closed, ForeseeFit, Foreseen}
@@ -46,6 +48,10 @@ use Rattle.merging.proofs.optimizing.Merged.Laws as D′
 use Rattle.encoder.specs.declared.places.Places.{Places}
 use Rattle.encoder.proofs.places.Places as P
 use Rattle.encoder.proofs.places.Places.Laws as P′
+use Rattle.panel.specs.declared.Profile.{Profile}
+use Rattle.panel.proofs.Profile as E
+use Rattle.panel.proofs.Profile.Laws as E′
+use Rattle.panel.specs.declared.Profile.the-variants.{Plain}
 use Rattle.opening.specs.declared.opening.Stage.{Stage}
 use Rattle.opening.proofs.opening.Stage as S
 use Rattle.opening.proofs.opening.Stage.Laws as S′
@@ -81,7 +87,7 @@ abbrev pub places-mach : Places → Val
 places-mach x = vstruct (vcons (vint w64 (x .sets)) (vcons (vint w64 (x .regions)) (vcons (vint w64 (x .room)) (vcons (vint w64 (x .line)) (vcons (vint w64 (x .first)) (vcons (vint w64 (x .ids)) (vcons (vint w64 (x .kinds)) (vcons (vint w64 (x .slots)) (vcons (vint w64 (x .order)) (vcons (vint w64 (x .counts)) (vcons (vint w64 (x .homes)) (vcons (vint w64 (x .place)) (vcons (vint w64 (x .costs)) (vcons (vint w64 (x .living)) (vcons (vint w64 (x .columns)) (vcons (vint w64 (x .spots)) (vcons (vint w64 (x .finals)) (vcons (vint w64 (x .into)) (vcons (vint w64 (x .log)) (vcons (vint w64 (x .rows)) vnil))))))))))))))))))))
 
 abbrev pub stage-mach : Stage → Val
-stage-mach x = vstruct (vcons (vbool (x .early)) (vcons (vint w64 (x .no)) (vcons (vint w64 (x .at)) (vcons (vint w64 (x .axes)) (vcons (vint w32 (x .mode)) (vcons (vint w64 (x .starts)) (vcons (places-mach (x .places)) (vcons (vint w64 (x .groups)) (vcons (vint w64 (x .distinct)) vnil)))))))))
+stage-mach x = vstruct (vcons (EL.val E.the-type E′.the-laws (x .profile)) (vcons (vbool (x .early)) (vcons (vint w64 (x .no)) (vcons (vint w64 (x .at)) (vcons (vint w64 (x .axes)) (vcons (vint w32 (x .mode)) (vcons (vint w64 (x .starts)) (vcons (places-mach (x .places)) (vcons (vint w64 (x .groups)) (vcons (vint w64 (x .distinct)) vnil))))))))))
 
 module _ {M : Type 1} (𝓤 : URA M) (H : Heap 𝓤) (A : Atoms 𝓤) (mem : Memory → SProp 𝓤) (run : Routine → Fun 𝓤) where
   abbrev pub Open-of : Contract 𝓤
@@ -106,23 +112,25 @@ module _ {M : Type 1} (𝓤 : URA M) (H : Heap 𝓤) (A : Atoms 𝓤) (mem : Mem
   ClearPairs-of = tripleOf 𝓤 H A clear-pairs.signature (clear-pairs.spec 𝓤 H A mem run)
 
 module _ {M : Type 1} (𝓤 : URA M) (H : Heap 𝓤) (A : Atoms 𝓤) (W : Given 𝓤 H A) (mem : Memory → SProp 𝓤) (run : Routine → Fun 𝓤) where
-  module _ (C : Calls 𝓤 H) (fm : FmC 𝓤 H (W .laws) C) (known : Triple 𝓤 (C #opening·opens) (Open-of 𝓤 H A mem run)) (κ : Lft) (θ : Share) (γ : GName) (β ι : ℕ) (ν : ℕ) (job : List ℕ) (κ₂ : Lft) (θ₂ : Share) (γ₂ : GName) (β₂ ι₂ : ℕ) (ν₂ : ℕ) (work : List ℕ) (axes : ℕ) (mode : ℕ) (count : ℕ) where
+  module _ (C : Calls 𝓤 H) (fm : FmC 𝓤 H (W .laws) C) (known : Triple 𝓤 (C #opening·opens) (Open-of 𝓤 H A mem run)) (κ : Lft) (θ : Share) (γ : GName) (β ι : ℕ) (ν : ℕ) (job : List ℕ) (κ₂ : Lft) (θ₂ : Share) (γ₂ : GName) (β₂ ι₂ : ℕ) (ν₂ : ℕ) (work : List ℕ) (profile : Profile) (axes : ℕ) (mode : ℕ) (count : ℕ) where
     abbrev Loan-opens-see-mut : (long₂ : length work ≡ ν₂) (sized₂ : Room u32 ν₂) → Loan 𝓤 H A
     Loan-opens-see-mut long₂ sized₂ = both 𝓤 H A W (lent-see u8 κ θ γ β ι 𝓤 H A W job ν) (lent-mut u32 κ₂ θ₂ γ₂ β₂ ι₂ 𝓤 H A W work ν₂ long₂ sized₂)
 
     abbrev pub After-opens-see-mut : Val → Item 𝓤
-    After-opens-see-mut w = later (some (λ (r : Stage). some (λ (x : Unit {0} × List ℕ). given ((Unit {0} × (length (x .1) ≡ ν₂)) × (OpenedAt axes mode job work count (x .1) r)) ((Sees u8 κ θ γ β ι 𝓤 ν job ⊛ Has u32 κ₂ θ₂ γ₂ β₂ ι₂ 𝓤 ν₂ (x .1)) ⊛ ‵ (S.the-row .own r (w ∷ []))))))
+    After-opens-see-mut w = later (some (λ (r : Stage). some (λ (x : Unit {0} × List ℕ). given ((Unit {0} × (length (x .1) ≡ ν₂)) × (OpenedAt profile axes mode job work count (x .1) r)) ((Sees u8 κ θ γ β ι 𝓤 ν job ⊛ Has u32 κ₂ θ₂ γ₂ β₂ ι₂ 𝓤 ν₂ (x .1)) ⊛ ‵ (S.the-row .own r (w ∷ []))))))
 
     abbrev at-opens-see-mut : (g : Unit {0} × (ℕ × GName)) → Open-of 𝓤 H A mem run .Ghost
-    at-opens-see-mut g = (((κ, (g .1 .0 ∷ [], tt)), (θ, (fullShare, tt)), tt, (axes, (mode, (ref u8 κ θ γ β ι γ job, (ref u32 κ₂ θ₂ γ₂ β₂ ι₂ (g .1 .1) work, (count, tt))))), (vint w32 axes ∷ [], (vint w32 mode ∷ [], (sliceVal (β, ι) ν ∷ [], (sliceVal (β₂, ι₂) ν₂ ∷ [], (vint w64 count ∷ [], tt)))))), tt)
+    at-opens-see-mut g = (((κ, (g .1 .0 ∷ [], tt)), (θ, (fullShare, tt)), tt, (profile, (axes, (mode, (ref u8 κ θ γ β ι γ job, (ref u32 κ₂ θ₂ γ₂ β₂ ι₂ (g .1 .1) work, (count, tt)))))), (EL.val E.the-type E′.the-laws profile ∷ [], (vint w32 axes ∷ [], (vint w32 mode ∷ [], (sliceVal (β, ι) ν ∷ [], (sliceVal (β₂, ι₂) ν₂ ∷ [], (vint w64 count ∷ [], tt))))))), tt)
 
-    leaves-opens-see-mut : (long₂ : length work ≡ ν₂) (sized₂ : Room u32 ν₂) → (g : Unit {0} × (ℕ × GName)) → (w : Val) → ent 𝓤 (Open-of 𝓤 H A mem run .post (at-opens-see-mut g) w) (mean 𝓤 H A (Gives 𝓤 H A W (Loan-opens-see-mut long₂ sized₂) S.the-row (λ x r. OpenedAt axes mode job work count (x .1) r) g w))
+    leaves-opens-see-mut : (long₂ : length work ≡ ν₂) (sized₂ : Room u32 ν₂) → (g : Unit {0} × (ℕ × GName)) → (w : Val) → ent 𝓤 (Open-of 𝓤 H A mem run .post (at-opens-see-mut g) w) (mean 𝓤 H A (Gives 𝓤 H A W (Loan-opens-see-mut long₂ sized₂) S.the-row (λ x r. OpenedAt profile axes mode job work count (x .1) r) g w))
     leaves-opens-see-mut long₂ sized₂ g w =
         qed W (later (some (λ (r : Stage). ((‵ (flft (κ) θ) ⊛ ‵ (flft (g .1 .0 ∷ []) fullShare) ⊛ ‵ ftrue) ⊛ ‵ (S.the-row .own r (w ∷ [])))
-        ⊛ some (λ (ws : Lasts opens.ended (κ, (g .1 .0 ∷ [], tt)) (at-opens-see-mut g .0 .3)). ‵ (lasts opens.ended (κ, (g .1 .0 ∷ [], tt)) (at-opens-see-mut g .0 .3) ws) ⊛ raw (fact 𝓤 (OpenedAt axes mode job work count (ws .1 .1 .1 .0) r))))) ∷ []) ∵
+        ⊛ some (λ (ws : Lasts opens.ended (κ, (g .1 .0 ∷ [], tt)) (at-opens-see-mut g .0 .3)). ‵ (lasts opens.ended (κ, (g .1 .0 ∷ [], tt)) (at-opens-see-mut g .0 .3) ws) ⊛ raw (fact 𝓤 (OpenedAt profile axes mode job work count (ws .1 .1 .1 .1 .0) r))))) ∷ []) ∵
         updating ! $ await ! tt $ pick ! (λ r. split ! $ move ! (1 ∷ []) $ pick ! (λ ws. split ! $
         move ! (1 ∷ []) $
-        heard ! (OpenedAt axes mode job work count (ws .1 .1 .1 .0) r) (λ e.
+        heard ! (OpenedAt profile axes mode job work count (ws .1 .1 .1 .1 .0) r) (λ e.
+        fsplit ! $
+        move ! (1 ∷ []) $
         fsplit ! $
         move ! (1 ∷ []) $
         fsplit ! $
@@ -133,7 +141,7 @@ module _ {M : Type 1} (𝓤 : URA M) (H : Heap 𝓤) (A : Atoms 𝓤) (W : Given
         fsplit ! $
         move ! (1 ∷ []) $
         feqL ! (λ l₁.
-        move ! (5 ∷ []) $
+        move ! (6 ∷ []) $
         split ! $
         split ! $
         move ! (1 ∷ []) $
@@ -143,12 +151,12 @@ module _ {M : Type 1} (𝓤 : URA M) (H : Heap 𝓤) (A : Atoms 𝓤) (W : Given
         join ! $
         move ! (2 ∷ 0 ∷ []) $
         join ! $
-        keep ! (0 ∷ 2 ∷ []) $ by ! (gives 𝓤 H A W (Loan-opens-see-mut long₂ sized₂) S.the-row (λ x r. OpenedAt axes mode job work count (x .1) r) g w r ((tt, ws .1 .1 .1 .0)) ((tt, l₁ ∙ long₂), e))))))
+        keep ! (0 ∷ 2 ∷ []) $ by ! (gives 𝓤 H A W (Loan-opens-see-mut long₂ sized₂) S.the-row (λ x r. OpenedAt profile axes mode job work count (x .1) r) g w r ((tt, ws .1 .1 .1 .1 .0)) ((tt, l₁ ∙ long₂), e))))))
 
-    pub opens-see-mut : (long₂ : length work ≡ ν₂) (sized₂ : Room u32 ν₂) → axes < 2 ^ 32 → mode < 2 ^ 32 → count < 2 ^ 64 → ent 𝓤 (mean 𝓤 H A (Loan-opens-see-mut long₂ sized₂ .held)) (H .⇛ (C #opening·opens (vint w32 axes ∷ vint w32 mode ∷ sliceVal (β, ι) ν ∷ sliceVal (β₂, ι₂) ν₂ ∷ vint w64 count ∷ []) (λ w. mean 𝓤 H A (After-opens-see-mut w))))
-    opens-see-mut long₂ sized₂ g-axes g-mode g-count = loan-call 𝓤 H A W (Loan-opens-see-mut long₂ sized₂) S.the-row (λ x r. OpenedAt axes mode job work count (x .1) r) C fm #opening·opens (vint w32 axes ∷ vint w32 mode ∷ sliceVal (β, ι) ν ∷ sliceVal (β₂, ι₂) ν₂ ∷ vint w64 count ∷ []) (λ g.
+    pub opens-see-mut : (long₂ : length work ≡ ν₂) (sized₂ : Room u32 ν₂) → Is E.the-row profile (EL.val E.the-type E′.the-laws profile ∷ []) → axes < 2 ^ 32 → mode < 2 ^ 32 → count < 2 ^ 64 → ent 𝓤 (mean 𝓤 H A (Loan-opens-see-mut long₂ sized₂ .held)) (H .⇛ (C #opening·opens (EL.val E.the-type E′.the-laws profile ∷ vint w32 axes ∷ vint w32 mode ∷ sliceVal (β, ι) ν ∷ sliceVal (β₂, ι₂) ν₂ ∷ vint w64 count ∷ []) (λ w. mean 𝓤 H A (After-opens-see-mut w))))
+    opens-see-mut long₂ sized₂ g-profile g-axes g-mode g-count = loan-call 𝓤 H A W (Loan-opens-see-mut long₂ sized₂) S.the-row (λ x r. OpenedAt profile axes mode job work count (x .1) r) C fm #opening·opens (EL.val E.the-type E′.the-laws profile ∷ vint w32 axes ∷ vint w32 mode ∷ sliceVal (β, ι) ν ∷ sliceVal (β₂, ι₂) ν₂ ∷ vint w64 count ∷ []) (λ g.
         qed W (Loan-opens-see-mut long₂ sized₂ .goes g ∷ []) ∵
-        suffices ! (C #opening·opens (vint w32 axes ∷ vint w32 mode ∷ sliceVal (β, ι) ν ∷ sliceVal (β₂, ι₂) ν₂ ∷ vint w64 count ∷ []) (Open-of 𝓤 H A mem run .post (at-opens-see-mut g))) (fm→monoC 𝓤 H (W .laws) C fm #opening·opens (vint w32 axes ∷ vint w32 mode ∷ sliceVal (β, ι) ν ∷ sliceVal (β₂, ι₂) ν₂ ∷ vint w64 count ∷ []) (Open-of 𝓤 H A mem run .post (at-opens-see-mut g)) _ (leaves-opens-see-mut long₂ sized₂ g)) $
+        suffices ! (C #opening·opens (EL.val E.the-type E′.the-laws profile ∷ vint w32 axes ∷ vint w32 mode ∷ sliceVal (β, ι) ν ∷ sliceVal (β₂, ι₂) ν₂ ∷ vint w64 count ∷ []) (Open-of 𝓤 H A mem run .post (at-opens-see-mut g))) (fm→monoC 𝓤 H (W .laws) C fm #opening·opens (EL.val E.the-type E′.the-laws profile ∷ vint w32 axes ∷ vint w32 mode ∷ sliceVal (β, ι) ν ∷ sliceVal (β₂, ι₂) ν₂ ∷ vint w64 count ∷ []) (Open-of 𝓤 H A mem run .post (at-opens-see-mut g)) _ (leaves-opens-see-mut long₂ sized₂ g)) $
         suffices ! (Open-of 𝓤 H A mem run .pre (at-opens-see-mut g)) (known (at-opens-see-mut g)) $ split ! $
         split ! $
         move ! (2 ∷ []) $
@@ -168,6 +176,8 @@ module _ {M : Type 1} (𝓤 : URA M) (H : Heap 𝓤) (A : Atoms 𝓤) (W : Given
         owned ! u32 (Is u32) (uint-makes 𝓤 H A W w32) mode _ (refl, g-mode) $
         fjoin ! $
         owned ! u32 (Is u32) (uint-makes 𝓤 H A W w32) axes _ (refl, g-axes) $
+        fjoin ! $
+        owned ! E.the-row (Is E.the-row) (EL.makes E.the-type E′.the-plain 𝓤 H A) profile _ g-profile $
         fjoin ! $
         move ! (1 ∷ 0 ∷ []) $
         join ! $
@@ -280,18 +290,18 @@ module _ {M : Type 1} (𝓤 : URA M) (H : Heap 𝓤) (A : Atoms 𝓤) (W : Given
     Loan-close-see-mut-mut-mut-mut-mut-mut long₂ long₃ long₄ long₅ long₆ long₇ sized₂ sized₃ sized₄ sized₅ sized₆ sized₇ = both 𝓤 H A W (lent-see u8 κ θ γ β ι 𝓤 H A W job ν) (both 𝓤 H A W (lent-mut u32 κ₂ θ₂ γ₂ β₂ ι₂ 𝓤 H A W work ν₂ long₂ sized₂) (both 𝓤 H A W (lent-mut u8 κ₃ θ₃ γ₃ β₃ ι₃ 𝓤 H A W out ν₃ long₃ sized₃) (both 𝓤 H A W (lent-mut u32 κ₄ θ₄ γ₄ β₄ ι₄ 𝓤 H A W ids ν₄ long₄ sized₄) (both 𝓤 H A W (lent-mut u32 κ₅ θ₅ γ₅ β₅ ι₅ 𝓤 H A W map ν₅ long₅ sized₅) (both 𝓤 H A W (lent-mut u32 κ₆ θ₆ γ₆ β₆ ι₆ 𝓤 H A W log ν₆ long₆ sized₆) (lent-mut u32 κ₇ θ₇ γ₇ β₇ ι₇ 𝓤 H A W origins ν₇ long₇ sized₇))))))
 
     abbrev pub After-close-see-mut-mut-mut-mut-mut-mut : Val → Item 𝓤
-    After-close-see-mut-mut-mut-mut-mut-mut w = later (some (λ (r : Built). some (λ (x : Unit {0} × (List ℕ × (List ℕ × (List ℕ × (List ℕ × (List ℕ × List ℕ)))))). given ((Unit {0} × ((length (x .1 .0) ≡ ν₂) × ((length (x .1 .1 .0) ≡ ν₃) × ((length (x .1 .1 .1 .0) ≡ ν₄) × ((length (x .1 .1 .1 .1 .0) ≡ ν₅) × ((length (x .1 .1 .1 .1 .1 .0) ≡ ν₆) × (length (x .1 .1 .1 .1 .1 .1) ≡ ν₇))))))) × ((axes mode : ℕ) (old : List ℕ) (count : ℕ) (mid : List ℕ) → OpenedAt axes mode job old count mid stage → Joined stage merged mid work → Closed axes mode job old count r (buffers out ids map log origins) (buffers (x .1 .1 .0) (x .1 .1 .1 .0) (x .1 .1 .1 .1 .0) (x .1 .1 .1 .1 .1 .0) (x .1 .1 .1 .1 .1 .1)) (x .1 .0))) ((Sees u8 κ θ γ β ι 𝓤 ν job ⊛ (Has u32 κ₂ θ₂ γ₂ β₂ ι₂ 𝓤 ν₂ (x .1 .0) ⊛ (Has u8 κ₃ θ₃ γ₃ β₃ ι₃ 𝓤 ν₃ (x .1 .1 .0) ⊛ (Has u32 κ₄ θ₄ γ₄ β₄ ι₄ 𝓤 ν₄ (x .1 .1 .1 .0) ⊛ (Has u32 κ₅ θ₅ γ₅ β₅ ι₅ 𝓤 ν₅ (x .1 .1 .1 .1 .0) ⊛ (Has u32 κ₆ θ₆ γ₆ β₆ ι₆ 𝓤 ν₆ (x .1 .1 .1 .1 .1 .0) ⊛ Has u32 κ₇ θ₇ γ₇ β₇ ι₇ 𝓤 ν₇ (x .1 .1 .1 .1 .1 .1))))))) ⊛ ‵ (B.the-row .own r (w ∷ []))))))
+    After-close-see-mut-mut-mut-mut-mut-mut w = later (some (λ (r : Built). some (λ (x : Unit {0} × (List ℕ × (List ℕ × (List ℕ × (List ℕ × (List ℕ × List ℕ)))))). given ((Unit {0} × ((length (x .1 .0) ≡ ν₂) × ((length (x .1 .1 .0) ≡ ν₃) × ((length (x .1 .1 .1 .0) ≡ ν₄) × ((length (x .1 .1 .1 .1 .0) ≡ ν₅) × ((length (x .1 .1 .1 .1 .1 .0) ≡ ν₆) × (length (x .1 .1 .1 .1 .1 .1) ≡ ν₇))))))) × ((profile : Profile) (axes mode : ℕ) (old : List ℕ) (count : ℕ) (mid : List ℕ) → OpenedAt profile axes mode job old count mid stage → Joined stage merged mid work → Closed profile axes mode job old count r (buffers out ids map log origins) (buffers (x .1 .1 .0) (x .1 .1 .1 .0) (x .1 .1 .1 .1 .0) (x .1 .1 .1 .1 .1 .0) (x .1 .1 .1 .1 .1 .1)) (x .1 .0))) ((Sees u8 κ θ γ β ι 𝓤 ν job ⊛ (Has u32 κ₂ θ₂ γ₂ β₂ ι₂ 𝓤 ν₂ (x .1 .0) ⊛ (Has u8 κ₃ θ₃ γ₃ β₃ ι₃ 𝓤 ν₃ (x .1 .1 .0) ⊛ (Has u32 κ₄ θ₄ γ₄ β₄ ι₄ 𝓤 ν₄ (x .1 .1 .1 .0) ⊛ (Has u32 κ₅ θ₅ γ₅ β₅ ι₅ 𝓤 ν₅ (x .1 .1 .1 .1 .0) ⊛ (Has u32 κ₆ θ₆ γ₆ β₆ ι₆ 𝓤 ν₆ (x .1 .1 .1 .1 .1 .0) ⊛ Has u32 κ₇ θ₇ γ₇ β₇ ι₇ 𝓤 ν₇ (x .1 .1 .1 .1 .1 .1))))))) ⊛ ‵ (B.the-row .own r (w ∷ []))))))
 
     abbrev at-close-see-mut-mut-mut-mut-mut-mut : (g : Unit {0} × ((ℕ × GName) × ((ℕ × GName) × ((ℕ × GName) × ((ℕ × GName) × ((ℕ × GName) × (ℕ × GName))))))) → Close-of 𝓤 H A mem run .Ghost
     at-close-see-mut-mut-mut-mut-mut-mut g = (((κ, (g .1 .0 .0 ∷ [], (g .1 .1 .0 .0 ∷ [], (g .1 .1 .1 .0 .0 ∷ [], (g .1 .1 .1 .1 .0 .0 ∷ [], (g .1 .1 .1 .1 .1 .0 .0 ∷ [], (g .1 .1 .1 .1 .1 .1 .0 ∷ [], tt))))))), (θ, (fullShare, (fullShare, (fullShare, (fullShare, (fullShare, (fullShare, tt))))))), tt, (ref u8 κ θ γ β ι γ job, (ref u32 κ₂ θ₂ γ₂ β₂ ι₂ (g .1 .0 .1) work, (stage, (merged, (ref u8 κ₃ θ₃ γ₃ β₃ ι₃ (g .1 .1 .0 .1) out, (ref u32 κ₄ θ₄ γ₄ β₄ ι₄ (g .1 .1 .1 .0 .1) ids, (ref u32 κ₅ θ₅ γ₅ β₅ ι₅ (g .1 .1 .1 .1 .0 .1) map, (ref u32 κ₆ θ₆ γ₆ β₆ ι₆ (g .1 .1 .1 .1 .1 .0 .1) log, (ref u32 κ₇ θ₇ γ₇ β₇ ι₇ (g .1 .1 .1 .1 .1 .1 .1) origins, tt))))))))), (sliceVal (β, ι) ν ∷ [], (sliceVal (β₂, ι₂) ν₂ ∷ [], (stage-mach stage ∷ [], (mach-merged merged ∷ [], (sliceVal (β₃, ι₃) ν₃ ∷ [], (sliceVal (β₄, ι₄) ν₄ ∷ [], (sliceVal (β₅, ι₅) ν₅ ∷ [], (sliceVal (β₆, ι₆) ν₆ ∷ [], (sliceVal (β₇, ι₇) ν₇ ∷ [], tt)))))))))), tt)
 
-    leaves-close-see-mut-mut-mut-mut-mut-mut : (long₂ : length work ≡ ν₂) (long₃ : length out ≡ ν₃) (long₄ : length ids ≡ ν₄) (long₅ : length map ≡ ν₅) (long₆ : length log ≡ ν₆) (long₇ : length origins ≡ ν₇) (sized₂ : Room u32 ν₂) (sized₃ : Room u8 ν₃) (sized₄ : Room u32 ν₄) (sized₅ : Room u32 ν₅) (sized₆ : Room u32 ν₆) (sized₇ : Room u32 ν₇) → (g : Unit {0} × ((ℕ × GName) × ((ℕ × GName) × ((ℕ × GName) × ((ℕ × GName) × ((ℕ × GName) × (ℕ × GName))))))) → (w : Val) → ent 𝓤 (Close-of 𝓤 H A mem run .post (at-close-see-mut-mut-mut-mut-mut-mut g) w) (mean 𝓤 H A (Gives 𝓤 H A W (Loan-close-see-mut-mut-mut-mut-mut-mut long₂ long₃ long₄ long₅ long₆ long₇ sized₂ sized₃ sized₄ sized₅ sized₆ sized₇) B.the-row (λ x r. (axes mode : ℕ) (old : List ℕ) (count : ℕ) (mid : List ℕ) → OpenedAt axes mode job old count mid stage → Joined stage merged mid work → Closed axes mode job old count r (buffers out ids map log origins) (buffers (x .1 .1 .0) (x .1 .1 .1 .0) (x .1 .1 .1 .1 .0) (x .1 .1 .1 .1 .1 .0) (x .1 .1 .1 .1 .1 .1)) (x .1 .0)) g w))
+    leaves-close-see-mut-mut-mut-mut-mut-mut : (long₂ : length work ≡ ν₂) (long₃ : length out ≡ ν₃) (long₄ : length ids ≡ ν₄) (long₅ : length map ≡ ν₅) (long₆ : length log ≡ ν₆) (long₇ : length origins ≡ ν₇) (sized₂ : Room u32 ν₂) (sized₃ : Room u8 ν₃) (sized₄ : Room u32 ν₄) (sized₅ : Room u32 ν₅) (sized₆ : Room u32 ν₆) (sized₇ : Room u32 ν₇) → (g : Unit {0} × ((ℕ × GName) × ((ℕ × GName) × ((ℕ × GName) × ((ℕ × GName) × ((ℕ × GName) × (ℕ × GName))))))) → (w : Val) → ent 𝓤 (Close-of 𝓤 H A mem run .post (at-close-see-mut-mut-mut-mut-mut-mut g) w) (mean 𝓤 H A (Gives 𝓤 H A W (Loan-close-see-mut-mut-mut-mut-mut-mut long₂ long₃ long₄ long₅ long₆ long₇ sized₂ sized₃ sized₄ sized₅ sized₆ sized₇) B.the-row (λ x r. (profile : Profile) (axes mode : ℕ) (old : List ℕ) (count : ℕ) (mid : List ℕ) → OpenedAt profile axes mode job old count mid stage → Joined stage merged mid work → Closed profile axes mode job old count r (buffers out ids map log origins) (buffers (x .1 .1 .0) (x .1 .1 .1 .0) (x .1 .1 .1 .1 .0) (x .1 .1 .1 .1 .1 .0) (x .1 .1 .1 .1 .1 .1)) (x .1 .0)) g w))
     leaves-close-see-mut-mut-mut-mut-mut-mut long₂ long₃ long₄ long₅ long₆ long₇ sized₂ sized₃ sized₄ sized₅ sized₆ sized₇ g w =
         qed W (later (some (λ (r : Built). ((‵ (flft (κ) θ) ⊛ ‵ (flft (g .1 .0 .0 ∷ []) fullShare) ⊛ ‵ (flft (g .1 .1 .0 .0 ∷ []) fullShare) ⊛ ‵ (flft (g .1 .1 .1 .0 .0 ∷ []) fullShare) ⊛ ‵ (flft (g .1 .1 .1 .1 .0 .0 ∷ []) fullShare) ⊛ ‵ (flft (g .1 .1 .1 .1 .1 .0 .0 ∷ []) fullShare) ⊛ ‵ (flft (g .1 .1 .1 .1 .1 .1 .0 ∷ []) fullShare) ⊛ ‵ ftrue) ⊛ ‵ (B.the-row .own r (w ∷ [])))
-        ⊛ some (λ (ws : Lasts close.ended (κ, (g .1 .0 .0 ∷ [], (g .1 .1 .0 .0 ∷ [], (g .1 .1 .1 .0 .0 ∷ [], (g .1 .1 .1 .1 .0 .0 ∷ [], (g .1 .1 .1 .1 .1 .0 .0 ∷ [], (g .1 .1 .1 .1 .1 .1 .0 ∷ [], tt))))))) (at-close-see-mut-mut-mut-mut-mut-mut g .0 .3)). ‵ (lasts close.ended (κ, (g .1 .0 .0 ∷ [], (g .1 .1 .0 .0 ∷ [], (g .1 .1 .1 .0 .0 ∷ [], (g .1 .1 .1 .1 .0 .0 ∷ [], (g .1 .1 .1 .1 .1 .0 .0 ∷ [], (g .1 .1 .1 .1 .1 .1 .0 ∷ [], tt))))))) (at-close-see-mut-mut-mut-mut-mut-mut g .0 .3) ws) ⊛ raw (fact 𝓤 ((axes mode : ℕ) (old : List ℕ) (count : ℕ) (mid : List ℕ) → OpenedAt axes mode job old count mid stage → Joined stage merged mid work → Closed axes mode job old count r (buffers out ids map log origins) (buffers (ws .1 .1 .1 .1 .0) (ws .1 .1 .1 .1 .1 .0) (ws .1 .1 .1 .1 .1 .1 .0) (ws .1 .1 .1 .1 .1 .1 .1 .0) (ws .1 .1 .1 .1 .1 .1 .1 .1 .0)) (ws .1 .0)))))) ∷ []) ∵
+        ⊛ some (λ (ws : Lasts close.ended (κ, (g .1 .0 .0 ∷ [], (g .1 .1 .0 .0 ∷ [], (g .1 .1 .1 .0 .0 ∷ [], (g .1 .1 .1 .1 .0 .0 ∷ [], (g .1 .1 .1 .1 .1 .0 .0 ∷ [], (g .1 .1 .1 .1 .1 .1 .0 ∷ [], tt))))))) (at-close-see-mut-mut-mut-mut-mut-mut g .0 .3)). ‵ (lasts close.ended (κ, (g .1 .0 .0 ∷ [], (g .1 .1 .0 .0 ∷ [], (g .1 .1 .1 .0 .0 ∷ [], (g .1 .1 .1 .1 .0 .0 ∷ [], (g .1 .1 .1 .1 .1 .0 .0 ∷ [], (g .1 .1 .1 .1 .1 .1 .0 ∷ [], tt))))))) (at-close-see-mut-mut-mut-mut-mut-mut g .0 .3) ws) ⊛ raw (fact 𝓤 ((profile : Profile) (axes mode : ℕ) (old : List ℕ) (count : ℕ) (mid : List ℕ) → OpenedAt profile axes mode job old count mid stage → Joined stage merged mid work → Closed profile axes mode job old count r (buffers out ids map log origins) (buffers (ws .1 .1 .1 .1 .0) (ws .1 .1 .1 .1 .1 .0) (ws .1 .1 .1 .1 .1 .1 .0) (ws .1 .1 .1 .1 .1 .1 .1 .0) (ws .1 .1 .1 .1 .1 .1 .1 .1 .0)) (ws .1 .0)))))) ∷ []) ∵
         updating ! $ await ! tt $ pick ! (λ r. split ! $ move ! (1 ∷ []) $ pick ! (λ ws. split ! $
         move ! (1 ∷ []) $
-        heard ! ((axes mode : ℕ) (old : List ℕ) (count : ℕ) (mid : List ℕ) → OpenedAt axes mode job old count mid stage → Joined stage merged mid work → Closed axes mode job old count r (buffers out ids map log origins) (buffers (ws .1 .1 .1 .1 .0) (ws .1 .1 .1 .1 .1 .0) (ws .1 .1 .1 .1 .1 .1 .0) (ws .1 .1 .1 .1 .1 .1 .1 .0) (ws .1 .1 .1 .1 .1 .1 .1 .1 .0)) (ws .1 .0)) (λ e.
+        heard ! ((profile : Profile) (axes mode : ℕ) (old : List ℕ) (count : ℕ) (mid : List ℕ) → OpenedAt profile axes mode job old count mid stage → Joined stage merged mid work → Closed profile axes mode job old count r (buffers out ids map log origins) (buffers (ws .1 .1 .1 .1 .0) (ws .1 .1 .1 .1 .1 .0) (ws .1 .1 .1 .1 .1 .1 .0) (ws .1 .1 .1 .1 .1 .1 .1 .0) (ws .1 .1 .1 .1 .1 .1 .1 .1 .0)) (ws .1 .0)) (λ e.
         fsplit ! $
         move ! (1 ∷ []) $
         fsplit ! $
@@ -367,10 +377,10 @@ module _ {M : Type 1} (𝓤 : URA M) (H : Heap 𝓤) (A : Atoms 𝓤) (W : Given
         join ! $
         move ! (2 ∷ 0 ∷ []) $
         join ! $
-        keep ! (0 ∷ 2 ∷ []) $ by ! (gives 𝓤 H A W (Loan-close-see-mut-mut-mut-mut-mut-mut long₂ long₃ long₄ long₅ long₆ long₇ sized₂ sized₃ sized₄ sized₅ sized₆ sized₇) B.the-row (λ x r. (axes mode : ℕ) (old : List ℕ) (count : ℕ) (mid : List ℕ) → OpenedAt axes mode job old count mid stage → Joined stage merged mid work → Closed axes mode job old count r (buffers out ids map log origins) (buffers (x .1 .1 .0) (x .1 .1 .1 .0) (x .1 .1 .1 .1 .0) (x .1 .1 .1 .1 .1 .0) (x .1 .1 .1 .1 .1 .1)) (x .1 .0)) g w r ((tt, (ws .1 .0, (ws .1 .1 .1 .1 .0, (ws .1 .1 .1 .1 .1 .0, (ws .1 .1 .1 .1 .1 .1 .0, (ws .1 .1 .1 .1 .1 .1 .1 .0, ws .1 .1 .1 .1 .1 .1 .1 .1 .0))))))) ((tt, (l₁ ∙ long₂, (l₂ ∙ long₃, (l₃ ∙ long₄, (l₄ ∙ long₅, (l₅ ∙ long₆, l₆ ∙ long₇)))))), e)))))))))))
+        keep ! (0 ∷ 2 ∷ []) $ by ! (gives 𝓤 H A W (Loan-close-see-mut-mut-mut-mut-mut-mut long₂ long₃ long₄ long₅ long₆ long₇ sized₂ sized₃ sized₄ sized₅ sized₆ sized₇) B.the-row (λ x r. (profile : Profile) (axes mode : ℕ) (old : List ℕ) (count : ℕ) (mid : List ℕ) → OpenedAt profile axes mode job old count mid stage → Joined stage merged mid work → Closed profile axes mode job old count r (buffers out ids map log origins) (buffers (x .1 .1 .0) (x .1 .1 .1 .0) (x .1 .1 .1 .1 .0) (x .1 .1 .1 .1 .1 .0) (x .1 .1 .1 .1 .1 .1)) (x .1 .0)) g w r ((tt, (ws .1 .0, (ws .1 .1 .1 .1 .0, (ws .1 .1 .1 .1 .1 .0, (ws .1 .1 .1 .1 .1 .1 .0, (ws .1 .1 .1 .1 .1 .1 .1 .0, ws .1 .1 .1 .1 .1 .1 .1 .1 .0))))))) ((tt, (l₁ ∙ long₂, (l₂ ∙ long₃, (l₃ ∙ long₄, (l₄ ∙ long₅, (l₅ ∙ long₆, l₆ ∙ long₇)))))), e)))))))))))
 
     pub close-see-mut-mut-mut-mut-mut-mut : (long₂ : length work ≡ ν₂) (long₃ : length out ≡ ν₃) (long₄ : length ids ≡ ν₄) (long₅ : length map ≡ ν₅) (long₆ : length log ≡ ν₆) (long₇ : length origins ≡ ν₇) (sized₂ : Room u32 ν₂) (sized₃ : Room u8 ν₃) (sized₄ : Room u32 ν₄) (sized₅ : Room u32 ν₅) (sized₆ : Room u32 ν₆) (sized₇ : Room u32 ν₇) → Is S.the-row stage (stage-mach stage ∷ []) → Is D.the-row merged (mach-merged merged ∷ []) → (CloseFit job stage merged work) → ent 𝓤 (mean 𝓤 H A (Loan-close-see-mut-mut-mut-mut-mut-mut long₂ long₃ long₄ long₅ long₆ long₇ sized₂ sized₃ sized₄ sized₅ sized₆ sized₇ .held)) (H .⇛ (C #closing·close (sliceVal (β, ι) ν ∷ sliceVal (β₂, ι₂) ν₂ ∷ stage-mach stage ∷ mach-merged merged ∷ sliceVal (β₃, ι₃) ν₃ ∷ sliceVal (β₄, ι₄) ν₄ ∷ sliceVal (β₅, ι₅) ν₅ ∷ sliceVal (β₆, ι₆) ν₆ ∷ sliceVal (β₇, ι₇) ν₇ ∷ []) (λ w. mean 𝓤 H A (After-close-see-mut-mut-mut-mut-mut-mut w))))
-    close-see-mut-mut-mut-mut-mut-mut long₂ long₃ long₄ long₅ long₆ long₇ sized₂ sized₃ sized₄ sized₅ sized₆ sized₇ g-stage g-merged l = loan-call 𝓤 H A W (Loan-close-see-mut-mut-mut-mut-mut-mut long₂ long₃ long₄ long₅ long₆ long₇ sized₂ sized₃ sized₄ sized₅ sized₆ sized₇) B.the-row (λ x r. (axes mode : ℕ) (old : List ℕ) (count : ℕ) (mid : List ℕ) → OpenedAt axes mode job old count mid stage → Joined stage merged mid work → Closed axes mode job old count r (buffers out ids map log origins) (buffers (x .1 .1 .0) (x .1 .1 .1 .0) (x .1 .1 .1 .1 .0) (x .1 .1 .1 .1 .1 .0) (x .1 .1 .1 .1 .1 .1)) (x .1 .0)) C fm #closing·close (sliceVal (β, ι) ν ∷ sliceVal (β₂, ι₂) ν₂ ∷ stage-mach stage ∷ mach-merged merged ∷ sliceVal (β₃, ι₃) ν₃ ∷ sliceVal (β₄, ι₄) ν₄ ∷ sliceVal (β₅, ι₅) ν₅ ∷ sliceVal (β₆, ι₆) ν₆ ∷ sliceVal (β₇, ι₇) ν₇ ∷ []) (λ g.
+    close-see-mut-mut-mut-mut-mut-mut long₂ long₃ long₄ long₅ long₆ long₇ sized₂ sized₃ sized₄ sized₅ sized₆ sized₇ g-stage g-merged l = loan-call 𝓤 H A W (Loan-close-see-mut-mut-mut-mut-mut-mut long₂ long₃ long₄ long₅ long₆ long₇ sized₂ sized₃ sized₄ sized₅ sized₆ sized₇) B.the-row (λ x r. (profile : Profile) (axes mode : ℕ) (old : List ℕ) (count : ℕ) (mid : List ℕ) → OpenedAt profile axes mode job old count mid stage → Joined stage merged mid work → Closed profile axes mode job old count r (buffers out ids map log origins) (buffers (x .1 .1 .0) (x .1 .1 .1 .0) (x .1 .1 .1 .1 .0) (x .1 .1 .1 .1 .1 .0) (x .1 .1 .1 .1 .1 .1)) (x .1 .0)) C fm #closing·close (sliceVal (β, ι) ν ∷ sliceVal (β₂, ι₂) ν₂ ∷ stage-mach stage ∷ mach-merged merged ∷ sliceVal (β₃, ι₃) ν₃ ∷ sliceVal (β₄, ι₄) ν₄ ∷ sliceVal (β₅, ι₅) ν₅ ∷ sliceVal (β₆, ι₆) ν₆ ∷ sliceVal (β₇, ι₇) ν₇ ∷ []) (λ g.
         qed W (Loan-close-see-mut-mut-mut-mut-mut-mut long₂ long₃ long₄ long₅ long₆ long₇ sized₂ sized₃ sized₄ sized₅ sized₆ sized₇ .goes g ∷ []) ∵
         suffices ! (C #closing·close (sliceVal (β, ι) ν ∷ sliceVal (β₂, ι₂) ν₂ ∷ stage-mach stage ∷ mach-merged merged ∷ sliceVal (β₃, ι₃) ν₃ ∷ sliceVal (β₄, ι₄) ν₄ ∷ sliceVal (β₅, ι₅) ν₅ ∷ sliceVal (β₆, ι₆) ν₆ ∷ sliceVal (β₇, ι₇) ν₇ ∷ []) (Close-of 𝓤 H A mem run .post (at-close-see-mut-mut-mut-mut-mut-mut g))) (fm→monoC 𝓤 H (W .laws) C fm #closing·close (sliceVal (β, ι) ν ∷ sliceVal (β₂, ι₂) ν₂ ∷ stage-mach stage ∷ mach-merged merged ∷ sliceVal (β₃, ι₃) ν₃ ∷ sliceVal (β₄, ι₄) ν₄ ∷ sliceVal (β₅, ι₅) ν₅ ∷ sliceVal (β₆, ι₆) ν₆ ∷ sliceVal (β₇, ι₇) ν₇ ∷ []) (Close-of 𝓤 H A mem run .post (at-close-see-mut-mut-mut-mut-mut-mut g)) _ (leaves-close-see-mut-mut-mut-mut-mut-mut long₂ long₃ long₄ long₅ long₆ long₇ sized₂ sized₃ sized₄ sized₅ sized₆ sized₇ g)) $
         suffices ! (Close-of 𝓤 H A mem run .pre (at-close-see-mut-mut-mut-mut-mut-mut g)) (known (at-close-see-mut-mut-mut-mut-mut-mut g)) $ split ! $
@@ -436,18 +446,18 @@ module _ {M : Type 1} (𝓤 : URA M) (H : Heap 𝓤) (A : Atoms 𝓤) (W : Given
     Loan-foresee-call long sized = lent-mut u32 κ θ γ β ι 𝓤 H A W work ν long sized
 
     abbrev pub After-foresee-call : Val → Item 𝓤
-    After-foresee-call w = later (some (λ (r : Built). some (λ (x : List ℕ). given (((length (x) ≡ ν)) × ((axes mode : ℕ) (job old : List ℕ) (count : ℕ) (mid : List ℕ) → OpenedAt axes mode job old count mid stage → Joined stage merged mid work → Foreseen axes mode job old count r x)) (Has u32 κ θ γ β ι 𝓤 ν (x) ⊛ ‵ (B.the-row .own r (w ∷ []))))))
+    After-foresee-call w = later (some (λ (r : Built). some (λ (x : List ℕ). given (((length (x) ≡ ν)) × ((axes mode : ℕ) (job old : List ℕ) (count : ℕ) (mid : List ℕ) → OpenedAt Plain axes mode job old count mid stage → Joined stage merged mid work → Foreseen axes mode job old count r x)) (Has u32 κ θ γ β ι 𝓤 ν (x) ⊛ ‵ (B.the-row .own r (w ∷ []))))))
 
     abbrev at-foresee-call : (g : (ℕ × GName)) → Foresee-of 𝓤 H A mem run .Ghost
     at-foresee-call g = (((g .0 ∷ [], tt), (fullShare, tt), tt, (ref u32 κ θ γ β ι (g .1) work, (stage, (merged, tt))), (sliceVal (β, ι) ν ∷ [], (stage-mach stage ∷ [], (mach-merged merged ∷ [], tt)))), tt)
 
-    leaves-foresee-call : (long : length work ≡ ν) (sized : Room u32 ν) → (g : (ℕ × GName)) → (w : Val) → ent 𝓤 (Foresee-of 𝓤 H A mem run .post (at-foresee-call g) w) (mean 𝓤 H A (Gives 𝓤 H A W (Loan-foresee-call long sized) B.the-row (λ x r. (axes mode : ℕ) (job old : List ℕ) (count : ℕ) (mid : List ℕ) → OpenedAt axes mode job old count mid stage → Joined stage merged mid work → Foreseen axes mode job old count r x) g w))
+    leaves-foresee-call : (long : length work ≡ ν) (sized : Room u32 ν) → (g : (ℕ × GName)) → (w : Val) → ent 𝓤 (Foresee-of 𝓤 H A mem run .post (at-foresee-call g) w) (mean 𝓤 H A (Gives 𝓤 H A W (Loan-foresee-call long sized) B.the-row (λ x r. (axes mode : ℕ) (job old : List ℕ) (count : ℕ) (mid : List ℕ) → OpenedAt Plain axes mode job old count mid stage → Joined stage merged mid work → Foreseen axes mode job old count r x) g w))
     leaves-foresee-call long sized g w =
         qed W (later (some (λ (r : Built). ((‵ (flft (g .0 ∷ []) fullShare) ⊛ ‵ ftrue) ⊛ ‵ (B.the-row .own r (w ∷ [])))
-        ⊛ some (λ (ws : Lasts foresee.ended (g .0 ∷ [], tt) (at-foresee-call g .0 .3)). ‵ (lasts foresee.ended (g .0 ∷ [], tt) (at-foresee-call g .0 .3) ws) ⊛ raw (fact 𝓤 ((axes mode : ℕ) (job old : List ℕ) (count : ℕ) (mid : List ℕ) → OpenedAt axes mode job old count mid stage → Joined stage merged mid work → Foreseen axes mode job old count r (ws .0)))))) ∷ []) ∵
+        ⊛ some (λ (ws : Lasts foresee.ended (g .0 ∷ [], tt) (at-foresee-call g .0 .3)). ‵ (lasts foresee.ended (g .0 ∷ [], tt) (at-foresee-call g .0 .3) ws) ⊛ raw (fact 𝓤 ((axes mode : ℕ) (job old : List ℕ) (count : ℕ) (mid : List ℕ) → OpenedAt Plain axes mode job old count mid stage → Joined stage merged mid work → Foreseen axes mode job old count r (ws .0)))))) ∷ []) ∵
         updating ! $ await ! tt $ pick ! (λ r. split ! $ move ! (1 ∷ []) $ pick ! (λ ws. split ! $
         move ! (1 ∷ []) $
-        heard ! ((axes mode : ℕ) (job old : List ℕ) (count : ℕ) (mid : List ℕ) → OpenedAt axes mode job old count mid stage → Joined stage merged mid work → Foreseen axes mode job old count r (ws .0)) (λ e.
+        heard ! ((axes mode : ℕ) (job old : List ℕ) (count : ℕ) (mid : List ℕ) → OpenedAt Plain axes mode job old count mid stage → Joined stage merged mid work → Foreseen axes mode job old count r (ws .0)) (λ e.
         fsplit ! $
         fsplit ! $
         move ! (1 ∷ []) $
@@ -458,10 +468,10 @@ module _ {M : Type 1} (𝓤 : URA M) (H : Heap 𝓤) (A : Atoms 𝓤) (W : Given
         at-once ! $
         move ! (0 ∷ 3 ∷ []) $
         join ! $
-        keep ! (0 ∷ 2 ∷ []) $ by ! (gives 𝓤 H A W (Loan-foresee-call long sized) B.the-row (λ x r. (axes mode : ℕ) (job old : List ℕ) (count : ℕ) (mid : List ℕ) → OpenedAt axes mode job old count mid stage → Joined stage merged mid work → Foreseen axes mode job old count r x) g w r (ws .0) (l₀ ∙ long, e))))))
+        keep ! (0 ∷ 2 ∷ []) $ by ! (gives 𝓤 H A W (Loan-foresee-call long sized) B.the-row (λ x r. (axes mode : ℕ) (job old : List ℕ) (count : ℕ) (mid : List ℕ) → OpenedAt Plain axes mode job old count mid stage → Joined stage merged mid work → Foreseen axes mode job old count r x) g w r (ws .0) (l₀ ∙ long, e))))))
 
     pub foresee-call : (long : length work ≡ ν) (sized : Room u32 ν) → Is S.the-row stage (stage-mach stage ∷ []) → Is D.the-row merged (mach-merged merged ∷ []) → (ForeseeFit stage merged work) → ent 𝓤 (mean 𝓤 H A (Loan-foresee-call long sized .held)) (H .⇛ (C #closing·foresee (sliceVal (β, ι) ν ∷ stage-mach stage ∷ mach-merged merged ∷ []) (λ w. mean 𝓤 H A (After-foresee-call w))))
-    foresee-call long sized g-stage g-merged l = loan-call 𝓤 H A W (Loan-foresee-call long sized) B.the-row (λ x r. (axes mode : ℕ) (job old : List ℕ) (count : ℕ) (mid : List ℕ) → OpenedAt axes mode job old count mid stage → Joined stage merged mid work → Foreseen axes mode job old count r x) C fm #closing·foresee (sliceVal (β, ι) ν ∷ stage-mach stage ∷ mach-merged merged ∷ []) (λ g.
+    foresee-call long sized g-stage g-merged l = loan-call 𝓤 H A W (Loan-foresee-call long sized) B.the-row (λ x r. (axes mode : ℕ) (job old : List ℕ) (count : ℕ) (mid : List ℕ) → OpenedAt Plain axes mode job old count mid stage → Joined stage merged mid work → Foreseen axes mode job old count r x) C fm #closing·foresee (sliceVal (β, ι) ν ∷ stage-mach stage ∷ mach-merged merged ∷ []) (λ g.
         qed W (Loan-foresee-call long sized .goes g ∷ []) ∵
         suffices ! (C #closing·foresee (sliceVal (β, ι) ν ∷ stage-mach stage ∷ mach-merged merged ∷ []) (Foresee-of 𝓤 H A mem run .post (at-foresee-call g))) (fm→monoC 𝓤 H (W .laws) C fm #closing·foresee (sliceVal (β, ι) ν ∷ stage-mach stage ∷ mach-merged merged ∷ []) (Foresee-of 𝓤 H A mem run .post (at-foresee-call g)) _ (leaves-foresee-call long sized g)) $
         suffices ! (Foresee-of 𝓤 H A mem run .pre (at-foresee-call g)) (known (at-foresee-call g)) $ split ! $

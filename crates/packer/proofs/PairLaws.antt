@@ -18,6 +18,7 @@ use Rattle.said.proofs.SoundLaws.{open-if}
 use Rattle.encoder.specs.LentArranged.{tablesOf}
 use Rattle.opening.specs.declared.opening.Stage.{Stage}
 use Rattle.call.specs.Build.{pairsLeft}
+use Rattle.panel.specs.declared.Profile.{Profile}
 use Rattle.opening.specs.LentOpened.{OpenedAt}
 use Rattle.arranging.specs.LentArranged.{PairsUsed}
 
@@ -44,8 +45,8 @@ module _ (axes mode bytes work : ℕ) (pairs : List Pair) where
   left-zeros z = rw z refl
 
 -- merging has room for the pairs of so many groups: there are none after an early refusal
-pub pairs-enough : {axes mode pairs : ℕ} {job old mid : List ℕ} (t : MergeTables) {s : Stage} → t ≡ tablesOf (s .places) (s .groups) → OpenedAt axes mode job old pairs mid s → room (t .groups) ≤ pairs
-pairs-enough {axes} {mode} {pairs} {job} {old} {mid} t {s} q p = go (s .early) refl
+pub pairs-enough : {h : Profile} {axes mode pairs : ℕ} {job old mid : List ℕ} (t : MergeTables) {s : Stage} → t ≡ tablesOf (s .places) (s .groups) → OpenedAt h axes mode job old pairs mid s → room (t .groups) ≤ pairs
+pairs-enough {h} {axes} {mode} {pairs} {job} {old} {mid} t {s} q p = go (s .early) refl
   where
     same : t .groups ≡ s .groups
     same = ap (λ (x : MergeTables). x .groups) q
@@ -58,7 +59,7 @@ pairs-enough {axes} {mode} {pairs} {job} {old} {mid} t {s} q p = go (s .early) r
         omega (arith, o .paired, room-most (t .groups) (omega (arith, same)))
 
 -- and where it has no groups it leaves them as they were
-pub pairs-idle : {axes mode n : ℕ} {job old mid : List ℕ} (t : MergeTables) {s : Stage} {pairs kept : List Pair} → t ≡ tablesOf (s .places) (s .groups) → OpenedAt axes mode job old n mid s
+pub pairs-idle : {h : Profile} {axes mode n : ℕ} {job old mid : List ℕ} (t : MergeTables) {s : Stage} {pairs kept : List Pair} → t ≡ tablesOf (s .places) (s .groups) → OpenedAt h axes mode job old n mid s
     → length kept ≡ length pairs → SameFrom pairs (room (t .groups)) kept → s .early ≡ true → kept ≡ pairs
 unfolding pairAt
 pairs-idle t {s} {pairs} {kept} q p long same e =
@@ -66,9 +67,9 @@ pairs-idle t {s} {pairs} {kept} q p long same e =
     ext-getD none kept pairs long (λ i l. same i (omega arith))
 
 -- Merging, which has no groups after an early refusal, left `kept`; then so many were cleared.
-pub pairs-left : {axes mode n : ℕ} {job old mid : List ℕ} {s : Stage} (pairs kept left : List Pair) → OpenedAt axes mode job old (length pairs) mid s → PairsUsed s (length pairs) n
+pub pairs-left : {h : Profile} {axes mode n : ℕ} {job old mid : List ℕ} {s : Stage} (pairs kept left : List Pair) → OpenedAt h axes mode job old (length pairs) mid s → PairsUsed s (length pairs) n
     → length kept ≡ length pairs → (s .early ≡ true → kept ≡ pairs) → left ≡ cleared n kept → left ≡ pairsLeft axes mode (length job) (length old) pairs
-pairs-left {axes} {mode} {n} {job} {old} {mid} {s} pairs kept left p u long same e = go (s .early) refl
+pairs-left {h} {axes} {mode} {n} {job} {old} {mid} {s} pairs kept left p u long same e = go (s .early) refl
   where
     go : (b : Bool) → s .early ≡ b → left ≡ pairsLeft axes mode (length job) (length old) pairs
     go true q =

@@ -7,11 +7,18 @@ use Rattle.finishing.specs.declared.answers.Built.{Built}
 use Rattle.call.specs.Lending.{Lending, Left}
 use Rattle.call.specs.Build.{after, answerOf}
 use Rattle.call.specs.Foretold.{foretold}
+use Rattle.call.specs.Profiled.{answerBy, afterBy}
+use Rattle.panel.specs.declared.Profile.{Profile}
 
 -- what is promised of a call: its answer, and all that is left
 pub record Obeys (c : Lending) (r : Built) (l : Left) : Type 0 where
   pub answer : r ≡ answerOf c
   pub left : l ≡ after c
+
+-- and of one by a profile
+pub record ObeysBy (p : Profile) (c : Lending) (r : Built) (l : Left) : Type 0 where
+  pub answer : r ≡ answerBy p c
+  pub left : l ≡ afterBy p c
 
 -- what is promised of a forecast: its answer, and work and pair records as a build leaves them
 pub record Foretells (c : Lending) (r : Built) (work : List ℕ) (pairs : List Pair) : Type 0 where

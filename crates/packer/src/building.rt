@@ -6,12 +6,14 @@ use finishing::Built;
 use merging::optimize;
 use opening::open;
 use pairs::Pair;
+use panel::Profile;
 ghost use Rattle.finishing.specs.Buffers.{buffers};
 ghost use Rattle.call.specs.Lending.{lending, leaves};
-ghost use Rattle.packer.specs.Promised.{Obeys};
+ghost use Rattle.packer.specs.Promised.{ObeysBy};
 
-// Takes every job, sound or not.
+// Takes every job, sound or not, by a profile.
 pub fn build(
+    profile: Profile,
     axes: u32,
     mode: u32,
     job: &[u8],
@@ -23,9 +25,9 @@ pub fn build(
     log: &mut [u32],
     origins: &mut [u32],
 ) -> Built
-    ensures { λ r. ⌜ Obeys (lending axes mode (now (job .entry)) (now (work .entry)) (now (pairs .entry)) (buffers (now (out .entry)) (now (ids .entry)) (now (map .entry)) (now (log .entry)) (now (origins .entry)))) r (leaves (now (work .exit)) (now (pairs .exit)) (buffers (now (out .exit)) (now (ids .exit)) (now (map .exit)) (now (log .exit)) (now (origins .exit)))) ⌝ }
+    ensures { λ r. ⌜ ObeysBy profile (lending axes mode (now (job .entry)) (now (work .entry)) (now (pairs .entry)) (buffers (now (out .entry)) (now (ids .entry)) (now (map .entry)) (now (log .entry)) (now (origins .entry)))) r (leaves (now (work .exit)) (now (pairs .exit)) (buffers (now (out .exit)) (now (ids .exit)) (now (map .exit)) (now (log .exit)) (now (origins .exit)))) ⌝ }
 {
-    let s = open(axes, mode, job, work, pairs.len());
+    let s = open(profile, axes, mode, job, work, pairs.len());
     let m = optimize(pairs, work, tables(s.places, s.groups));
     let r = close(job, work, s, m, out, ids, map, log, origins);
     pairs::clear_pairs(pairs, pairs_used(s, pairs.len()));

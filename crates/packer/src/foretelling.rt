@@ -6,6 +6,7 @@ use finishing::Built;
 use merging::optimize;
 use opening::open;
 use pairs::Pair;
+use panel::Profile;
 ghost use Rattle.call.specs.Lending.{lending, noBuffers};
 ghost use Rattle.packer.specs.Promised.{Foretells};
 
@@ -13,7 +14,7 @@ ghost use Rattle.packer.specs.Promised.{Foretells};
 pub fn forecast(axes: u32, mode: u32, job: &[u8], work: &mut [u32], pairs: &mut [Pair]) -> Built
     ensures { λ r. ⌜ Foretells (lending axes mode (now (job .entry)) (now (work .entry)) (now (pairs .entry)) noBuffers) r (now (work .exit)) (now (pairs .exit)) ⌝ }
 {
-    let s = open(axes, mode, job, work, pairs.len());
+    let s = open(Profile::Plain, axes, mode, job, work, pairs.len());
     let m = optimize(pairs, work, tables(s.places, s.groups));
     let r = foresee(work, s, m);
     pairs::clear_pairs(pairs, pairs_used(s, pairs.len()));

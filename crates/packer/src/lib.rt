@@ -6,3 +6,4 @@ pub use building::build;
 pub use finishing::Built;
 pub use finishing::Report;
 pub use foretelling::forecast;
+pub use panel::Profile;

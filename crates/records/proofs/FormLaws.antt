@@ -15,7 +15,6 @@ use Rattle.laws.proofs.Cases.{Which, which}
 use Rattle.laws.proofs.Cases.Which.{holds, fails}
 use Rattle.said.specs.Records.{kind, axisKind, valueKind, endKind, isKnown, regionOf, axisOf, mustBeZero, firstNotZero, wrongByte}
 use Rattle.said.specs.Refusals.{inTurn}
-use Rattle.said.proofs.RecordLaws.{be-two}
 use Rattle.records.specs.Lent.{between, valueRest, endRest}
 
 -- ---- one part: what is left of it answers for the whole
@@ -90,36 +89,11 @@ module _ (r : List ℕ) where
 
   pub value-clean : kind r ≡ valueKind → valueRest r ≡ 0 → 0 ≡ wrongByte r
   unfolding wrongByte mustBeZero firstNotZero
-  value-clean k z =
-      let b = be-two r in
-      rw (
-        k,
-        eq-eqb (getD r 2 0) 0 (omega (arith, b 2)),
-        eq-eqb (getD r 3 0) 0 (omega (arith, b 2)),
-        eq-eqb (getD r 8 0) 0 (omega (arith, b 8)),
-        eq-eqb (getD r 9 0) 0 (omega (arith, b 8)),
-        eq-eqb (getD r 10 0) 0 (omega (arith, b 10)),
-        eq-eqb (getD r 11 0) 0 (omega (arith, b 10)),
-      )
+  value-clean k z = rw (k, eq-eqb (getD r 2 0) 0 (omega arith), eq-eqb (getD r 3 0) 0 (omega arith), eq-eqb (getD r 8 0) 0 (omega arith), eq-eqb (getD r 9 0) 0 (omega arith), eq-eqb (getD r 10 0) 0 (omega arith), eq-eqb (getD r 11 0) 0 (omega arith))
 
   pub end-clean : kind r ≡ endKind → endRest r ≡ 0 → 0 ≡ wrongByte r
   unfolding wrongByte mustBeZero firstNotZero
-  end-clean k z =
-      let b = be-two r in
-      rw (
-        k,
-        eq-eqb (getD r 1 0) 0 (omega (arith, b 1)),
-        eq-eqb (getD r 2 0) 0 (omega (arith, b 1)),
-        eq-eqb (getD r 3 0) 0 (omega (arith, b 3)),
-        eq-eqb (getD r 4 0) 0 (omega (arith, b 3)),
-        eq-eqb (getD r 5 0) 0 (omega (arith, b 5)),
-        eq-eqb (getD r 6 0) 0 (omega (arith, b 5)),
-        eq-eqb (getD r 7 0) 0 (omega (arith, b 7)),
-        eq-eqb (getD r 8 0) 0 (omega (arith, b 7)),
-        eq-eqb (getD r 9 0) 0 (omega (arith, b 9)),
-        eq-eqb (getD r 10 0) 0 (omega (arith, b 9)),
-        eq-eqb (getD r 11 0) 0 (omega (arith, b 10)),
-      )
+  end-clean k z = rw (k, eq-eqb (getD r 1 0) 0 (omega arith), eq-eqb (getD r 2 0) 0 (omega arith), eq-eqb (getD r 3 0) 0 (omega arith), eq-eqb (getD r 4 0) 0 (omega arith), eq-eqb (getD r 5 0) 0 (omega arith), eq-eqb (getD r 6 0) 0 (omega arith), eq-eqb (getD r 7 0) 0 (omega arith), eq-eqb (getD r 8 0) 0 (omega arith), eq-eqb (getD r 9 0) 0 (omega arith), eq-eqb (getD r 10 0) 0 (omega arith), eq-eqb (getD r 11 0) 0 (omega arith))
 
   pub known-value : kind r ≡ valueKind → true ≡ isKnown r
   known-value k = rw k

@@ -2,7 +2,7 @@
 use crate::byte_wide;
 use crate::nth::Kind;
 use crate::region_of;
-use crate::two_bytes;
+use crate::word;
 use said::Refusal;
 ghost use mathlib.Core.Path.{_≡_};
 ghost use mathlib.Core.Bool.{true};
@@ -40,24 +40,21 @@ fn not_zero_in(rec: &[u8], from: usize, to: usize, then: usize, end: usize) -> u
     not_zero(rec, then, end)
 }
 
-// What the bytes that must be 0 add up to, two by two: whether all are is told at once, and nearly always they are.
+// What the bytes that must be 0 add up to: whether all are is told at once, and nearly always they are.
 fn value_rest(rec: &[u8]) -> u32
     requires { ⌜ recordBytes ≤ length (now rec) ⌝ }
     ensures { λ r. ⌜ r ≡ valueRest (now (rec .entry)) ⌝ }
 {
-    two_bytes(rec, 2) + two_bytes(rec, 8) + two_bytes(rec, 10)
+    word(rec[2]) + word(rec[3]) + word(rec[8]) + word(rec[9]) + word(rec[10]) + word(rec[11])
 }
 
 fn end_rest(rec: &[u8]) -> u32
     requires { ⌜ recordBytes ≤ length (now rec) ⌝ }
     ensures { λ r. ⌜ r ≡ endRest (now (rec .entry)) ⌝ }
 {
-    two_bytes(rec, 1)
-        + two_bytes(rec, 3)
-        + two_bytes(rec, 5)
-        + two_bytes(rec, 7)
-        + two_bytes(rec, 9)
-        + two_bytes(rec, 10)
+    let front = word(rec[1]) + word(rec[2]) + word(rec[3]) + word(rec[4]) + word(rec[5]);
+    let back = word(rec[6]) + word(rec[7]) + word(rec[8]) + word(rec[9]) + word(rec[10]);
+    front + back + word(rec[11])
 }
 
 // The first byte that must be 0 and is not; 0 where all are.

@@ -5,9 +5,12 @@ mod places;
 
 pub use crate::nth::Kind;
 pub use crate::nth::byte_at;
+pub use crate::nth::end_at;
 pub use crate::nth::form_at;
 pub use crate::nth::kind_at;
+pub use crate::nth::peak_at;
 pub use crate::nth::region_at;
+pub use crate::nth::start_at;
 pub use crate::nth::word_at;
 pub use crate::places::COORDS_LONG;
 pub use crate::places::are_records;

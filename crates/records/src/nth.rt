@@ -2,13 +2,14 @@
 use crate::forms::form_no;
 use crate::forms::wrong_byte;
 use crate::region_of;
+use crate::two_bytes;
 use crate::value_word;
 use said::Refusal;
 ghost use mathlib.Core.Path.{_≡_};
 ghost use mathlib.Core.Bool.{true};
 ghost use Prim.Native.Nat.{ℕ, _+_, _*_, _%_, _<_, _≤_};
 ghost use lib.ListN.{length};
-ghost use Rattle.said.specs.Records.{recordStart, recordAt, kind, regionOf, valueWord};
+ghost use Rattle.said.specs.Records.{recordStart, recordAt, kind, regionOf, startOf, peakOf, endOf, valueWord};
 ghost use Rattle.said.specs.Refusals.{notZero, formNo, byteOf};
 
 // The bytes of a record.
@@ -65,4 +66,29 @@ pub fn word_at(job: &[u8], i: usize) -> u32
     ensures { λ r. ⌜ r ≡ valueWord (recordAt (now (job .entry)) i) ⌝ }
 {
     value_word(&job[BYTES * i..])
+}
+
+// Start, peak and end of an axis record, each by the number that its 16 bits are.
+pub fn start_at(job: &[u8], i: usize) -> u32
+    requires { ⌜ recordStart (i + 1) ≤ length (now job) ⌝ }
+    ensures { λ r. ⌜ r ≡ startOf (recordAt (now (job .entry)) i) ⌝ }
+    ensures { λ r. ⌜ r < 65536 ⌝ }
+{
+    two_bytes(&job[BYTES * i..], 4)
+}
+
+pub fn peak_at(job: &[u8], i: usize) -> u32
+    requires { ⌜ recordStart (i + 1) ≤ length (now job) ⌝ }
+    ensures { λ r. ⌜ r ≡ peakOf (recordAt (now (job .entry)) i) ⌝ }
+    ensures { λ r. ⌜ r < 65536 ⌝ }
+{
+    two_bytes(&job[BYTES * i..], 6)
+}
+
+pub fn end_at(job: &[u8], i: usize) -> u32
+    requires { ⌜ recordStart (i + 1) ≤ length (now job) ⌝ }
+    ensures { λ r. ⌜ r ≡ endOf (recordAt (now (job .entry)) i) ⌝ }
+    ensures { λ r. ⌜ r < 65536 ⌝ }
+{
+    two_bytes(&job[BYTES * i..], 8)
 }

@@ -10,3 +10,4 @@ pub mod RecordStops
 pub mod FiveLaws
 pub mod FineLaws
 pub mod WalkEnds
+pub mod OddRows

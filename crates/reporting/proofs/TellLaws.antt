@@ -10,7 +10,7 @@ use Rattle.finishing.specs.declared.answers.Built.{Built}
 use Rattle.finishing.specs.declared.answers.Built.the-variants.{Refused, Done}
 use Rattle.reporting.specs.Answers.{numberOf, byteTold, refusedWords, doneWords, reportWords, filled, numberFew, byteWithin}
 
-pub number-most : (b : Built) (n at : ℕ) → b ≡ Refused n at → numberFew b → n ≤ 61
+pub number-most : (b : Built) (n at : ℕ) → b ≡ Refused n at → numberFew b → n ≤ 72
 number-most b n at e h = subst numberFew e h
 
 pub byte-there : (job : List ℕ) (b : Built) (n at : ℕ) → b ≡ Refused n at → byteWithin job b → n ≡ notZero → recordStart (at + 1) ≤ length job

@@ -4,7 +4,7 @@ use mathlib.Core.Path.{_≡_}
 use Prim.Native.Nat.{ℕ, _+_, _≤_}
 use lib.ListN.{set, length}
 use Rattle.said.specs.Records.{recordAt, recordStart}
-use Rattle.said.specs.Refusals.{notZero, originsShort, byteOf}
+use Rattle.said.specs.Refusals.{notZero, wideSubtable, byteOf}
 use Rattle.finishing.specs.declared.answers.Report.{Report}
 use Rattle.finishing.specs.declared.answers.Built.{Built}
 use Rattle.finishing.specs.declared.answers.Built.the-variants as built
@@ -55,7 +55,7 @@ filled k (x ∷ l) old = filled (k + 1) l (set old k x)
 
 -- refusal numbers are small
 abbrev pub numberFew : Built → Type 0
-numberFew (built.Refused n at) = n ≤ originsShort
+numberFew (built.Refused n at) = n ≤ wideSubtable
 numberFew (built.Done d) = Unit
 
 -- a refusal that names a byte is at a record of the job

@@ -1,4 +1,4 @@
--- Refusals: their numbers, and the tests of one record (RULES R1 to R14, R30 to R34, R61, T1, T2).
+-- Refusals: their numbers, and the tests of one record (RULES R1 to R14, R30 to R34, R61, T1, T2; those of R70 to R72 stand with the panel's profile).
 use mathlib.Core.Bool.{Bool, true, false, not, _&&_, _||_}
 use mathlib.Core.List.{List, [], _∷_}
 use mathlib.Core.Path.{_≡_}
@@ -71,6 +71,15 @@ originsShort = 61
 
 abbrev pub noSet : ℕ
 noSet = 64
+
+abbrev pub longValue : ℕ
+longValue = 70
+
+abbrev pub badRegion : ℕ
+badRegion = 71
+
+abbrev pub wideSubtable : ℕ
+wideSubtable = 72
 
 -- ---- their tests
 

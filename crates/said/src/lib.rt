@@ -49,4 +49,11 @@ impl Refusal {
 
     // Of two sets of a job that are compared.
     pub const NO_SET: usize = 64;
+
+    // Of the panel's profile: at a record, and of a final group.
+    pub const LONG_VALUE: usize = 70;
+
+    pub const BAD_REGION: usize = 71;
+
+    pub const WIDE_SUBTABLE: usize = 72;
 }

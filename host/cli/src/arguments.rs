@@ -71,6 +71,10 @@ pub struct Build {
     /// Equal sets share an id, or every set has its own row in its order
     #[arg(long, value_enum, default_value = "dedup")]
     pub mode: Mode,
+    /// The reader that the store is for: the panel's takes 16-bit values, regions that it does
+    /// not skip, and 32 columns in a subtable
+    #[arg(long, value_enum, default_value = "plain")]
+    pub profile: Profile,
     /// Where to write the store
     #[arg(short = 'o', long = "out", value_name = "STORE")]
     pub store: Option<PathBuf>,
@@ -89,6 +93,13 @@ pub struct Build {
     /// Print the numbers as JSON, with the origins
     #[arg(long)]
     pub json: bool,
+}
+
+/// The two profiles.
+#[derive(Clone, Copy, PartialEq, Eq, ValueEnum)]
+pub enum Profile {
+    Plain,
+    Panel,
 }
 
 /// The two modes (J2).

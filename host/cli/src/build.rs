@@ -1,6 +1,6 @@
 //! `fenikezo build`.
 
-use crate::arguments::Build;
+use crate::arguments::{Build, Profile};
 use crate::failure::Failure;
 use crate::files;
 use crate::input::Input;
@@ -12,7 +12,11 @@ use std::path::Path;
 pub fn run(arguments: &Build) -> Result<(), Failure> {
     let places = places(arguments);
     let input = Input::read(&arguments.job, arguments.axes)?;
-    let packed = ivs::pack(input.axes, arguments.mode as u32, &input.job)
+    let profile = match arguments.profile {
+        Profile::Plain => ivs::Profile::Plain,
+        Profile::Panel => ivs::Profile::Panel,
+    };
+    let packed = ivs::pack_for(profile, input.axes, arguments.mode as u32, &input.job)
         .map_err(|refused| input.refused(refused))?;
     input.warn();
     let outputs: Vec<(&Path, Vec<u8>)> = places

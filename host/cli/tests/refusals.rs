@@ -19,11 +19,17 @@ fn with(mut record: [u8; 12], bytes: &[(usize, u8)]) -> [u8; 12] {
 
 /// What `fenikezo build` says of these records, behind the file's name.
 fn said(test: &str, axes: u32, records: &[[u8; 12]]) -> String {
+    said_with(&[], test, axes, records)
+}
+
+/// The same with more words on the command line.
+fn said_with(words: &[&str], test: &str, axes: u32, records: &[[u8; 12]]) -> String {
     let folder = Path::new(env!("CARGO_TARGET_TMPDIR"));
     let file: PathBuf = folder.join(format!("refusals_{test}.job"));
     fs::write(&file, records.concat()).unwrap();
     let output = Command::new(env!("CARGO_BIN_EXE_fenikezo"))
         .args(["build", &format!("--axes={axes}")])
+        .args(words)
         .arg(&file)
         .output()
         .unwrap();
@@ -141,5 +147,24 @@ fn regions_and_ends() {
         said("open", 1, &[REGION, VALUE]),
         "8 UNFINISHED after record 2 (byte 24): the last set has no end record; add the end record \
          or the axis records that are missing"
+    );
+}
+
+#[test]
+fn what_the_panel_does_not_take() {
+    let panel = ["--profile=panel"];
+    let long = with(VALUE, &[(5, 1)]);
+    assert_eq!(
+        said_with(&panel, "long", 1, &[REGION, long, END]),
+        "70 LONG_VALUE at record 1 (byte 12): the value of region 0 is 65541, and the panel's \
+         reader takes -32768 to 32767; build without the profile, or make the value smaller"
+    );
+    // From -0.5 to 1, with the peak at 1.
+    let around = with(REGION, &[(4, 0xE0)]);
+    assert_eq!(
+        said_with(&panel, "around", 1, &[around, VALUE, END]),
+        "71 BAD_REGION at record 0 (byte 0): region 0 axis 0 has start -0.5, peak 1, end 1: \
+         0 lies inside, and the peak is elsewhere; keep start <= peak <= end within -1 to 1, \
+         and the peak at 0 where start is below 0 and end above"
     );
 }

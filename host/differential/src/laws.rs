@@ -91,7 +91,7 @@ fn origins(job: &Job, done: &Done) -> Result<(), String> {
         .into_iter()
         .zip(done.origins.chunks(2).map(|origin| origin[1] as usize))
         .collect();
-    let mut rows = vec![0; place.len()];
+    let mut rows = vec![0_u32; place.len()];
     let mut seen = vec![false; done.map.len()];
     for (shape, id) in shapes.iter().zip(&done.ids) {
         if !std::mem::replace(&mut seen[*id as usize], true) {
@@ -101,7 +101,7 @@ fn origins(job: &Job, done: &Done) -> Result<(), String> {
     let mut subtables = vec![0];
     for group in &rows {
         let before = subtables[subtables.len() - 1];
-        subtables.push(before + (*group as u32).div_ceil(65_535));
+        subtables.push(before + group.div_ceil(65_535));
     }
     for (shape, id) in shapes.iter().zip(&done.ids) {
         let (at, outer) = (place[shape], done.map[*id as usize] >> 16);

@@ -7,7 +7,7 @@ use crate::known::{Known, Source};
 use crate::noise::{not_zero, Guarded, Noisy};
 use crate::pairs::Pairs;
 use crate::{forecasts, laws, sizes, Case};
-use ivs::Lent;
+use ivs::{Lent, Profile};
 use jobs::{hex, RECORD};
 use plain::{Done, Refused, Sizes};
 
@@ -70,11 +70,30 @@ pub fn around(case: &Case<'_>, known: &Known, buffers: &mut Buffers) -> Result<(
         told(case, held)?;
     }
     told(case, forecasts::around(case, said, buffers))?;
+    told(case, panel(case, known, buffers))?;
     told(case, same("packed", &packed(case), said))?;
     match (said, &known.job) {
         (Ok(done), Some(job)) => told(case, laws::rows_read_back(job, done, read)),
         _ => Ok(()),
     }
+}
+
+/// Compares on one job by the panel's profile. What that takes is built as without it, and
+/// what it refuses by a number that is not its own is refused alike.
+fn panel(case: &Case<'_>, known: &Known, buffers: &mut Buffers) -> Result<(), String> {
+    let (axes, mode, job) = (case.axes, case.mode, case.job);
+    let due = plain::build_for(plain::Profile::Panel, axes, mode, job, &Sizes::PLENTY);
+    let own = [
+        plain::number::LONG_VALUE,
+        plain::number::BAD_REGION,
+        plain::number::WIDE_SUBTABLE,
+    ];
+    if !matches!(&due, Err(refused) if own.contains(&refused.number)) {
+        same("the panel's", &due, &known.said)?;
+    }
+    let lent = over(&least(case, &due));
+    compare_for(Profile::Panel, case, &lent, &due, buffers)
+        .map_err(|what| format!("for the panel: {what}"))
 }
 
 /// What [`ivs::pack`] makes of a job, in the plain reading's words.
@@ -162,6 +181,17 @@ pub(crate) fn compare(
     due: &Said,
     buffers: &mut Buffers,
 ) -> Result<(), String> {
+    compare_for(Profile::Plain, case, sizes, due, buffers)
+}
+
+/// The same of a build by a profile.
+fn compare_for(
+    profile: Profile,
+    case: &Case<'_>,
+    sizes: &Sizes,
+    due: &Said,
+    buffers: &mut Buffers,
+) -> Result<(), String> {
     buffers.work.fill(sizes.work);
     buffers.pairs.ready(sizes.pairs)?;
     buffers.out.fill(sizes.out);
@@ -179,7 +209,8 @@ pub(crate) fn compare(
         log: buffers.log.lend(),
         origins: buffers.origins.lend(),
     };
-    let answer = ivs::build_report(case.axes, case.mode, case.job, &mut lent, &mut report);
+    let (axes, mode, job) = (case.axes, case.mode, case.job);
+    let answer = ivs::build_report_for(profile, axes, mode, job, &mut lent, &mut report);
     same("report", &report, &report_of(due))
         .and_then(|()| same("answer", &u64::from(answer), &report[0]))
         .and_then(|()| left(buffers, due))

@@ -23,6 +23,23 @@ pub struct Pair {
     pub second: u32,
 }
 
+/// For which reader a store is built. What the panel's takes is built as for any other.
+///
+/// ```
+/// let job = ivs::JobWriter::new(1).job();
+/// assert_eq!(job.pack_for(ivs::Profile::Panel, ivs::Mode::Deduplicating)?.store.len(), 12);
+/// # Ok::<(), ivs::Refused>(())
+/// ```
+#[derive(Clone, Copy, Debug, Default, PartialEq, Eq)]
+pub enum Profile {
+    /// Any reader of OpenType.
+    #[default]
+    Plain,
+    /// The instrument makers' reader: values of 16 bits, regions that it does not skip, at
+    /// most 32 columns in a subtable. All else is refused by 70, 71 or 72.
+    Panel,
+}
+
 /// The pair records that a build needs, whatever its job is: 12 MiB.
 pub const PAIRS: usize = 1_048_576;
 
@@ -173,8 +190,43 @@ pub fn work_words(records: usize) -> usize {
 /// # Ok::<(), Box<dyn std::error::Error>>(())
 /// ```
 pub fn build_into(axes: u32, mode: u32, job: &[u8], lent: &mut Lent<'_>) -> Result<Done, Refused> {
+    build_into_for(Profile::Plain, axes, mode, job, lent)
+}
+
+/// As [`build_into`], for a profile.
+///
+/// ```
+/// let mut writer = ivs::JobWriter::new(1);
+/// let odd = writer.region(&[(-0x4000, 0x2000, 0x4000)])?; // 0 inside, and the peak elsewhere
+/// writer.set(&[(odd, 10)])?;
+/// let job = writer.finish();
+///
+/// let mut work = vec![0; ivs::work_words(job.len() / 12)];
+/// let mut pairs = vec![ivs::Pair::default(); ivs::PAIRS];
+/// let (mut out, mut ids, mut map, mut origins) = ([0xFF; 40], [0; 1], [0; 1], [0; 2]);
+/// let mut lent = ivs::Lent {
+///     work: &mut work,
+///     pairs: &mut pairs,
+///     out: &mut out,
+///     ids: &mut ids,
+///     map: &mut map,
+///     log: &mut [],
+///     origins: &mut origins,
+/// };
+/// assert!(ivs::build_into_for(ivs::Profile::Plain, 1, 0, &job, &mut lent).is_ok());
+/// let refused = ivs::build_into_for(ivs::Profile::Panel, 1, 0, &job, &mut lent).unwrap_err();
+/// assert_eq!((refused.number, refused.name(), refused.place), (71, "BAD_REGION", 0));
+/// # Ok::<(), Box<dyn std::error::Error>>(())
+/// ```
+pub fn build_into_for(
+    profile: Profile,
+    axes: u32,
+    mode: u32,
+    job: &[u8],
+    lent: &mut Lent<'_>,
+) -> Result<Done, Refused> {
     let mut report = [0; 16];
-    build_report(axes, mode, job, lent, &mut report);
+    build_report_for(profile, axes, mode, job, lent, &mut report);
     done(&report).map_err(|refused| refused.short_of(job, lent.work.len()))
 }
 
@@ -203,7 +255,34 @@ pub fn build_report(
     lent: &mut Lent<'_>,
     report: &mut [u64; 16],
 ) -> u32 {
-    raw::build(axes, mode, job, lent, report)
+    build_report_for(Profile::Plain, axes, mode, job, lent, report)
+}
+
+/// As [`build_report`], for a profile.
+///
+/// ```
+/// let mut lent = ivs::Lent {
+///     work: &mut [],
+///     pairs: &mut vec![ivs::Pair::default(); ivs::PAIRS],
+///     out: &mut [0; 12],
+///     ids: &mut [],
+///     map: &mut [],
+///     log: &mut [],
+///     origins: &mut [],
+/// };
+/// let mut report = [9; 16];
+/// let number = ivs::build_report_for(ivs::Profile::Panel, 1, 0, &[], &mut lent, &mut report);
+/// assert_eq!((number, report[2]), (0, 12));
+/// ```
+pub fn build_report_for(
+    profile: Profile,
+    axes: u32,
+    mode: u32,
+    job: &[u8],
+    lent: &mut Lent<'_>,
+    report: &mut [u64; 16],
+) -> u32 {
+    raw::build(profile, axes, mode, job, lent, report)
 }
 
 /// One build in memory of its own, of which it takes as much as [`forecast`](crate::forecast)
@@ -228,9 +307,31 @@ pub fn build_report(
 /// # Ok::<(), Box<dyn std::error::Error>>(())
 /// ```
 pub fn pack(axes: u32, mode: u32, job: &[u8]) -> Result<Packed, Refused> {
+    pack_for(Profile::Plain, axes, mode, job)
+}
+
+/// As [`pack`], for a profile.
+///
+/// ```
+/// let mut job = ivs::JobWriter::new(1);
+/// let bold = job.region(&[(0, 0x4000, 0x4000)])?;
+/// job.set(&[(bold, 32_767)])?;
+/// let fits = job.clone().finish();
+/// let packed = ivs::pack_for(ivs::Profile::Panel, 1, 0, &fits)?;
+/// assert_eq!(packed, ivs::pack(1, 0, &fits)?);       // built as for any other reader
+///
+/// job.set(&[(bold, 32_768)])?;
+/// let refused = ivs::pack_for(ivs::Profile::Panel, 1, 0, &job.finish()).unwrap_err();
+/// assert_eq!((refused.number, refused.name(), refused.place), (70, "LONG_VALUE", 3));
+/// # Ok::<(), Box<dyn std::error::Error>>(())
+/// ```
+pub fn pack_for(profile: Profile, axes: u32, mode: u32, job: &[u8]) -> Result<Packed, Refused> {
     let mut work = vec![0; work_words(job.len() / RECORD)];
     let mut pairs = vec![Pair::default(); PAIRS];
-    let told = forecast_with(axes, mode, job, &mut work, &mut pairs)?;
+    let told = match forecast_with(axes, mode, job, &mut work, &mut pairs) {
+        Ok(told) => told,
+        Err(refused) => return Err(earlier(profile, axes, mode, job, refused)),
+    };
     let sets = job.chunks_exact(RECORD).filter(|r| r[0] == 3).count();
     let mut out = vec![0; told.store_bytes as usize];
     let (mut ids, mut map) = (vec![0; sets], vec![0; told.distinct_ids as usize]);
@@ -245,7 +346,7 @@ pub fn pack(axes: u32, mode: u32, job: &[u8]) -> Result<Packed, Refused> {
         log: &mut log,
         origins: &mut origins,
     };
-    let done = build_into(axes, mode, job, &mut lent)?;
+    let done = build_into_for(profile, axes, mode, job, &mut lent)?;
     log.truncate(3 * done.merges as usize);
     Ok(Packed {
         done,
@@ -256,4 +357,22 @@ pub fn pack(axes: u32, mode: u32, job: &[u8]) -> Result<Packed, Refused> {
         log,
         origins,
     })
+}
+
+/// What a job that is refused without a profile is refused by with it: the profile may not
+/// take a record before the one that answered.
+fn earlier(profile: Profile, axes: u32, mode: u32, job: &[u8], refused: Refused) -> Refused {
+    if profile == Profile::Plain {
+        return refused;
+    }
+    let mut lent = Lent {
+        work: &mut vec![0; work_words(job.len() / RECORD)],
+        pairs: &mut vec![Pair::default(); PAIRS],
+        out: &mut [],
+        ids: &mut [],
+        map: &mut [],
+        log: &mut [],
+        origins: &mut [],
+    };
+    build_into_for(profile, axes, mode, job, &mut lent).map_or_else(|refused| refused, |_| refused)
 }

@@ -5,7 +5,7 @@
 //! Pair records are 12 MiB for every build, and mostly zeros before and after it: zeros are
 //! told by a word and not sent.
 
-use crate::{Lent, Pair};
+use crate::{Lent, Pair, Profile};
 use std::env;
 use std::io::{BufReader, BufWriter, Read, Write};
 use std::path::PathBuf;
@@ -20,6 +20,7 @@ const WRITE_GLYPHS: u64 = 3;
 const READ_GLYPH: u64 = 4;
 const FORECAST: u64 = 5;
 const PART: u64 = 6;
+const BUILD_PANEL: u64 = 7;
 const WRITE_WIDTHS: u64 = 20;
 const READ_WIDTH: u64 = 21;
 
@@ -35,8 +36,19 @@ pub fn work_words(records: usize) -> usize {
     ask_alone([WORK_WORDS, records as u64, 0, 0], &[]) as usize
 }
 
-pub fn build(axes: u32, mode: u32, job: &[u8], lent: &mut Lent<'_>, report: &mut [u64; 16]) -> u32 {
-    ask([BUILD, axes.into(), mode.into(), 0], job, lent, report) as u32
+pub fn build(
+    profile: Profile,
+    axes: u32,
+    mode: u32,
+    job: &[u8],
+    lent: &mut Lent<'_>,
+    report: &mut [u64; 16],
+) -> u32 {
+    let what = match profile {
+        Profile::Plain => BUILD,
+        Profile::Panel => BUILD_PANEL,
+    };
+    ask([what, axes.into(), mode.into(), 0], job, lent, report) as u32
 }
 
 pub fn forecast(
@@ -199,7 +211,7 @@ impl Server {
         if [WRITE_GLYPHS, WRITE_WIDTHS].contains(&what[0]) {
             self.from.read_exact(lent.out)?;
         }
-        if [BUILD, FORECAST, PART].contains(&what[0]) {
+        if [BUILD, BUILD_PANEL, FORECAST, PART].contains(&what[0]) {
             self.take_words(lent.work)?;
             match self.take_word()? {
                 0 if held => lent.pairs.fill(Pair::default()),

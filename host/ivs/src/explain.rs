@@ -1,10 +1,13 @@
 //! A refusal explained with the job at hand: what stands at its place, and what was due.
 
 use crate::refusals::{
-    Refused, AXIS_OUT_OF_TURN, AXIS_TOO_LATE, NOT_ZERO, NO_SET, RECORD, REGION_TWICE,
-    REGION_UNFINISHED, UNFINISHED, UNKNOWN_KIND, UNKNOWN_REGION,
+    Refused, AXIS_OUT_OF_TURN, AXIS_TOO_LATE, BAD_REGION, LONG_VALUE, NOT_ZERO, NO_SET, RECORD,
+    REGION_TWICE, REGION_UNFINISHED, UNFINISHED, UNKNOWN_KIND, UNKNOWN_REGION,
 };
 use crate::wording;
+
+/// 1.0 as a coordinate.
+const ONE: i16 = 0x4000;
 
 /// The most regions of a job.
 const REGIONS: usize = 256;
@@ -90,6 +93,8 @@ impl<'a> Around<'a> {
             }
             REGION_UNFINISHED if record[0] == 2 => format!("a value stands here, {}", self.due()),
             REGION_UNFINISHED => format!("an end stands here, {}", self.due()),
+            LONG_VALUE => long(record)?,
+            BAD_REGION => odd(record)?,
             _ => return None,
         })
     }
@@ -164,6 +169,43 @@ impl<'a> Around<'a> {
             format!("record {number} of this set has named region {other}, of the same coordinates")
         })
     }
+}
+
+/// The value that is too long for 16 bits.
+fn long(record: &[u8]) -> Option<String> {
+    let value = i32::from_be_bytes(record.get(4..8)?.try_into().ok()?);
+    let region = record[1];
+    Some(format!(
+        "the value of region {region} is {value}, and the panel's reader takes -32768 to 32767"
+    ))
+}
+
+/// The axis, its coordinates, and the rule of the panel's reader that they break.
+fn odd(record: &[u8]) -> Option<String> {
+    let coordinate = |at: usize| -> Option<i16> {
+        Some(i16::from_be_bytes(record.get(at..at + 2)?.try_into().ok()?))
+    };
+    let (start, peak, end) = (coordinate(4)?, coordinate(6)?, coordinate(8)?);
+    let rule = if start > peak {
+        "the start is above the peak"
+    } else if peak > end {
+        "the peak is above the end"
+    } else if start < -ONE {
+        "the start is below -1"
+    } else if end > ONE {
+        "the end is above 1"
+    } else {
+        "0 lies inside, and the peak is elsewhere"
+    };
+    let part = |x: i16| f64::from(x) / f64::from(ONE);
+    Some(format!(
+        "region {} axis {} has start {}, peak {}, end {}: {rule}",
+        record[1],
+        record[2],
+        part(start),
+        part(peak),
+        part(end)
+    ))
 }
 
 /// The axis record that stands here.

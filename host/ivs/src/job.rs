@@ -1,7 +1,7 @@
 //! A job with its axis count, so that it is said once; the mode by its name; one error.
 
 use crate::{building, forecast, part};
-use crate::{Done, JobError, JobWriter, Packed, Parted, Refused};
+use crate::{Done, JobError, JobWriter, Packed, Parted, Profile, Refused};
 use std::error;
 use std::fmt;
 
@@ -97,6 +97,22 @@ impl Job {
     /// ```
     pub fn pack(&self, mode: Mode) -> Result<Packed, Refused> {
         building::pack(self.axes, mode.number(), &self.bytes)
+    }
+
+    /// [`pack_for`](crate::pack_for) of it: by a profile.
+    ///
+    /// ```
+    /// use ivs::{Mode, Profile, Refusal};
+    ///
+    /// let mut writer = ivs::JobWriter::new(1);
+    /// let bold = writer.region(&[(0, 0x4000, 0x4000)])?;
+    /// writer.set(&[(bold, 40_000)])?;
+    /// let refused = writer.job().pack_for(Profile::Panel, Mode::Deduplicating).unwrap_err();
+    /// assert_eq!(refused.refusal(), Some(Refusal::LongValue));
+    /// # Ok::<(), ivs::Error>(())
+    /// ```
+    pub fn pack_for(&self, profile: Profile, mode: Mode) -> Result<Packed, Refused> {
+        building::pack_for(profile, self.axes, mode.number(), &self.bytes)
     }
 
     /// [`forecast`](crate::forecast()) of it.

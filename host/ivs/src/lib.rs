@@ -5,6 +5,7 @@
 //! * [`pack`]: a job into a store, in memory of its own.
 //! * [`build_into`]: the same in lent memory, which may be lent again from build to build;
 //!   [`build_report`] with the bare report.
+//! * [`pack_for`], [`build_into_for`]: the same by a [`Profile`], for a reader that takes less.
 //! * [`forecast`]: what a build would say, the store's bytes first, without building.
 //! * [`part`]: where two sets of a job part.
 //! * [`read`]: one value of a store, whatever its bytes are; [`Store`]: its regions, subtables
@@ -60,7 +61,10 @@ mod widths;
 mod wording;
 mod writer;
 
-pub use building::{build_into, build_report, pack, work_words, Done, Lent, Packed, Pair, PAIRS};
+pub use building::{
+    build_into, build_into_for, build_report, build_report_for, pack, pack_for, work_words, Done,
+    Lent, Packed, Pair, Profile, PAIRS,
+};
 pub use explain::written_for;
 pub use forecast::{forecast, forecast_report, forecast_with};
 pub use glyphs::{read_glyph, write_glyphs, write_glyphs_into, GLYPHS};

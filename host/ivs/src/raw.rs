@@ -9,7 +9,7 @@
 
 #![allow(unsafe_code)]
 
-use crate::{Lent, Pair};
+use crate::{Lent, Pair, Profile};
 use std::mem::size_of;
 
 const _: () = assert!(usize::BITS == 64, "the library is for pointers of 64 bits");
@@ -20,6 +20,28 @@ extern "C" {
     fn ivs_work_words(records: usize) -> usize;
 
     fn ivs_build(
+        axes: u32,
+        mode: u32,
+        job: *const u8,
+        job_len: usize,
+        work: *mut u32,
+        work_len: usize,
+        pairs: *mut Pair,
+        pairs_len: usize,
+        out: *mut u8,
+        out_len: usize,
+        ids: *mut u32,
+        ids_len: usize,
+        map: *mut u32,
+        map_len: usize,
+        log: *mut u32,
+        log_len: usize,
+        origins: *mut u32,
+        origins_len: usize,
+        report: *mut u64,
+    ) -> u32;
+
+    fn ivs_build_panel(
         axes: u32,
         mode: u32,
         job: *const u8,
@@ -87,13 +109,46 @@ pub fn work_words(records: usize) -> usize {
     unsafe { ivs_work_words(records) }
 }
 
-pub fn build(axes: u32, mode: u32, job: &[u8], lent: &mut Lent<'_>, report: &mut [u64; 16]) -> u32 {
+type Build = unsafe extern "C" fn(
+    u32,
+    u32,
+    *const u8,
+    usize,
+    *mut u32,
+    usize,
+    *mut Pair,
+    usize,
+    *mut u8,
+    usize,
+    *mut u32,
+    usize,
+    *mut u32,
+    usize,
+    *mut u32,
+    usize,
+    *mut u32,
+    usize,
+    *mut u64,
+) -> u32;
+
+pub fn build(
+    profile: Profile,
+    axes: u32,
+    mode: u32,
+    job: &[u8],
+    lent: &mut Lent<'_>,
+    report: &mut [u64; 16],
+) -> u32 {
+    let build: Build = match profile {
+        Profile::Plain => ivs_build,
+        Profile::Panel => ivs_build_panel,
+    };
     // SAFETY: every pointer comes with the length of what it points to (16 for the
     // report), is never null and is aligned, also where the length is 0, as pointers of
     // slices are; the mutable ones overlap nothing, since they were borrowed so. The
     // contract asks for nothing else.
     unsafe {
-        ivs_build(
+        build(
             axes,
             mode,
             job.as_ptr(),

@@ -78,6 +78,9 @@ refusals! {
     43 BadWidths BAD_WIDTHS
     61 OriginsShort ORIGINS_SHORT
     64 NoSet NO_SET
+    70 LongValue LONG_VALUE
+    71 BadRegion BAD_REGION
+    72 WideSubtable WIDE_SUBTABLE
 }
 
 impl Refusal {

@@ -22,6 +22,10 @@ pub(crate) const AXIS_OUT_OF_TURN: u32 = 32;
 pub(crate) const AXIS_TOO_LATE: u32 = 33;
 pub(crate) const REGION_UNFINISHED: u32 = 34;
 
+/// Those of the panel's profile at a record.
+pub(crate) const LONG_VALUE: u32 = 70;
+pub(crate) const BAD_REGION: u32 = 71;
+
 /// That of the job's end.
 pub(crate) const UNFINISHED: u32 = 8;
 
@@ -51,10 +55,10 @@ pub(crate) const NO_SET: u32 = 64;
 /// ```
 #[derive(Clone, Copy, Debug, PartialEq, Eq)]
 pub struct Refused {
-    /// The refusal number: 1 to 14, 30 to 34 and 61 of a job, 20 to 22 of a reading, 40 to 42 of a
-    /// glyph map, 43 of a width table, 64 of a set.
+    /// The refusal number: 1 to 14, 30 to 34 and 61 of a job, 70 to 72 by the panel's profile, 20
+    /// to 22 of a reading, 40 to 42 of a glyph map, 43 of a width table, 64 of a set.
     pub number: u32,
-    /// The record's index from 0 for 6, 7, 9 and 30 to 34; the record count for 8; else 0.
+    /// The record's index from 0 for 6, 7, 9, 30 to 34, 70 and 71; the record count for 8; else 0.
     pub place: u64,
     /// For 31 the byte within the record, from 0; else 0.
     pub byte: u64,
@@ -135,7 +139,12 @@ impl Refused {
         let (number, name) = (self.number, self.name());
         let (record, byte) = (self.place, RECORD as u64 * self.place);
         match number {
-            UNKNOWN_REGION | REGION_TWICE | SETS_FULL | UNKNOWN_KIND..=REGION_UNFINISHED => {
+            UNKNOWN_REGION
+            | REGION_TWICE
+            | SETS_FULL
+            | UNKNOWN_KIND..=REGION_UNFINISHED
+            | LONG_VALUE
+            | BAD_REGION => {
                 format!("{number} {name} at record {record} (byte {byte})")
             }
             UNFINISHED => format!("{number} {name} after record {record} (byte {byte})"),

@@ -20,6 +20,9 @@ u64 ivs_work_words(u64 records);
 u32 ivs_build(u32 axes, u32 mode, const u8 *job, u64 job_len, u32 *work, u64 work_len, pair *pairs, u64 pairs_len,
               u8 *out, u64 out_len, u32 *ids, u64 ids_len, u32 *map, u64 map_len, u32 *log, u64 log_len, u32 *origins,
               u64 origins_len, u64 *report);
+u32 ivs_build_panel(u32 axes, u32 mode, const u8 *job, u64 job_len, u32 *work, u64 work_len, pair *pairs, u64 pairs_len,
+                    u8 *out, u64 out_len, u32 *ids, u64 ids_len, u32 *map, u64 map_len, u32 *log, u64 log_len,
+                    u32 *origins, u64 origins_len, u64 *report);
 u32 ivs_forecast(u32 axes, u32 mode, const u8 *job, u64 job_len, u32 *work, u64 work_len, pair *pairs, u64 pairs_len,
                  u64 *report);
 u32 ivs_part(u32 axes, const u8 *job, u64 job_len, u32 first, u32 second, u32 *work, u64 work_len, u64 *report);
@@ -98,7 +101,7 @@ static int holds(const u8 *at, u64 count) {
 #define PAIRS_ROOM (1ul << 25)
 
 /* What is asked. */
-enum { WORK_WORDS, BUILD, READ, WRITE_GLYPHS, READ_GLYPH, FORECAST, PART, WRITE_WIDTHS = 20, READ_WIDTH };
+enum { WORK_WORDS, BUILD, READ, WRITE_GLYPHS, READ_GLYPH, FORECAST, PART, BUILD_PANEL, WRITE_WIDTHS = 20, READ_WIDTH };
 
 /* The parts of a question, with the bytes of one of each. */
 enum { JOB, WORK, PAIRS, OUT, IDS, MAP, LOG, ORIGINS, REPORT, PARTS };
@@ -133,6 +136,13 @@ static u64 build(const u64 *asked, const u64 *count, u8 **at) {
                      (u32 *)at[LOG], count[LOG], (u32 *)at[ORIGINS], count[ORIGINS], (u64 *)at[REPORT]);
 }
 
+static u64 build_panel(const u64 *asked, const u64 *count, u8 **at) {
+    return ivs_build_panel((u32)asked[1], (u32)asked[2], at[JOB], count[JOB], (u32 *)at[WORK], count[WORK],
+                           (pair *)at[PAIRS], count[PAIRS], at[OUT], count[OUT], (u32 *)at[IDS], count[IDS],
+                           (u32 *)at[MAP], count[MAP], (u32 *)at[LOG], count[LOG], (u32 *)at[ORIGINS], count[ORIGINS],
+                           (u64 *)at[REPORT]);
+}
+
 static u64 forecast(const u64 *asked, const u64 *count, u8 **at) {
     return ivs_forecast((u32)asked[1], (u32)asked[2], at[JOB], count[JOB], (u32 *)at[WORK], count[WORK],
                         (pair *)at[PAIRS], count[PAIRS], (u64 *)at[REPORT]);
@@ -147,6 +157,7 @@ static u64 answered(const u64 *asked, const u64 *count, u8 **at) {
     switch (asked[0]) {
     case WORK_WORDS: return ivs_work_words(asked[1]);
     case BUILD: return build(asked, count, at);
+    case BUILD_PANEL: return build_panel(asked, count, at);
     case FORECAST: return forecast(asked, count, at);
     case PART: return part(asked, count, at);
     case WRITE_GLYPHS: return ivs_write_glyphs((u32 *)at[WORK], count[WORK], at[OUT], count[OUT]);
@@ -159,7 +170,7 @@ static u64 answered(const u64 *asked, const u64 *count, u8 **at) {
 }
 
 /* Whether the call has a report. */
-static int reports(u64 what) { return what == BUILD || what == FORECAST || what == PART; }
+static int reports(u64 what) { return what == BUILD || what == BUILD_PANEL || what == FORECAST || what == PART; }
 
 __attribute__((force_align_arg_pointer)) void _start(void) {
     u8 *room = (u8 *)system_call(9, 0, ROOM + PAIRS_ROOM, 3, 0x4022, -1, 0);

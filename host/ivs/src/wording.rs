@@ -134,6 +134,21 @@ pub fn of(number: u32) -> (&'static str, &'static str, &'static str) {
             "the job has no set of that number",
             "ask for two of its sets, counted from 0",
         ),
+        70 => (
+            "LONG_VALUE",
+            "the panel's reader takes values of 16 bits, -32,768 to 32,767",
+            "build without the profile, or make the value smaller",
+        ),
+        71 => (
+            "BAD_REGION",
+            "the panel's reader skips a region with such an axis",
+            "keep start <= peak <= end within -1 to 1, and the peak at 0 where start is below 0 and end above",
+        ),
+        72 => (
+            "WIDE_SUBTABLE",
+            "a subtable would have more than 32 regions in use, which the panel's reader does not take",
+            "use mode 0, split the sets, or build without the profile",
+        ),
         _ => ("UNKNOWN", "the refusal is not known", "report it"),
     }
 }

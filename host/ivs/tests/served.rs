@@ -6,7 +6,7 @@
 #[path = "../src/emulated.rs"]
 mod emulated;
 
-use ivs::{Lent, Pair};
+use ivs::{Lent, Pair, Profile};
 use std::path::Path;
 use std::process::Command;
 
@@ -127,10 +127,14 @@ fn the_same_both_ways() {
         assert_eq!(emulated::work_words(job.len() / 12), words);
         let mut linked = Memory::of(&mut numbers, words);
         let mut served = linked.clone();
-        let answer = linked.lent(|lent, report| ivs::build_report(1, mode, &job, lent, report));
-        let other = served.lent(|lent, report| emulated::build(1, mode, &job, lent, report));
-        assert!(answer == other && linked == served, "{round}: build");
-        done += usize::from(answer == 0);
+        for profile in [Profile::Panel, Profile::Plain] {
+            let answer = linked
+                .lent(|lent, report| ivs::build_report_for(profile, 1, mode, &job, lent, report));
+            let other =
+                served.lent(|lent, report| emulated::build(profile, 1, mode, &job, lent, report));
+            assert!(answer == other && linked == served, "{round}: {profile:?}");
+            done += usize::from(answer == 0);
+        }
 
         let answer = linked.lent(|lent, report| {
             ivs::forecast_report(1, mode, &job, lent.work, lent.pairs, report)

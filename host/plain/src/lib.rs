@@ -118,11 +118,31 @@ pub fn work_words(records: usize) -> usize {
     16 * records + square * square
 }
 
+/// For which reader a store is built.
+#[derive(Clone, Copy, Debug, PartialEq, Eq)]
+pub enum Profile {
+    /// Any.
+    Plain,
+    /// The panel's (R70 to R72).
+    Panel,
+}
+
 /// One build call: what it answers, and what it writes when it is done.
 pub fn build(axes: u32, mode: u32, job: &[u8], sizes: &Sizes) -> Result<Done, Refused> {
+    build_for(Profile::Plain, axes, mode, job, sizes)
+}
+
+/// The same by a profile.
+pub fn build_for(
+    profile: Profile,
+    axes: u32,
+    mode: u32,
+    job: &[u8],
+    sizes: &Sizes,
+) -> Result<Done, Refused> {
     early(axes, mode, job, sizes.work, sizes.pairs)?;
     // The records, then the end of the job (T2, T3).
-    let said = records::check(axes as usize, mode, job)?;
+    let said = records::check(profile, axes as usize, mode, job)?;
     let numbered = sets::number(mode, &said);
     let regions = numbered.regions.len();
 
@@ -137,6 +157,10 @@ pub fn build(axes: u32, mode: u32, job: &[u8], sizes: &Sizes) -> Result<Done, Re
     } else {
         Plan::one_group(&numbered.sets, regions)
     };
+    // R72, behind R10.
+    if profile == Profile::Panel && plan.groups.iter().any(|group| group.shape.columns() > 32) {
+        return Err(Refused::at(number::WIDE_SUBTABLE, 0));
+    }
     let laid = store::lay(axes as usize, &numbered, &plan.groups, mode == 1);
     let counts = Counts {
         store_bytes: laid.bytes.len() as u64,

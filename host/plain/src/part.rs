@@ -36,7 +36,7 @@ pub fn part(
 ) -> Result<Parted, Refused> {
     // As a build of mode 0 that is lent pair records; so R2 and R9 are never given.
     crate::early(axes, 0, job, work, crate::PAIRS)?;
-    let said = records::check(axes as usize, 0, job)?;
+    let said = records::check(crate::Profile::Plain, axes as usize, 0, job)?;
     let set = |number: u32| said.sets.get(number as usize);
     let (Some(first), Some(second)) = (set(first), set(second)) else {
         return Err(Refused::at(number::NO_SET, 0));

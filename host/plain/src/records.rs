@@ -1,6 +1,7 @@
-//! The job (J1 to J6), with refusals 6 to 9 and 30 to 34.
+//! The job (J1 to J6), with refusals 6 to 9, 30 to 34, 70 and 71.
 
 use crate::refusals::{number, Refused};
+use crate::Profile;
 
 /// Bytes of a record.
 pub const RECORD: usize = 12;
@@ -30,7 +31,7 @@ struct Reader<'a> {
 }
 
 /// The records from the first on (T2), then the end of the job (T3).
-pub fn check(axes: usize, mode: u32, job: &[u8]) -> Result<Said, Refused> {
+pub fn check(profile: Profile, axes: usize, mode: u32, job: &[u8]) -> Result<Said, Refused> {
     let mut reader = Reader {
         axes,
         mode,
@@ -42,6 +43,9 @@ pub fn check(axes: usize, mode: u32, job: &[u8]) -> Result<Said, Refused> {
     };
     for place in 0..job.len() / RECORD {
         reader.record(place)?;
+        if profile == Profile::Panel {
+            panel(place, &job[RECORD * place..RECORD * (place + 1)])?;
+        }
     }
     // R8, placed at the record count (T5).
     if !reader.open.is_empty() || reader.in_region() {
@@ -55,6 +59,27 @@ pub fn check(axes: usize, mode: u32, job: &[u8]) -> Result<Said, Refused> {
             .collect(),
         sets: reader.sets,
     })
+}
+
+/// What the panel's reader does not take of a record that is right (R70, R71).
+fn panel(place: usize, record: &[u8]) -> Result<(), Refused> {
+    let two = |i: usize| i16::from_be_bytes([record[i], record[i + 1]]);
+    let value = i32::from_be_bytes([record[4], record[5], record[6], record[7]]);
+    if record[0] == 2 && i16::try_from(value).is_err() {
+        return Err(Refused::at(number::LONG_VALUE, place));
+    }
+    let (start, peak, end) = (two(4), two(6), two(8));
+    let within = |x: i16| (-0x4000..=0x4000).contains(&x);
+    let sound = start <= peak
+        && peak <= end
+        && within(start)
+        && within(peak)
+        && within(end)
+        && !(start < 0 && end > 0 && peak != 0);
+    if record[0] == 1 && !sound {
+        return Err(Refused::at(number::BAD_REGION, place));
+    }
+    Ok(())
 }
 
 impl Reader<'_> {

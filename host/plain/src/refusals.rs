@@ -28,6 +28,9 @@ pub mod number {
     pub const REGION_UNFINISHED: u32 = 34;
     pub const ORIGINS_SHORT: u32 = 61;
     pub const NO_SET: u32 = 64;
+    pub const LONG_VALUE: u32 = 70;
+    pub const BAD_REGION: u32 = 71;
+    pub const WIDE_SUBTABLE: u32 = 72;
 }
 
 /// The name of a refusal number.
@@ -56,6 +59,9 @@ pub fn name(refusal: u32) -> &'static str {
         number::REGION_UNFINISHED => "REGION_UNFINISHED",
         number::ORIGINS_SHORT => "ORIGINS_SHORT",
         number::NO_SET => "NO_SET",
+        number::LONG_VALUE => "LONG_VALUE",
+        number::BAD_REGION => "BAD_REGION",
+        number::WIDE_SUBTABLE => "WIDE_SUBTABLE",
         _ => "unknown",
     }
 }

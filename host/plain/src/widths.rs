@@ -50,7 +50,12 @@ impl Shape {
 
     /// Overhead (W5).
     pub fn overhead(&self) -> u64 {
-        10 + 2 * self.0.iter().filter(|&&w| w != Width::None).count() as u64
+        10 + 2 * self.columns() as u64
+    }
+
+    /// The regions that have a column (C1).
+    pub fn columns(&self) -> usize {
+        self.0.iter().filter(|&&w| w != Width::None).count()
     }
 
     /// The wider width at each region (W7).

@@ -19,7 +19,7 @@ use contract.Monad.{Fun, fact, factI}
 use contract.Running.{givenOf, tables, tablesOf}
 use types.Kit.{Given, Item, ‵, raw, later, _⊛_, ⋆, mean, Sq, runs, atRet, _$_, _∵_, !, qed, by, move, drop, use0, use1, split, join, pick, learn, rewrite, fsplit, fjoin, suffices, frame, await, now as at-once, done}
 use types.Part.{agg, whole, sub, look-in}
-use types.Run.{look, init, forget, stop, hop, fld, from, load, addr, and-then, no-more, assigns, calls, land, returns, enter, alloc1, alloc0, params1, pass1, pass0, free1, free0}
+use types.Run.{look, init, forget, stop, hop, fld, from, load, lit, addr, and-then, no-more, assigns, calls, land, returns, enter, alloc1, alloc0, params1, pass1, pass0, free1, free0}
 use sound.WpLaws.{FmC, fmOf, WpFn-mono}
 use denote.RattleType.{owns}
 use denote.Memory.{pointee}
@@ -39,6 +39,7 @@ use denote.Triple.Walked.{Stays, stay-ref, stay-slice, stay-none-slice, stay-non
 use denote.Exit.{yes}
 use Rattle.finishing.specs.Buffers.{buffers}
 use Rattle.call.specs.Lending.{lending, leaves}
+use Rattle.packer.proofs.BuildLaws.{plain-obeys}
 use Rattle.ivs.specs.Answered.{Answered}
 use Rattle.ivs.proofs.FewLaws.{answer-few, answer-within}
 use Rattle.pairs.specs.declared.Pair.{Pair}
@@ -46,6 +47,9 @@ use Rattle.pairs.proofs.Pair as T
 use Rattle.finishing.specs.declared.answers.Built.{Built}
 use Rattle.finishing.proofs.answers.Built as D
 use Rattle.finishing.proofs.answers.Built.Laws as D′
+use Rattle.panel.proofs.Profile as E
+use Rattle.panel.proofs.Profile.Laws as E′
+use Rattle.panel.specs.declared.Profile.the-variants.{Plain}
 use Rattle.pairs.proofs.Slices.{ref, Has, Sees}
 use Rattle.pairs.proofs.Refs.{HasRef, at-ref}
 use Rattle.pairs.proofs.Clauses.{needs-none}
@@ -178,29 +182,30 @@ module _ {M : Type 1} (𝓤 : URA M) (H : Heap 𝓤) (A : Atoms 𝓤) (W : Given
     small : (k : ℕ) → k ≤ ν → k < 2 ^ 64
     small k l = let r = sized .0 in omega arith
 
-    module _ (l₀ l₁ l₂ l₃ l₄ l₅ l₆ l₇ l₈ l₉ l₁₀ l₁₁ l₁₂ l₁₃ l₁₄ l₁₅ l₁₆ l₁₇ l₁₈ l₁₉ l₂₀ l₂₁ l₂₂ l₂₃ l₂₄ l₂₅ l₂₆ l₂₇ : ℕ) where
+    module _ (l₀ l₁ l₂ l₃ l₄ l₅ l₆ l₇ l₈ l₉ l₁₀ l₁₁ l₁₂ l₁₃ l₁₄ l₁₅ l₁₆ l₁₇ l₁₈ l₁₉ l₂₀ l₂₁ l₂₂ l₂₃ l₂₄ l₂₅ l₂₆ l₂₇ l₂₈ : ℕ) where
       abbrev En : Env 𝓤 H
-      En = (tyInt w32, l₀) ∷ (tyInt w32, l₁) ∷ (tyInt w32, l₂) ∷ (sliceTy (tyRef (named 0) imm (tyInt w8)), l₃) ∷ (sliceTy (tyRef (named 1) mut (tyInt w32)), l₄) ∷ (sliceTy (tyRef (named 2) mut (pointee (T.the-row .written))), l₅) ∷ (sliceTy (tyRef (named 3) mut (tyInt w8)), l₆) ∷ (sliceTy (tyRef (named 4) mut (tyInt w32)), l₇) ∷ (sliceTy (tyRef (named 5) mut (tyInt w32)), l₈) ∷ (sliceTy (tyRef (named 6) mut (tyInt w32)), l₉) ∷ (sliceTy (tyRef (named 7) mut (tyInt w32)), l₁₀) ∷ (tyRef (named 8) mut (pointee (Array u64 tt 16 .written)), l₁₁) ∷ (D′.mir, l₁₂) ∷ (tyRef erased mut (tyInt w32), l₁₃) ∷ (sliceTy (tyRef erased mut (tyInt w32)), l₁₄) ∷ (tyRef erased mut (pointee (T.the-row .written)), l₁₅) ∷ (sliceTy (tyRef erased mut (pointee (T.the-row .written))), l₁₆) ∷ (tyRef erased mut (tyInt w8), l₁₇) ∷ (sliceTy (tyRef erased mut (tyInt w8)), l₁₈) ∷ (tyRef erased mut (tyInt w32), l₁₉) ∷ (sliceTy (tyRef erased mut (tyInt w32)), l₂₀) ∷ (tyRef erased mut (tyInt w32), l₂₁) ∷ (sliceTy (tyRef erased mut (tyInt w32)), l₂₂) ∷ (tyRef erased mut (tyInt w32), l₂₃) ∷ (sliceTy (tyRef erased mut (tyInt w32)), l₂₄) ∷ (tyRef erased mut (tyInt w32), l₂₅) ∷ (sliceTy (tyRef erased mut (tyInt w32)), l₂₆) ∷ (tyRef erased mut (pointee (Array u64 tt 16 .written)), l₂₇) ∷ []
+      En = (tyInt w32, l₀) ∷ (tyInt w32, l₁) ∷ (tyInt w32, l₂) ∷ (sliceTy (tyRef (named 0) imm (tyInt w8)), l₃) ∷ (sliceTy (tyRef (named 1) mut (tyInt w32)), l₄) ∷ (sliceTy (tyRef (named 2) mut (pointee (T.the-row .written))), l₅) ∷ (sliceTy (tyRef (named 3) mut (tyInt w8)), l₆) ∷ (sliceTy (tyRef (named 4) mut (tyInt w32)), l₇) ∷ (sliceTy (tyRef (named 5) mut (tyInt w32)), l₈) ∷ (sliceTy (tyRef (named 6) mut (tyInt w32)), l₉) ∷ (sliceTy (tyRef (named 7) mut (tyInt w32)), l₁₀) ∷ (tyRef (named 8) mut (pointee (Array u64 tt 16 .written)), l₁₁) ∷ (D′.mir, l₁₂) ∷ (E′.mir, l₁₃) ∷ (tyRef erased mut (tyInt w32), l₁₄) ∷ (sliceTy (tyRef erased mut (tyInt w32)), l₁₅) ∷ (tyRef erased mut (pointee (T.the-row .written)), l₁₆) ∷ (sliceTy (tyRef erased mut (pointee (T.the-row .written))), l₁₇) ∷ (tyRef erased mut (tyInt w8), l₁₈) ∷ (sliceTy (tyRef erased mut (tyInt w8)), l₁₉) ∷ (tyRef erased mut (tyInt w32), l₂₀) ∷ (sliceTy (tyRef erased mut (tyInt w32)), l₂₁) ∷ (tyRef erased mut (tyInt w32), l₂₂) ∷ (sliceTy (tyRef erased mut (tyInt w32)), l₂₃) ∷ (tyRef erased mut (tyInt w32), l₂₄) ∷ (sliceTy (tyRef erased mut (tyInt w32)), l₂₅) ∷ (tyRef erased mut (tyInt w32), l₂₆) ∷ (sliceTy (tyRef erased mut (tyInt w32)), l₂₇) ∷ (tyRef erased mut (pointee (Array u64 tt 16 .written)), l₂₈) ∷ []
 
       abbrev Start : List (Item 𝓤)
-      Start = Slice job ∷ Slice₂ work ∷ Slice₃ pairs ∷ Slice₄ out ∷ Slice₅ ids ∷ Slice₆ map ∷ Slice₇ log ∷ Slice₈ origins ∷ Slice₉ report ∷ ‵ (froom (tyRef erased mut (pointee (Array u64 tt 16 .written))) l₂₇ 0) ∷ ‵ (fdies (tyRef erased mut (pointee (Array u64 tt 16 .written))) l₂₇) ∷ ‵ (froom (sliceTy (tyRef erased mut (tyInt w32))) l₂₆ 0) ∷ ‵ (fdies (sliceTy (tyRef erased mut (tyInt w32))) l₂₆) ∷ ‵ (froom (tyRef erased mut (tyInt w32)) l₂₅ 0) ∷ ‵ (fdies (tyRef erased mut (tyInt w32)) l₂₅) ∷ ‵ (froom (sliceTy (tyRef erased mut (tyInt w32))) l₂₄ 0) ∷ ‵ (fdies (sliceTy (tyRef erased mut (tyInt w32))) l₂₄) ∷ ‵ (froom (tyRef erased mut (tyInt w32)) l₂₃ 0) ∷ ‵ (fdies (tyRef erased mut (tyInt w32)) l₂₃) ∷ ‵ (froom (sliceTy (tyRef erased mut (tyInt w32))) l₂₂ 0) ∷ ‵ (fdies (sliceTy (tyRef erased mut (tyInt w32))) l₂₂) ∷ ‵ (froom (tyRef erased mut (tyInt w32)) l₂₁ 0) ∷ ‵ (fdies (tyRef erased mut (tyInt w32)) l₂₁) ∷ ‵ (froom (sliceTy (tyRef erased mut (tyInt w32))) l₂₀ 0) ∷ ‵ (fdies (sliceTy (tyRef erased mut (tyInt w32))) l₂₀) ∷ ‵ (froom (tyRef erased mut (tyInt w32)) l₁₉ 0) ∷ ‵ (fdies (tyRef erased mut (tyInt w32)) l₁₉) ∷ ‵ (froom (sliceTy (tyRef erased mut (tyInt w8))) l₁₈ 0) ∷ ‵ (fdies (sliceTy (tyRef erased mut (tyInt w8))) l₁₈) ∷ ‵ (froom (tyRef erased mut (tyInt w8)) l₁₇ 0) ∷ ‵ (fdies (tyRef erased mut (tyInt w8)) l₁₇) ∷ ‵ (froom (sliceTy (tyRef erased mut (pointee (T.the-row .written)))) l₁₆ 0) ∷ ‵ (fdies (sliceTy (tyRef erased mut (pointee (T.the-row .written)))) l₁₆) ∷ ‵ (froom (tyRef erased mut (pointee (T.the-row .written))) l₁₅ 0) ∷ ‵ (fdies (tyRef erased mut (pointee (T.the-row .written))) l₁₅) ∷ ‵ (froom (sliceTy (tyRef erased mut (tyInt w32))) l₁₄ 0) ∷ ‵ (fdies (sliceTy (tyRef erased mut (tyInt w32))) l₁₄) ∷ ‵ (froom (tyRef erased mut (tyInt w32)) l₁₃ 0) ∷ ‵ (fdies (tyRef erased mut (tyInt w32)) l₁₃) ∷ ‵ (froom (D′.mir) l₁₂ 0) ∷ ‵ (fdies (D′.mir) l₁₂) ∷ ‵ (fat fullShare (tyRef (named 8) mut (pointee (Array u64 tt 16 .written))) l₁₁ 0 (σ₉)) ∷ ‵ (fdies (tyRef (named 8) mut (pointee (Array u64 tt 16 .written))) l₁₁) ∷ ‵ (fat fullShare (sliceTy (tyRef (named 7) mut (tyInt w32))) l₁₀ 0 (σ₈)) ∷ ‵ (fdies (sliceTy (tyRef (named 7) mut (tyInt w32))) l₁₀) ∷ ‵ (fat fullShare (sliceTy (tyRef (named 6) mut (tyInt w32))) l₉ 0 (σ₇)) ∷ ‵ (fdies (sliceTy (tyRef (named 6) mut (tyInt w32))) l₉) ∷ ‵ (fat fullShare (sliceTy (tyRef (named 5) mut (tyInt w32))) l₈ 0 (σ₆)) ∷ ‵ (fdies (sliceTy (tyRef (named 5) mut (tyInt w32))) l₈) ∷ ‵ (fat fullShare (sliceTy (tyRef (named 4) mut (tyInt w32))) l₇ 0 (σ₅)) ∷ ‵ (fdies (sliceTy (tyRef (named 4) mut (tyInt w32))) l₇) ∷ ‵ (fat fullShare (sliceTy (tyRef (named 3) mut (tyInt w8))) l₆ 0 (σ₄)) ∷ ‵ (fdies (sliceTy (tyRef (named 3) mut (tyInt w8))) l₆) ∷ ‵ (fat fullShare (sliceTy (tyRef (named 2) mut (pointee (T.the-row .written)))) l₅ 0 (σ₃)) ∷ ‵ (fdies (sliceTy (tyRef (named 2) mut (pointee (T.the-row .written)))) l₅) ∷ ‵ (fat fullShare (sliceTy (tyRef (named 1) mut (tyInt w32))) l₄ 0 (σ₂)) ∷ ‵ (fdies (sliceTy (tyRef (named 1) mut (tyInt w32))) l₄) ∷ ‵ (fat fullShare (sliceTy (tyRef (named 0) imm (tyInt w8))) l₃ 0 (σ)) ∷ ‵ (fdies (sliceTy (tyRef (named 0) imm (tyInt w8))) l₃) ∷ ‵ (fat fullShare (tyInt w32) l₂ 0 (vint w32 mode)) ∷ ‵ (fdies (tyInt w32) l₂) ∷ ‵ (fat fullShare (tyInt w32) l₁ 0 (vint w32 axes)) ∷ ‵ (fdies (tyInt w32) l₁) ∷ ‵ (froom (tyInt w32) l₀ 0) ∷ ‵ (fdies (tyInt w32) l₀) ∷ []
+      Start = Slice job ∷ Slice₂ work ∷ Slice₃ pairs ∷ Slice₄ out ∷ Slice₅ ids ∷ Slice₆ map ∷ Slice₇ log ∷ Slice₈ origins ∷ Slice₉ report ∷ ‵ (froom (tyRef erased mut (pointee (Array u64 tt 16 .written))) l₂₈ 0) ∷ ‵ (fdies (tyRef erased mut (pointee (Array u64 tt 16 .written))) l₂₈) ∷ ‵ (froom (sliceTy (tyRef erased mut (tyInt w32))) l₂₇ 0) ∷ ‵ (fdies (sliceTy (tyRef erased mut (tyInt w32))) l₂₇) ∷ ‵ (froom (tyRef erased mut (tyInt w32)) l₂₆ 0) ∷ ‵ (fdies (tyRef erased mut (tyInt w32)) l₂₆) ∷ ‵ (froom (sliceTy (tyRef erased mut (tyInt w32))) l₂₅ 0) ∷ ‵ (fdies (sliceTy (tyRef erased mut (tyInt w32))) l₂₅) ∷ ‵ (froom (tyRef erased mut (tyInt w32)) l₂₄ 0) ∷ ‵ (fdies (tyRef erased mut (tyInt w32)) l₂₄) ∷ ‵ (froom (sliceTy (tyRef erased mut (tyInt w32))) l₂₃ 0) ∷ ‵ (fdies (sliceTy (tyRef erased mut (tyInt w32))) l₂₃) ∷ ‵ (froom (tyRef erased mut (tyInt w32)) l₂₂ 0) ∷ ‵ (fdies (tyRef erased mut (tyInt w32)) l₂₂) ∷ ‵ (froom (sliceTy (tyRef erased mut (tyInt w32))) l₂₁ 0) ∷ ‵ (fdies (sliceTy (tyRef erased mut (tyInt w32))) l₂₁) ∷ ‵ (froom (tyRef erased mut (tyInt w32)) l₂₀ 0) ∷ ‵ (fdies (tyRef erased mut (tyInt w32)) l₂₀) ∷ ‵ (froom (sliceTy (tyRef erased mut (tyInt w8))) l₁₉ 0) ∷ ‵ (fdies (sliceTy (tyRef erased mut (tyInt w8))) l₁₉) ∷ ‵ (froom (tyRef erased mut (tyInt w8)) l₁₈ 0) ∷ ‵ (fdies (tyRef erased mut (tyInt w8)) l₁₈) ∷ ‵ (froom (sliceTy (tyRef erased mut (pointee (T.the-row .written)))) l₁₇ 0) ∷ ‵ (fdies (sliceTy (tyRef erased mut (pointee (T.the-row .written)))) l₁₇) ∷ ‵ (froom (tyRef erased mut (pointee (T.the-row .written))) l₁₆ 0) ∷ ‵ (fdies (tyRef erased mut (pointee (T.the-row .written))) l₁₆) ∷ ‵ (froom (sliceTy (tyRef erased mut (tyInt w32))) l₁₅ 0) ∷ ‵ (fdies (sliceTy (tyRef erased mut (tyInt w32))) l₁₅) ∷ ‵ (froom (tyRef erased mut (tyInt w32)) l₁₄ 0) ∷ ‵ (fdies (tyRef erased mut (tyInt w32)) l₁₄) ∷ ‵ (froom (E′.mir) l₁₃ 0) ∷ ‵ (fdies (E′.mir) l₁₃) ∷ ‵ (froom (D′.mir) l₁₂ 0) ∷ ‵ (fdies (D′.mir) l₁₂) ∷ ‵ (fat fullShare (tyRef (named 8) mut (pointee (Array u64 tt 16 .written))) l₁₁ 0 (σ₉)) ∷ ‵ (fdies (tyRef (named 8) mut (pointee (Array u64 tt 16 .written))) l₁₁) ∷ ‵ (fat fullShare (sliceTy (tyRef (named 7) mut (tyInt w32))) l₁₀ 0 (σ₈)) ∷ ‵ (fdies (sliceTy (tyRef (named 7) mut (tyInt w32))) l₁₀) ∷ ‵ (fat fullShare (sliceTy (tyRef (named 6) mut (tyInt w32))) l₉ 0 (σ₇)) ∷ ‵ (fdies (sliceTy (tyRef (named 6) mut (tyInt w32))) l₉) ∷ ‵ (fat fullShare (sliceTy (tyRef (named 5) mut (tyInt w32))) l₈ 0 (σ₆)) ∷ ‵ (fdies (sliceTy (tyRef (named 5) mut (tyInt w32))) l₈) ∷ ‵ (fat fullShare (sliceTy (tyRef (named 4) mut (tyInt w32))) l₇ 0 (σ₅)) ∷ ‵ (fdies (sliceTy (tyRef (named 4) mut (tyInt w32))) l₇) ∷ ‵ (fat fullShare (sliceTy (tyRef (named 3) mut (tyInt w8))) l₆ 0 (σ₄)) ∷ ‵ (fdies (sliceTy (tyRef (named 3) mut (tyInt w8))) l₆) ∷ ‵ (fat fullShare (sliceTy (tyRef (named 2) mut (pointee (T.the-row .written)))) l₅ 0 (σ₃)) ∷ ‵ (fdies (sliceTy (tyRef (named 2) mut (pointee (T.the-row .written)))) l₅) ∷ ‵ (fat fullShare (sliceTy (tyRef (named 1) mut (tyInt w32))) l₄ 0 (σ₂)) ∷ ‵ (fdies (sliceTy (tyRef (named 1) mut (tyInt w32))) l₄) ∷ ‵ (fat fullShare (sliceTy (tyRef (named 0) imm (tyInt w8))) l₃ 0 (σ)) ∷ ‵ (fdies (sliceTy (tyRef (named 0) imm (tyInt w8))) l₃) ∷ ‵ (fat fullShare (tyInt w32) l₂ 0 (vint w32 mode)) ∷ ‵ (fdies (tyInt w32) l₂) ∷ ‵ (fat fullShare (tyInt w32) l₁ 0 (vint w32 axes)) ∷ ‵ (fdies (tyInt w32) l₁) ∷ ‵ (froom (tyInt w32) l₀ 0) ∷ ‵ (fdies (tyInt w32) l₀) ∷ []
 
       body : Sq W Start (runs C Λ En code-mir.t-1 (atRet En Post))
       body =
-          assigns ! (addr ! (from ! (fld ! refl (hop ! (look-in ! 55 (sub ! 0 refl (whole !))) (stop !))))) (from ! (stop !)) (init ! 37 refl (tt, tt)) $
-          assigns ! (agg ! (and-then ! (load ! (from ! (stop !)) (look ! 37 refl)) (and-then ! (load ! (from ! (fld ! refl (stop !))) (look-in ! 55 (sub ! 1 refl (whole !)))) (no-more !)))) (from ! (stop !)) (init ! 35 refl (tt, (tt, (record { fits = sized₂ .0 }, tt)))) $
-          assigns ! (addr ! (from ! (fld ! refl (hop ! (look-in ! 53 (sub ! 0 refl (whole !))) (stop !))))) (from ! (stop !)) (init ! 33 refl (tt, tt)) $
-          assigns ! (agg ! (and-then ! (load ! (from ! (stop !)) (look ! 33 refl)) (and-then ! (load ! (from ! (fld ! refl (stop !))) (look-in ! 53 (sub ! 1 refl (whole !)))) (no-more !)))) (from ! (stop !)) (init ! 31 refl (tt, (tt, (record { fits = sized₃ .0 }, tt)))) $
-          assigns ! (addr ! (from ! (fld ! refl (hop ! (look-in ! 51 (sub ! 0 refl (whole !))) (stop !))))) (from ! (stop !)) (init ! 29 refl (tt, tt)) $
-          assigns ! (agg ! (and-then ! (load ! (from ! (stop !)) (look ! 29 refl)) (and-then ! (load ! (from ! (fld ! refl (stop !))) (look-in ! 51 (sub ! 1 refl (whole !)))) (no-more !)))) (from ! (stop !)) (init ! 27 refl (tt, (tt, (record { fits = sized₄ .0 }, tt)))) $
-          assigns ! (addr ! (from ! (fld ! refl (hop ! (look-in ! 49 (sub ! 0 refl (whole !))) (stop !))))) (from ! (stop !)) (init ! 25 refl (tt, tt)) $
-          assigns ! (agg ! (and-then ! (load ! (from ! (stop !)) (look ! 25 refl)) (and-then ! (load ! (from ! (fld ! refl (stop !))) (look-in ! 49 (sub ! 1 refl (whole !)))) (no-more !)))) (from ! (stop !)) (init ! 23 refl (tt, (tt, (record { fits = sized₅ .0 }, tt)))) $
-          assigns ! (addr ! (from ! (fld ! refl (hop ! (look-in ! 47 (sub ! 0 refl (whole !))) (stop !))))) (from ! (stop !)) (init ! 21 refl (tt, tt)) $
-          assigns ! (agg ! (and-then ! (load ! (from ! (stop !)) (look ! 21 refl)) (and-then ! (load ! (from ! (fld ! refl (stop !))) (look-in ! 47 (sub ! 1 refl (whole !)))) (no-more !)))) (from ! (stop !)) (init ! 19 refl (tt, (tt, (record { fits = sized₆ .0 }, tt)))) $
-          assigns ! (addr ! (from ! (fld ! refl (hop ! (look-in ! 45 (sub ! 0 refl (whole !))) (stop !))))) (from ! (stop !)) (init ! 17 refl (tt, tt)) $
-          assigns ! (agg ! (and-then ! (load ! (from ! (stop !)) (look ! 17 refl)) (and-then ! (load ! (from ! (fld ! refl (stop !))) (look-in ! 45 (sub ! 1 refl (whole !)))) (no-more !)))) (from ! (stop !)) (init ! 15 refl (tt, (tt, (record { fits = sized₇ .0 }, tt)))) $
-          assigns ! (addr ! (from ! (fld ! refl (hop ! (look-in ! 43 (sub ! 0 refl (whole !))) (stop !))))) (from ! (stop !)) (init ! 13 refl (tt, tt)) $
-          assigns ! (agg ! (and-then ! (load ! (from ! (stop !)) (look ! 13 refl)) (and-then ! (load ! (from ! (fld ! refl (stop !))) (look-in ! 43 (sub ! 1 refl (whole !)))) (no-more !)))) (from ! (stop !)) (init ! 11 refl (tt, (tt, (record { fits = sized₈ .0 }, tt)))) $
+          assigns ! (agg ! (and-then ! (lit ! tt) (no-more !))) (from ! (stop !)) (init ! 39 refl (EL.lawful E.the-type E′.the-laws 𝓤 H A W tt .typed Plain _ (EL.owes E.the-type E′.the-laws Plain tt) .0)) $
+          assigns ! (addr ! (from ! (fld ! refl (hop ! (look-in ! 57 (sub ! 0 refl (whole !))) (stop !))))) (from ! (stop !)) (init ! 37 refl (tt, tt)) $
+          assigns ! (agg ! (and-then ! (load ! (from ! (stop !)) (look ! 37 refl)) (and-then ! (load ! (from ! (fld ! refl (stop !))) (look-in ! 57 (sub ! 1 refl (whole !)))) (no-more !)))) (from ! (stop !)) (init ! 35 refl (tt, (tt, (record { fits = sized₂ .0 }, tt)))) $
+          assigns ! (addr ! (from ! (fld ! refl (hop ! (look-in ! 55 (sub ! 0 refl (whole !))) (stop !))))) (from ! (stop !)) (init ! 33 refl (tt, tt)) $
+          assigns ! (agg ! (and-then ! (load ! (from ! (stop !)) (look ! 33 refl)) (and-then ! (load ! (from ! (fld ! refl (stop !))) (look-in ! 55 (sub ! 1 refl (whole !)))) (no-more !)))) (from ! (stop !)) (init ! 31 refl (tt, (tt, (record { fits = sized₃ .0 }, tt)))) $
+          assigns ! (addr ! (from ! (fld ! refl (hop ! (look-in ! 53 (sub ! 0 refl (whole !))) (stop !))))) (from ! (stop !)) (init ! 29 refl (tt, tt)) $
+          assigns ! (agg ! (and-then ! (load ! (from ! (stop !)) (look ! 29 refl)) (and-then ! (load ! (from ! (fld ! refl (stop !))) (look-in ! 53 (sub ! 1 refl (whole !)))) (no-more !)))) (from ! (stop !)) (init ! 27 refl (tt, (tt, (record { fits = sized₄ .0 }, tt)))) $
+          assigns ! (addr ! (from ! (fld ! refl (hop ! (look-in ! 51 (sub ! 0 refl (whole !))) (stop !))))) (from ! (stop !)) (init ! 25 refl (tt, tt)) $
+          assigns ! (agg ! (and-then ! (load ! (from ! (stop !)) (look ! 25 refl)) (and-then ! (load ! (from ! (fld ! refl (stop !))) (look-in ! 51 (sub ! 1 refl (whole !)))) (no-more !)))) (from ! (stop !)) (init ! 23 refl (tt, (tt, (record { fits = sized₅ .0 }, tt)))) $
+          assigns ! (addr ! (from ! (fld ! refl (hop ! (look-in ! 49 (sub ! 0 refl (whole !))) (stop !))))) (from ! (stop !)) (init ! 21 refl (tt, tt)) $
+          assigns ! (agg ! (and-then ! (load ! (from ! (stop !)) (look ! 21 refl)) (and-then ! (load ! (from ! (fld ! refl (stop !))) (look-in ! 49 (sub ! 1 refl (whole !)))) (no-more !)))) (from ! (stop !)) (init ! 19 refl (tt, (tt, (record { fits = sized₆ .0 }, tt)))) $
+          assigns ! (addr ! (from ! (fld ! refl (hop ! (look-in ! 47 (sub ! 0 refl (whole !))) (stop !))))) (from ! (stop !)) (init ! 17 refl (tt, tt)) $
+          assigns ! (agg ! (and-then ! (load ! (from ! (stop !)) (look ! 17 refl)) (and-then ! (load ! (from ! (fld ! refl (stop !))) (look-in ! 47 (sub ! 1 refl (whole !)))) (no-more !)))) (from ! (stop !)) (init ! 15 refl (tt, (tt, (record { fits = sized₇ .0 }, tt)))) $
+          assigns ! (addr ! (from ! (fld ! refl (hop ! (look-in ! 45 (sub ! 0 refl (whole !))) (stop !))))) (from ! (stop !)) (init ! 13 refl (tt, tt)) $
+          assigns ! (agg ! (and-then ! (load ! (from ! (stop !)) (look ! 13 refl)) (and-then ! (load ! (from ! (fld ! refl (stop !))) (look-in ! 45 (sub ! 1 refl (whole !)))) (no-more !)))) (from ! (stop !)) (init ! 11 refl (tt, (tt, (record { fits = sized₈ .0 }, tt)))) $
           move ! (6 ∷ 7 ∷ []) $
           join ! $
           move ! (6 ∷ 0 ∷ []) $
@@ -215,10 +220,10 @@ module _ {M : Type 1} (𝓤 : URA M) (H : Heap 𝓤) (A : Atoms 𝓤) (W : Given
           join ! $
           move ! (1 ∷ 0 ∷ []) $
           join ! $
-          use1 W (later (raw (C #packer·build (vint w32 axes ∷ vint w32 mode ∷ σ ∷ σ₂ ∷ σ₃ ∷ σ₄ ∷ σ₅ ∷ σ₆ ∷ σ₇ ∷ σ₈ ∷ []) (λ w. mean 𝓤 H A (After-build-see-mut-mut-mut-mut-mut-mut-mut 𝓤 H A W mem run C fm known-build κ θ γ β ι ν job κ₂ θ₂ γ₂ β₂ ι₂ ν₂ work κ₃ θ₃ γ₃ β₃ ι₃ ν₃ pairs κ₄ θ₄ γ₄ β₄ ι₄ ν₄ out κ₅ θ₅ γ₅ β₅ ι₅ ν₅ ids κ₆ θ₆ γ₆ β₆ ι₆ ν₆ map κ₇ θ₇ γ₇ β₇ ι₇ ν₇ log κ₈ θ₈ γ₈ β₈ ι₈ ν₈ origins axes mode w))))) (build-see-mut-mut-mut-mut-mut-mut-mut 𝓤 H A W mem run C fm known-build κ θ γ β ι ν job κ₂ θ₂ γ₂ β₂ ι₂ ν₂ work κ₃ θ₃ γ₃ β₃ ι₃ ν₃ pairs κ₄ θ₄ γ₄ β₄ ι₄ ν₄ out κ₅ θ₅ γ₅ β₅ ι₅ ν₅ ids κ₆ θ₆ γ₆ β₆ ι₆ ν₆ map κ₇ θ₇ γ₇ β₇ ι₇ ν₇ log κ₈ θ₈ γ₈ β₈ ι₈ ν₈ origins axes mode refl refl refl refl refl refl refl sized₂ sized₃ sized₄ sized₅ sized₆ sized₇ sized₈ g-axes g-mode) $ await ! tt $
-          calls ! fm (After-build-see-mut-mut-mut-mut-mut-mut-mut 𝓤 H A W mem run C fm known-build κ θ γ β ι ν job κ₂ θ₂ γ₂ β₂ ι₂ ν₂ work κ₃ θ₃ γ₃ β₃ ι₃ ν₃ pairs κ₄ θ₄ γ₄ β₄ ι₄ ν₄ out κ₅ θ₅ γ₅ β₅ ι₅ ν₅ ids κ₆ θ₆ γ₆ β₆ ι₆ ν₆ map κ₇ θ₇ γ₇ β₇ ι₇ ν₇ log κ₈ θ₈ γ₈ β₈ ι₈ ν₈ origins axes mode) (and-then ! (load ! (from ! (stop !)) (look ! 54 refl)) (and-then ! (load ! (from ! (stop !)) (look ! 52 refl)) (and-then ! (load ! (from ! (stop !)) (look ! 50 refl)) (and-then ! (load ! (from ! (stop !)) (look ! 28 refl)) (and-then ! (load ! (from ! (stop !)) (look ! 24 refl)) (and-then ! (load ! (from ! (stop !)) (look ! 20 refl)) (and-then ! (load ! (from ! (stop !)) (look ! 16 refl)) (and-then ! (load ! (from ! (stop !)) (look ! 12 refl)) (and-then ! (load ! (from ! (stop !)) (look ! 8 refl)) (and-then ! (load ! (from ! (stop !)) (look ! 4 refl)) (no-more !))))))))))) (λ r-b. await ! tt $ pick ! (λ b. pick ! (λ x-b. learn ! (λ e-b. split ! $ move ! (1 ∷ []) $ facts ! D.the-row (Is D.the-row) (shows 𝓤 H A D.the-row) b (r-b ∷ []) (λ g-b.
-          land ! (from ! (stop !)) (init ! 32 refl (EL.lawful D.the-type D′.the-laws 𝓤 H A W tt .typed b _ g-b .0)) $
-          rewrite ! 32 (λ (u : Val). ‵ (fat fullShare (D′.mir) l₁₂ 0 u)) (spelt-D b r-b g-b) refl $
+          use1 W (later (raw (C #packer·build (EL.val E.the-type E′.the-laws Plain ∷ vint w32 axes ∷ vint w32 mode ∷ σ ∷ σ₂ ∷ σ₃ ∷ σ₄ ∷ σ₅ ∷ σ₆ ∷ σ₇ ∷ σ₈ ∷ []) (λ w. mean 𝓤 H A (After-build-see-mut-mut-mut-mut-mut-mut-mut 𝓤 H A W mem run C fm known-build κ θ γ β ι ν job κ₂ θ₂ γ₂ β₂ ι₂ ν₂ work κ₃ θ₃ γ₃ β₃ ι₃ ν₃ pairs κ₄ θ₄ γ₄ β₄ ι₄ ν₄ out κ₅ θ₅ γ₅ β₅ ι₅ ν₅ ids κ₆ θ₆ γ₆ β₆ ι₆ ν₆ map κ₇ θ₇ γ₇ β₇ ι₇ ν₇ log κ₈ θ₈ γ₈ β₈ ι₈ ν₈ origins Plain axes mode w))))) (build-see-mut-mut-mut-mut-mut-mut-mut 𝓤 H A W mem run C fm known-build κ θ γ β ι ν job κ₂ θ₂ γ₂ β₂ ι₂ ν₂ work κ₃ θ₃ γ₃ β₃ ι₃ ν₃ pairs κ₄ θ₄ γ₄ β₄ ι₄ ν₄ out κ₅ θ₅ γ₅ β₅ ι₅ ν₅ ids κ₆ θ₆ γ₆ β₆ ι₆ ν₆ map κ₇ θ₇ γ₇ β₇ ι₇ ν₇ log κ₈ θ₈ γ₈ β₈ ι₈ ν₈ origins Plain axes mode refl refl refl refl refl refl refl sized₂ sized₃ sized₄ sized₅ sized₆ sized₇ sized₈ (EL.owes E.the-type E′.the-laws Plain tt) g-axes g-mode) $ await ! tt $
+          calls ! fm (After-build-see-mut-mut-mut-mut-mut-mut-mut 𝓤 H A W mem run C fm known-build κ θ γ β ι ν job κ₂ θ₂ γ₂ β₂ ι₂ ν₂ work κ₃ θ₃ γ₃ β₃ ι₃ ν₃ pairs κ₄ θ₄ γ₄ β₄ ι₄ ν₄ out κ₅ θ₅ γ₅ β₅ ι₅ ν₅ ids κ₆ θ₆ γ₆ β₆ ι₆ ν₆ map κ₇ θ₇ γ₇ β₇ ι₇ ν₇ log κ₈ θ₈ γ₈ β₈ ι₈ ν₈ origins Plain axes mode) (and-then ! (load ! (from ! (stop !)) (look ! 32 refl)) (and-then ! (load ! (from ! (stop !)) (look ! 56 refl)) (and-then ! (load ! (from ! (stop !)) (look ! 54 refl)) (and-then ! (load ! (from ! (stop !)) (look ! 52 refl)) (and-then ! (load ! (from ! (stop !)) (look ! 28 refl)) (and-then ! (load ! (from ! (stop !)) (look ! 24 refl)) (and-then ! (load ! (from ! (stop !)) (look ! 20 refl)) (and-then ! (load ! (from ! (stop !)) (look ! 16 refl)) (and-then ! (load ! (from ! (stop !)) (look ! 12 refl)) (and-then ! (load ! (from ! (stop !)) (look ! 8 refl)) (and-then ! (load ! (from ! (stop !)) (look ! 4 refl)) (no-more !)))))))))))) (λ r-b. await ! tt $ pick ! (λ b. pick ! (λ x-b. learn ! (λ e-b. split ! $ move ! (1 ∷ []) $ facts ! D.the-row (Is D.the-row) (shows 𝓤 H A D.the-row) b (r-b ∷ []) (λ g-b.
+          land ! (from ! (stop !)) (init ! 34 refl (EL.lawful D.the-type D′.the-laws 𝓤 H A W tt .typed b _ g-b .0)) $
+          rewrite ! 34 (λ (u : Val). ‵ (fat fullShare (D′.mir) l₁₂ 0 u)) (spelt-D b r-b g-b) refl $
           split ! $
           move ! (1 ∷ []) $
           split ! $
@@ -232,26 +237,26 @@ module _ {M : Type 1} (𝓤 : URA M) (H : Heap 𝓤) (A : Atoms 𝓤) (W : Given
           split ! $
           move ! (1 ∷ []) $
           split ! $
-          assigns ! (addr ! (from ! (hop ! (look ! 41 refl) (stop !)))) (from ! (stop !)) (init ! 9 refl (tt, tt)) $
+          assigns ! (addr ! (from ! (hop ! (look ! 43 refl) (stop !)))) (from ! (stop !)) (init ! 9 refl (tt, tt)) $
           move ! (8 ∷ 7 ∷ []) $
           join ! $
-          use1 W (later (raw (C #reporting·tell (σ₉ ∷ σ ∷ EL.val D.the-type D′.the-laws b ∷ []) (λ w. mean 𝓤 H A (After-tell-mut-see 𝓤 H A W mem run C fm known-tell κ₉ θ₉ γ₉ β₉ ι₉ ν₉ report κ θ γ β ι ν job b w))))) (tell-mut-see 𝓤 H A W mem run C fm known-tell κ₉ θ₉ γ₉ β₉ ι₉ ν₉ report κ θ γ β ι ν job b (at-D b r-b g-b) (answer-few (lending axes mode job work pairs (buffers out ids map log origins)) b (e-b .1 .answer), answer-within (lending axes mode job work pairs (buffers out ids map log origins)) b (e-b .1 .answer))) $ await ! tt $
-          calls ! fm (After-tell-mut-see 𝓤 H A W mem run C fm known-tell κ₉ θ₉ γ₉ β₉ ι₉ ν₉ report κ θ γ β ι ν job b) (and-then ! (load ! (from ! (stop !)) (look ! 8 refl)) (and-then ! (load ! (from ! (stop !)) (look ! 56 refl)) (and-then ! (load ! (from ! (stop !)) (look ! 38 refl)) (no-more !)))) (λ r-n. await ! tt $ pick ! (λ n. pick ! (λ x-n. learn ! (λ e-n. split ! $ move ! (1 ∷ []) $ facts ! u32 (Is u32) (shows 𝓤 H A u32) n (r-n ∷ []) (λ g-n.
-          land ! (from ! (stop !)) (init ! 62 refl (uint-lawful 𝓤 H A W w32 .typed n _ g-n .0)) $
-          rewrite ! 62 (λ (u : Val). ‵ (fat fullShare (tyInt w32) l₀ 0 u)) (ap only (g-n .0)) refl $
+          use1 W (later (raw (C #reporting·tell (σ₉ ∷ σ ∷ EL.val D.the-type D′.the-laws b ∷ []) (λ w. mean 𝓤 H A (After-tell-mut-see 𝓤 H A W mem run C fm known-tell κ₉ θ₉ γ₉ β₉ ι₉ ν₉ report κ θ γ β ι ν job b w))))) (tell-mut-see 𝓤 H A W mem run C fm known-tell κ₉ θ₉ γ₉ β₉ ι₉ ν₉ report κ θ γ β ι ν job b (at-D b r-b g-b) (answer-few (lending axes mode job work pairs (buffers out ids map log origins)) b (plain-obeys (lending axes mode job work pairs (buffers out ids map log origins)) b _ (e-b .1) .answer), answer-within (lending axes mode job work pairs (buffers out ids map log origins)) b (plain-obeys (lending axes mode job work pairs (buffers out ids map log origins)) b _ (e-b .1) .answer))) $ await ! tt $
+          calls ! fm (After-tell-mut-see 𝓤 H A W mem run C fm known-tell κ₉ θ₉ γ₉ β₉ ι₉ ν₉ report κ θ γ β ι ν job b) (and-then ! (load ! (from ! (stop !)) (look ! 8 refl)) (and-then ! (load ! (from ! (stop !)) (look ! 58 refl)) (and-then ! (load ! (from ! (stop !)) (look ! 40 refl)) (no-more !)))) (λ r-n. await ! tt $ pick ! (λ n. pick ! (λ x-n. learn ! (λ e-n. split ! $ move ! (1 ∷ []) $ facts ! u32 (Is u32) (shows 𝓤 H A u32) n (r-n ∷ []) (λ g-n.
+          land ! (from ! (stop !)) (init ! 64 refl (uint-lawful 𝓤 H A W w32 .typed n _ g-n .0)) $
+          rewrite ! 64 (λ (u : Val). ‵ (fat fullShare (tyInt w32) l₀ 0 u)) (ap only (g-n .0)) refl $
           split ! $
-          returns ! (look ! 63 refl) $
-          forget ! 63 refl $ forget ! 61 refl $ forget ! 59 refl $ forget ! 57 refl $ forget ! 55 refl $ forget ! 53 refl $ forget ! 51 refl $ forget ! 49 refl $ forget ! 47 refl $ forget ! 45 refl $ forget ! 43 refl $ forget ! 41 refl $ forget ! 39 refl $ forget ! 37 refl $ forget ! 35 refl $ forget ! 33 refl $ forget ! 31 refl $ forget ! 29 refl $ forget ! 27 refl $ forget ! 25 refl $ forget ! 23 refl $ forget ! 21 refl $ forget ! 19 refl $ forget ! 17 refl $ forget ! 15 refl $ forget ! 13 refl $ forget ! 11 refl $ forget ! 9 refl $
-          move ! (63 ∷ 64 ∷ []) $ free1 ! $ move ! (61 ∷ 62 ∷ []) $ free1 ! $ move ! (59 ∷ 60 ∷ []) $ free1 ! $ move ! (57 ∷ 58 ∷ []) $ free1 ! $ move ! (55 ∷ 56 ∷ []) $ free1 ! $ move ! (53 ∷ 54 ∷ []) $ free1 ! $ move ! (51 ∷ 52 ∷ []) $ free1 ! $ move ! (49 ∷ 50 ∷ []) $ free1 ! $ move ! (47 ∷ 48 ∷ []) $ free1 ! $ move ! (45 ∷ 46 ∷ []) $ free1 ! $ move ! (43 ∷ 44 ∷ []) $ free1 ! $ move ! (41 ∷ 42 ∷ []) $ free1 ! $ move ! (39 ∷ 40 ∷ []) $ free1 ! $ move ! (37 ∷ 38 ∷ []) $ free1 ! $ move ! (35 ∷ 36 ∷ []) $ free1 ! $ move ! (33 ∷ 34 ∷ []) $ free1 ! $ move ! (31 ∷ 32 ∷ []) $ free1 ! $ move ! (29 ∷ 30 ∷ []) $ free1 ! $ move ! (27 ∷ 28 ∷ []) $ free1 ! $ move ! (25 ∷ 26 ∷ []) $ free1 ! $ move ! (23 ∷ 24 ∷ []) $ free1 ! $ move ! (21 ∷ 22 ∷ []) $ free1 ! $ move ! (19 ∷ 20 ∷ []) $ free1 ! $ move ! (17 ∷ 18 ∷ []) $ free1 ! $ move ! (15 ∷ 16 ∷ []) $ free1 ! $ move ! (13 ∷ 14 ∷ []) $ free1 ! $ move ! (11 ∷ 12 ∷ []) $ free1 ! $ move ! (9 ∷ 10 ∷ []) $ free1 ! $ free0 ! $
+          returns ! (look ! 65 refl) $
+          forget ! 65 refl $ forget ! 63 refl $ forget ! 61 refl $ forget ! 59 refl $ forget ! 57 refl $ forget ! 55 refl $ forget ! 53 refl $ forget ! 51 refl $ forget ! 49 refl $ forget ! 47 refl $ forget ! 45 refl $ forget ! 43 refl $ forget ! 41 refl $ forget ! 39 refl $ forget ! 37 refl $ forget ! 35 refl $ forget ! 33 refl $ forget ! 31 refl $ forget ! 29 refl $ forget ! 27 refl $ forget ! 25 refl $ forget ! 23 refl $ forget ! 21 refl $ forget ! 19 refl $ forget ! 17 refl $ forget ! 15 refl $ forget ! 13 refl $ forget ! 11 refl $ forget ! 9 refl $
+          move ! (65 ∷ 66 ∷ []) $ free1 ! $ move ! (63 ∷ 64 ∷ []) $ free1 ! $ move ! (61 ∷ 62 ∷ []) $ free1 ! $ move ! (59 ∷ 60 ∷ []) $ free1 ! $ move ! (57 ∷ 58 ∷ []) $ free1 ! $ move ! (55 ∷ 56 ∷ []) $ free1 ! $ move ! (53 ∷ 54 ∷ []) $ free1 ! $ move ! (51 ∷ 52 ∷ []) $ free1 ! $ move ! (49 ∷ 50 ∷ []) $ free1 ! $ move ! (47 ∷ 48 ∷ []) $ free1 ! $ move ! (45 ∷ 46 ∷ []) $ free1 ! $ move ! (43 ∷ 44 ∷ []) $ free1 ! $ move ! (41 ∷ 42 ∷ []) $ free1 ! $ move ! (39 ∷ 40 ∷ []) $ free1 ! $ move ! (37 ∷ 38 ∷ []) $ free1 ! $ move ! (35 ∷ 36 ∷ []) $ free1 ! $ move ! (33 ∷ 34 ∷ []) $ free1 ! $ move ! (31 ∷ 32 ∷ []) $ free1 ! $ move ! (29 ∷ 30 ∷ []) $ free1 ! $ move ! (27 ∷ 28 ∷ []) $ free1 ! $ move ! (25 ∷ 26 ∷ []) $ free1 ! $ move ! (23 ∷ 24 ∷ []) $ free1 ! $ move ! (21 ∷ 22 ∷ []) $ free1 ! $ move ! (19 ∷ 20 ∷ []) $ free1 ! $ move ! (17 ∷ 18 ∷ []) $ free1 ! $ move ! (15 ∷ 16 ∷ []) $ free1 ! $ move ! (13 ∷ 14 ∷ []) $ free1 ! $ move ! (11 ∷ 12 ∷ []) $ free1 ! $ move ! (9 ∷ 10 ∷ []) $ free1 ! $ free0 ! $
           move ! (1 ∷ 8 ∷ 7 ∷ 6 ∷ 5 ∷ 4 ∷ 2 ∷ 3 ∷ 0 ∷ []) $
-          by ! (exits (x-b .1 .0) (e-b .0 .1 .0) (x-b .1 .1 .0) (e-b .0 .1 .1 .0) (x-b .1 .1 .1 .0) (e-b .0 .1 .1 .1 .0) (x-b .1 .1 .1 .1 .0) (e-b .0 .1 .1 .1 .1 .0) (x-b .1 .1 .1 .1 .1 .0) (e-b .0 .1 .1 .1 .1 .1 .0) (x-b .1 .1 .1 .1 .1 .1 .0) (e-b .0 .1 .1 .1 .1 .1 .1 .0) (x-b .1 .1 .1 .1 .1 .1 .1) (e-b .0 .1 .1 .1 .1 .1 .1 .1) (x-n .0) n (g-n .1) (record { answer = b; obeys = e-b .1; number-is = e-n .1 .0; report-is = e-n .1 .1 }))))))))))))
+          by ! (exits (x-b .1 .0) (e-b .0 .1 .0) (x-b .1 .1 .0) (e-b .0 .1 .1 .0) (x-b .1 .1 .1 .0) (e-b .0 .1 .1 .1 .0) (x-b .1 .1 .1 .1 .0) (e-b .0 .1 .1 .1 .1 .0) (x-b .1 .1 .1 .1 .1 .0) (e-b .0 .1 .1 .1 .1 .1 .0) (x-b .1 .1 .1 .1 .1 .1 .0) (e-b .0 .1 .1 .1 .1 .1 .1 .0) (x-b .1 .1 .1 .1 .1 .1 .1) (e-b .0 .1 .1 .1 .1 .1 .1 .1) (x-n .0) n (g-n .1) (record { answer = b; obeys = plain-obeys (lending axes mode job work pairs (buffers out ids map log origins)) b _ (e-b .1); number-is = e-n .1 .0; report-is = e-n .1 .1 }))))))))))))
 
     walk : ent 𝓤 (onEntry 𝓤 H A ivs-build.signature (κ, (κ₂, (κ₃, (κ₄, (κ₅, (κ₆, (κ₇, (κ₈, (κ₉, tt))))))))) (θ, (θ₂, (θ₃, (θ₄, (θ₅, (θ₆, (θ₇, (θ₈, (θ₉, tt))))))))) (bound .0 .3) (bound .0 .4)) (WpFn 𝓤 H C Λ code.function (vint w32 axes ∷ vint w32 mode ∷ σ ∷ σ₂ ∷ σ₃ ∷ σ₄ ∷ σ₅ ∷ σ₆ ∷ σ₇ ∷ σ₈ ∷ σ₉ ∷ []) Post)
     walk =
         qed W ((‵ (flft κ θ) ⊛ ‵ (flft κ₂ θ₂) ⊛ ‵ (flft κ₃ θ₃) ⊛ ‵ (flft κ₄ θ₄) ⊛ ‵ (flft κ₅ θ₅) ⊛ ‵ (flft κ₆ θ₆) ⊛ ‵ (flft κ₇ θ₇) ⊛ ‵ (flft κ₈ θ₈) ⊛ ‵ (flft κ₉ θ₉) ⊛ ‵ ftrue) ∷ ‵ (owns (u32 ∷ u32 ∷ ShrSlice (named 0) κ u8 ∷ MutSlice (named 1) κ₂ u32 ∷ MutSlice (named 2) κ₃ T.the-row ∷ MutSlice (named 3) κ₄ u8 ∷ MutSlice (named 4) κ₅ u32 ∷ MutSlice (named 5) κ₆ u32 ∷ MutSlice (named 6) κ₇ u32 ∷ MutSlice (named 7) κ₈ u32 ∷ MutRef (named 8) κ₉ (Array u64 tt 16) ∷ []) (bound .0 .3) (bound .0 .4)) ∷ []) ∵ enter ! C Λ code.function (vint w32 axes ∷ vint w32 mode ∷ σ ∷ σ₂ ∷ σ₃ ∷ σ₄ ∷ σ₅ ∷ σ₆ ∷ σ₇ ∷ σ₈ ∷ σ₉ ∷ []) _ $
-        alloc1 ! (λ l₀. alloc1 ! (λ l₁. alloc1 ! (λ l₂. alloc1 ! (λ l₃. alloc1 ! (λ l₄. alloc1 ! (λ l₅. alloc1 ! (λ l₆. alloc1 ! (λ l₇. alloc1 ! (λ l₈. alloc1 ! (λ l₉. alloc1 ! (λ l₁₀. alloc1 ! (λ l₁₁. alloc1 ! (λ l₁₂. alloc1 ! (λ l₁₃. alloc1 ! (λ l₁₄. alloc1 ! (λ l₁₅. alloc1 ! (λ l₁₆. alloc1 ! (λ l₁₇. alloc1 ! (λ l₁₈. alloc1 ! (λ l₁₉. alloc1 ! (λ l₂₀. alloc1 ! (λ l₂₁. alloc1 ! (λ l₂₂. alloc1 ! (λ l₂₃. alloc1 ! (λ l₂₄. alloc1 ! (λ l₂₅. alloc1 ! (λ l₂₆. alloc1 ! (λ l₂₇. alloc0 ! $ params1 ! $
-        pass1 ! (init ! 52 refl (tt, record { fits = g-axes })) $ pass1 ! (init ! 50 refl (tt, record { fits = g-mode })) $ pass1 ! (init ! 48 refl (tt, (tt, (record { fits = sized .0 }, tt)))) $ pass1 ! (init ! 46 refl (tt, (tt, (record { fits = sized₂ .0 }, tt)))) $ pass1 ! (init ! 44 refl (tt, (tt, (record { fits = sized₃ .0 }, tt)))) $ pass1 ! (init ! 42 refl (tt, (tt, (record { fits = sized₄ .0 }, tt)))) $ pass1 ! (init ! 40 refl (tt, (tt, (record { fits = sized₅ .0 }, tt)))) $ pass1 ! (init ! 38 refl (tt, (tt, (record { fits = sized₆ .0 }, tt)))) $ pass1 ! (init ! 36 refl (tt, (tt, (record { fits = sized₇ .0 }, tt)))) $ pass1 ! (init ! 34 refl (tt, (tt, (record { fits = sized₈ .0 }, tt)))) $ pass1 ! (init ! 32 refl (tt, tt)) $ pass0 ! $
-        move ! (57 ∷ []) $
+        alloc1 ! (λ l₀. alloc1 ! (λ l₁. alloc1 ! (λ l₂. alloc1 ! (λ l₃. alloc1 ! (λ l₄. alloc1 ! (λ l₅. alloc1 ! (λ l₆. alloc1 ! (λ l₇. alloc1 ! (λ l₈. alloc1 ! (λ l₉. alloc1 ! (λ l₁₀. alloc1 ! (λ l₁₁. alloc1 ! (λ l₁₂. alloc1 ! (λ l₁₃. alloc1 ! (λ l₁₄. alloc1 ! (λ l₁₅. alloc1 ! (λ l₁₆. alloc1 ! (λ l₁₇. alloc1 ! (λ l₁₈. alloc1 ! (λ l₁₉. alloc1 ! (λ l₂₀. alloc1 ! (λ l₂₁. alloc1 ! (λ l₂₂. alloc1 ! (λ l₂₃. alloc1 ! (λ l₂₄. alloc1 ! (λ l₂₅. alloc1 ! (λ l₂₆. alloc1 ! (λ l₂₇. alloc1 ! (λ l₂₈. alloc0 ! $ params1 ! $
+        pass1 ! (init ! 54 refl (tt, record { fits = g-axes })) $ pass1 ! (init ! 52 refl (tt, record { fits = g-mode })) $ pass1 ! (init ! 50 refl (tt, (tt, (record { fits = sized .0 }, tt)))) $ pass1 ! (init ! 48 refl (tt, (tt, (record { fits = sized₂ .0 }, tt)))) $ pass1 ! (init ! 46 refl (tt, (tt, (record { fits = sized₃ .0 }, tt)))) $ pass1 ! (init ! 44 refl (tt, (tt, (record { fits = sized₄ .0 }, tt)))) $ pass1 ! (init ! 42 refl (tt, (tt, (record { fits = sized₅ .0 }, tt)))) $ pass1 ! (init ! 40 refl (tt, (tt, (record { fits = sized₆ .0 }, tt)))) $ pass1 ! (init ! 38 refl (tt, (tt, (record { fits = sized₇ .0 }, tt)))) $ pass1 ! (init ! 36 refl (tt, (tt, (record { fits = sized₈ .0 }, tt)))) $ pass1 ! (init ! 34 refl (tt, tt)) $ pass0 ! $
+        move ! (59 ∷ []) $
         fsplit ! $
         move ! (1 ∷ []) $
         fsplit ! $
@@ -273,7 +278,7 @@ module _ {M : Type 1} (𝓤 : URA M) (H : Heap 𝓤) (A : Atoms 𝓤) (W : Given
         fsplit ! $
         move ! (1 ∷ []) $
         fsplit ! $
-        move ! (68 ∷ []) $
+        move ! (70 ∷ []) $
         split ! $
         move ! (1 ∷ []) $
         split ! $
@@ -318,7 +323,7 @@ module _ {M : Type 1} (𝓤 : URA M) (H : Heap 𝓤) (A : Atoms 𝓤) (W : Given
         move ! (9 ∷ 8 ∷ []) $
         join ! $
         move ! (8 ∷ 7 ∷ 6 ∷ 5 ∷ 4 ∷ 3 ∷ 2 ∷ 1 ∷ 0 ∷ []) $
-        body l₀ l₁ l₂ l₃ l₄ l₅ l₆ l₇ l₈ l₉ l₁₀ l₁₁ l₁₂ l₁₃ l₁₄ l₁₅ l₁₆ l₁₇ l₁₈ l₁₉ l₂₀ l₂₁ l₂₂ l₂₃ l₂₄ l₂₅ l₂₆ l₂₇))))))))))))))))))))))))))))
+        body l₀ l₁ l₂ l₃ l₄ l₅ l₆ l₇ l₈ l₉ l₁₀ l₁₁ l₁₂ l₁₃ l₁₄ l₁₅ l₁₆ l₁₇ l₁₈ l₁₉ l₂₀ l₂₁ l₂₂ l₂₃ l₂₄ l₂₅ l₂₆ l₂₇ l₂₈)))))))))))))))))))))))))))))
 
   -- and with what it asks
   abbrev Entry : SProp 𝓤

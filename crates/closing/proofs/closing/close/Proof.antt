@@ -9,7 +9,7 @@ use Rattle.job.proofs.clear_work.Reads as clear-work-reads
 use Rattle.closing.proofs.closing.pack_sets.Reads as pack-sets-reads
 
 returns : tie.Need-returns
-returns c = λ axes mode old pairs mid p j. close-early old pairs mid p j (c .if1 .taken) _
+returns c = λ profile axes mode old pairs mid p j. close-early old pairs mid p j (c .if1 .taken) _
 
 pack-sets-requires : tie.Need-pack-sets-requires
 pack-sets-requires c κs =
@@ -38,7 +38,7 @@ same-length-6 : tie.Need-same-length-6
 same-length-6 c = search needs
 
 returns-2 : tie.Need-returns-2
-returns-2 c = λ axes mode old pairs mid p j. close-late old pairs mid p j (c .before .before .before .before .before .before .before .before .before .before .before .before .before .before .before .before .before .before .before .before .before .before .before .if1 .left) _ _ _ (c .before .before .before .before .before .before .before .before .before .before .before .before .before .before .before .before .pack-sets .ensures) _ (c .before .before .before .before .before .before .before .before .before .before .before .before .before .before .before .before .pack-sets .kept .1 .0) _ (c .before .before .clear-work .ensures)
+returns-2 c = λ profile axes mode old pairs mid p j. close-late old pairs mid p j (c .before .before .before .before .before .before .before .before .before .before .before .before .before .before .before .before .before .before .before .before .before .before .before .if1 .left) _ _ _ (c .before .before .before .before .before .before .before .before .before .before .before .before .before .before .before .before .pack-sets .ensures) _ (c .before .before .before .before .before .before .before .before .before .before .before .before .before .before .before .before .pack-sets .kept .1 .0) _ (c .before .before .clear-work .ensures)
 
 pub close-spec : {M : Type 1} → statement M
 close-spec =

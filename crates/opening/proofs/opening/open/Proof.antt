@@ -18,7 +18,7 @@ refuse-requires : tie.Need-refuse-requires
 refuse-requires c κs = search needs
 
 returns : tie.Need-returns
-returns c = opened-early _ _ _ _ _ _ (c .before .before .early-no .ensures .0) (c .before .if1 .taken) _ (c .refuse .ensures)
+returns c = opened-early _ _ _ _ _ _ _ (c .before .before .early-no .ensures .0) (c .before .if1 .taken) _ (c .refuse .ensures)
 
 wide-requires : tie.Need-wide-requires
 wide-requires c κs = search needs
@@ -30,13 +30,13 @@ open-records-requires : tie.Need-open-records-requires
 open-records-requires c κs =
     let o = c .before .before .before .before .early-no .ensures .1 (c .before .before .before .if1 .left) in
     let r = c .before .records-in .ensures in
-    (omega (arith, o .whole), omega (arith, o .some, c .before .before .wide .ensures), omega (arith, o .most, c .before .before .wide .ensures), omega (arith, o .few), rw r (o .enough))
+    (r, (omega (arith, o .whole), omega (arith, o .some, c .before .before .wide .ensures), omega (arith, o .most, c .before .before .wide .ensures), omega (arith, o .few), rw r (o .enough)))
 
 same-length : tie.Need-same-length
 same-length c = search needs
 
 returns-2 : tie.Need-returns-2
-returns-2 c = opened-late _ _ _ _ _ _ (c .before .before .before .before .before .before .before .early-no .ensures .0) (c .before .before .before .before .before .before .if1 .left) _ (c .before .before .before .before .before .wide .ensures) _ (c .before .before .before .before .records-in .ensures) (c .before .before .open-records .kept .1 .1 .1 .1 .0) (c .before .before .open-records .ensures)
+returns-2 c = opened-late _ _ _ _ _ _ _ (c .before .before .before .before .before .before .before .early-no .ensures .0) (c .before .before .before .before .before .before .if1 .left) _ (c .before .before .before .before .before .wide .ensures) _ (c .before .before .before .before .records-in .ensures) (c .before .before .open-records .kept .1 .1 .1 .1 .1 .0) (c .before .before .open-records .ensures)
 
 pub open-spec : {M : Type 1} → statement M
 open-spec =

@@ -11,7 +11,7 @@ nowhere-requires : tie.Need-nowhere-requires
 nowhere-requires c κs = search needs
 
 returns : tie.Need-returns
-returns c = refuse-is _ _ _ _ (c .nowhere .ensures)
+returns c = refuse-is _ _ _ _ _ (c .nowhere .ensures)
 
 pub refuse-spec : {M : Type 1} → statement M
 refuse-spec = tie.close (tie.spec nowhere-requires returns)

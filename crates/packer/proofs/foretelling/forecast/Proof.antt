@@ -19,7 +19,7 @@ use contract.Monad.{Fun, fact, factI}
 use contract.Running.{givenOf, tables, tablesOf}
 use types.Kit.{Given, Item, ‵, raw, later, _⊛_, ⋆, mean, Sq, runs, atRet, _$_, _∵_, !, qed, by, move, drop, use0, use1, split, join, pick, learn, rewrite, fsplit, fjoin, suffices, frame, await, now as at-once, done}
 use types.Part.{agg, whole, sub, look-in}
-use types.Run.{look, store, init, forget, stop, hop, fld, from, load, addr, of-opd, and-then, no-more, assigns, calls, land, returns, enter, alloc1, alloc0, params1, pass1, pass0, free1, free0}
+use types.Run.{look, store, init, forget, stop, hop, fld, from, load, lit, addr, of-opd, and-then, no-more, assigns, calls, land, returns, enter, alloc1, alloc0, params1, pass1, pass0, free1, free0}
 use sound.WpLaws.{FmC, fmOf, WpFn-mono}
 use denote.RattleType.{owns}
 use denote.Memory.{pointee}
@@ -39,6 +39,7 @@ use denote.Triple.Walked.{Stays, stay-slice, stay-none-slice, stay-none, walkOf,
 use denote.Exit.{yes}
 use Rattle.call.specs.Lending.{lending, noBuffers}
 use Rattle.packer.specs.Promised.{Foretells}
+use Rattle.panel.specs.declared.Profile.the-variants.{Plain}
 use Rattle.encoder.specs.LentArranged.{tablesOf as layoutOf}
 use Rattle.packer.proofs.BuildLaws.{ready-at, joined-at, foretells}
 use Rattle.packer.proofs.PairLaws.{used-few, pairs-enough, pairs-idle, pairs-left}
@@ -50,6 +51,9 @@ use Rattle.slots.proofs.tables.MergeTables.Laws as L′
 use Rattle.merging.specs.declared.optimizing.Merged.{Merged}
 use Rattle.merging.proofs.optimizing.Merged as D
 use Rattle.merging.proofs.optimizing.Merged.Laws as D′
+use Rattle.panel.proofs.Profile as E
+use Rattle.panel.proofs.Profile.Laws as E′
+use Rattle.panel.specs.declared.Profile.the-variants.{Plain}
 use Rattle.opening.specs.declared.opening.Stage.{Stage}
 use Rattle.opening.proofs.opening.Stage as S
 use Rattle.opening.proofs.opening.Stage.Laws as S′
@@ -166,70 +170,71 @@ module _ {M : Type 1} (𝓤 : URA M) (H : Heap 𝓤) (A : Atoms 𝓤) (W : Given
     small : (k : ℕ) → k ≤ ν → k < 2 ^ 64
     small k l = let r = sized .0 in omega arith
 
-    module _ (l₀ l₁ l₂ l₃ l₄ l₅ l₆ l₇ l₈ l₉ l₁₀ l₁₁ l₁₂ l₁₃ l₁₄ l₁₅ l₁₆ l₁₇ l₁₈ l₁₉ l₂₀ l₂₁ l₂₂ : ℕ) where
+    module _ (l₀ l₁ l₂ l₃ l₄ l₅ l₆ l₇ l₈ l₉ l₁₀ l₁₁ l₁₂ l₁₃ l₁₄ l₁₅ l₁₆ l₁₇ l₁₈ l₁₉ l₂₀ l₂₁ l₂₂ l₂₃ : ℕ) where
       abbrev En : Env 𝓤 H
-      En = (B′.mir, l₀) ∷ (tyInt w32, l₁) ∷ (tyInt w32, l₂) ∷ (sliceTy (tyRef (named 0) imm (tyInt w8)), l₃) ∷ (sliceTy (tyRef (named 1) mut (tyInt w32)), l₄) ∷ (sliceTy (tyRef (named 2) mut (pointee (T.the-row .written))), l₅) ∷ (S′.mir, l₆) ∷ (D′.mir, l₇) ∷ (B′.mir, l₈) ∷ (tyRef erased mut (tyInt w32), l₉) ∷ (sliceTy (tyRef erased mut (tyInt w32)), l₁₀) ∷ (tyInt w64, l₁₁) ∷ (tyRef erased mut (pointee (T.the-row .written)), l₁₂) ∷ (sliceTy (tyRef erased mut (pointee (T.the-row .written))), l₁₃) ∷ (tyRef erased mut (tyInt w32), l₁₄) ∷ (sliceTy (tyRef erased mut (tyInt w32)), l₁₅) ∷ (L′.mir, l₁₆) ∷ (tyRef erased mut (tyInt w32), l₁₇) ∷ (sliceTy (tyRef erased mut (tyInt w32)), l₁₈) ∷ (tyUnit, l₁₉) ∷ (tyRef erased mut (pointee (T.the-row .written)), l₂₀) ∷ (sliceTy (tyRef erased mut (pointee (T.the-row .written))), l₂₁) ∷ (tyInt w64, l₂₂) ∷ []
+      En = (B′.mir, l₀) ∷ (tyInt w32, l₁) ∷ (tyInt w32, l₂) ∷ (sliceTy (tyRef (named 0) imm (tyInt w8)), l₃) ∷ (sliceTy (tyRef (named 1) mut (tyInt w32)), l₄) ∷ (sliceTy (tyRef (named 2) mut (pointee (T.the-row .written))), l₅) ∷ (S′.mir, l₆) ∷ (D′.mir, l₇) ∷ (B′.mir, l₈) ∷ (E′.mir, l₉) ∷ (tyRef erased mut (tyInt w32), l₁₀) ∷ (sliceTy (tyRef erased mut (tyInt w32)), l₁₁) ∷ (tyInt w64, l₁₂) ∷ (tyRef erased mut (pointee (T.the-row .written)), l₁₃) ∷ (sliceTy (tyRef erased mut (pointee (T.the-row .written))), l₁₄) ∷ (tyRef erased mut (tyInt w32), l₁₅) ∷ (sliceTy (tyRef erased mut (tyInt w32)), l₁₆) ∷ (L′.mir, l₁₇) ∷ (tyRef erased mut (tyInt w32), l₁₈) ∷ (sliceTy (tyRef erased mut (tyInt w32)), l₁₉) ∷ (tyUnit, l₂₀) ∷ (tyRef erased mut (pointee (T.the-row .written)), l₂₁) ∷ (sliceTy (tyRef erased mut (pointee (T.the-row .written))), l₂₂) ∷ (tyInt w64, l₂₃) ∷ []
 
       abbrev Start : List (Item 𝓤)
-      Start = Slice job ∷ Slice₂ work ∷ Slice₃ pairs ∷ ‵ (froom (tyInt w64) l₂₂ 0) ∷ ‵ (fdies (tyInt w64) l₂₂) ∷ ‵ (froom (sliceTy (tyRef erased mut (pointee (T.the-row .written)))) l₂₁ 0) ∷ ‵ (fdies (sliceTy (tyRef erased mut (pointee (T.the-row .written)))) l₂₁) ∷ ‵ (froom (tyRef erased mut (pointee (T.the-row .written))) l₂₀ 0) ∷ ‵ (fdies (tyRef erased mut (pointee (T.the-row .written))) l₂₀) ∷ ‵ (froom (tyUnit) l₁₉ 0) ∷ ‵ (fdies (tyUnit) l₁₉) ∷ ‵ (froom (sliceTy (tyRef erased mut (tyInt w32))) l₁₈ 0) ∷ ‵ (fdies (sliceTy (tyRef erased mut (tyInt w32))) l₁₈) ∷ ‵ (froom (tyRef erased mut (tyInt w32)) l₁₇ 0) ∷ ‵ (fdies (tyRef erased mut (tyInt w32)) l₁₇) ∷ ‵ (froom (L′.mir) l₁₆ 0) ∷ ‵ (fdies (L′.mir) l₁₆) ∷ ‵ (froom (sliceTy (tyRef erased mut (tyInt w32))) l₁₅ 0) ∷ ‵ (fdies (sliceTy (tyRef erased mut (tyInt w32))) l₁₅) ∷ ‵ (froom (tyRef erased mut (tyInt w32)) l₁₄ 0) ∷ ‵ (fdies (tyRef erased mut (tyInt w32)) l₁₄) ∷ ‵ (froom (sliceTy (tyRef erased mut (pointee (T.the-row .written)))) l₁₃ 0) ∷ ‵ (fdies (sliceTy (tyRef erased mut (pointee (T.the-row .written)))) l₁₃) ∷ ‵ (froom (tyRef erased mut (pointee (T.the-row .written))) l₁₂ 0) ∷ ‵ (fdies (tyRef erased mut (pointee (T.the-row .written))) l₁₂) ∷ ‵ (froom (tyInt w64) l₁₁ 0) ∷ ‵ (fdies (tyInt w64) l₁₁) ∷ ‵ (froom (sliceTy (tyRef erased mut (tyInt w32))) l₁₀ 0) ∷ ‵ (fdies (sliceTy (tyRef erased mut (tyInt w32))) l₁₀) ∷ ‵ (froom (tyRef erased mut (tyInt w32)) l₉ 0) ∷ ‵ (fdies (tyRef erased mut (tyInt w32)) l₉) ∷ ‵ (froom (B′.mir) l₈ 0) ∷ ‵ (fdies (B′.mir) l₈) ∷ ‵ (froom (D′.mir) l₇ 0) ∷ ‵ (fdies (D′.mir) l₇) ∷ ‵ (froom (S′.mir) l₆ 0) ∷ ‵ (fdies (S′.mir) l₆) ∷ ‵ (fat fullShare (sliceTy (tyRef (named 2) mut (pointee (T.the-row .written)))) l₅ 0 (σ₃)) ∷ ‵ (fdies (sliceTy (tyRef (named 2) mut (pointee (T.the-row .written)))) l₅) ∷ ‵ (fat fullShare (sliceTy (tyRef (named 1) mut (tyInt w32))) l₄ 0 (σ₂)) ∷ ‵ (fdies (sliceTy (tyRef (named 1) mut (tyInt w32))) l₄) ∷ ‵ (fat fullShare (sliceTy (tyRef (named 0) imm (tyInt w8))) l₃ 0 (σ)) ∷ ‵ (fdies (sliceTy (tyRef (named 0) imm (tyInt w8))) l₃) ∷ ‵ (fat fullShare (tyInt w32) l₂ 0 (vint w32 mode)) ∷ ‵ (fdies (tyInt w32) l₂) ∷ ‵ (fat fullShare (tyInt w32) l₁ 0 (vint w32 axes)) ∷ ‵ (fdies (tyInt w32) l₁) ∷ ‵ (froom (B′.mir) l₀ 0) ∷ ‵ (fdies (B′.mir) l₀) ∷ []
+      Start = Slice job ∷ Slice₂ work ∷ Slice₃ pairs ∷ ‵ (froom (tyInt w64) l₂₃ 0) ∷ ‵ (fdies (tyInt w64) l₂₃) ∷ ‵ (froom (sliceTy (tyRef erased mut (pointee (T.the-row .written)))) l₂₂ 0) ∷ ‵ (fdies (sliceTy (tyRef erased mut (pointee (T.the-row .written)))) l₂₂) ∷ ‵ (froom (tyRef erased mut (pointee (T.the-row .written))) l₂₁ 0) ∷ ‵ (fdies (tyRef erased mut (pointee (T.the-row .written))) l₂₁) ∷ ‵ (froom (tyUnit) l₂₀ 0) ∷ ‵ (fdies (tyUnit) l₂₀) ∷ ‵ (froom (sliceTy (tyRef erased mut (tyInt w32))) l₁₉ 0) ∷ ‵ (fdies (sliceTy (tyRef erased mut (tyInt w32))) l₁₉) ∷ ‵ (froom (tyRef erased mut (tyInt w32)) l₁₈ 0) ∷ ‵ (fdies (tyRef erased mut (tyInt w32)) l₁₈) ∷ ‵ (froom (L′.mir) l₁₇ 0) ∷ ‵ (fdies (L′.mir) l₁₇) ∷ ‵ (froom (sliceTy (tyRef erased mut (tyInt w32))) l₁₆ 0) ∷ ‵ (fdies (sliceTy (tyRef erased mut (tyInt w32))) l₁₆) ∷ ‵ (froom (tyRef erased mut (tyInt w32)) l₁₅ 0) ∷ ‵ (fdies (tyRef erased mut (tyInt w32)) l₁₅) ∷ ‵ (froom (sliceTy (tyRef erased mut (pointee (T.the-row .written)))) l₁₄ 0) ∷ ‵ (fdies (sliceTy (tyRef erased mut (pointee (T.the-row .written)))) l₁₄) ∷ ‵ (froom (tyRef erased mut (pointee (T.the-row .written))) l₁₃ 0) ∷ ‵ (fdies (tyRef erased mut (pointee (T.the-row .written))) l₁₃) ∷ ‵ (froom (tyInt w64) l₁₂ 0) ∷ ‵ (fdies (tyInt w64) l₁₂) ∷ ‵ (froom (sliceTy (tyRef erased mut (tyInt w32))) l₁₁ 0) ∷ ‵ (fdies (sliceTy (tyRef erased mut (tyInt w32))) l₁₁) ∷ ‵ (froom (tyRef erased mut (tyInt w32)) l₁₀ 0) ∷ ‵ (fdies (tyRef erased mut (tyInt w32)) l₁₀) ∷ ‵ (froom (E′.mir) l₉ 0) ∷ ‵ (fdies (E′.mir) l₉) ∷ ‵ (froom (B′.mir) l₈ 0) ∷ ‵ (fdies (B′.mir) l₈) ∷ ‵ (froom (D′.mir) l₇ 0) ∷ ‵ (fdies (D′.mir) l₇) ∷ ‵ (froom (S′.mir) l₆ 0) ∷ ‵ (fdies (S′.mir) l₆) ∷ ‵ (fat fullShare (sliceTy (tyRef (named 2) mut (pointee (T.the-row .written)))) l₅ 0 (σ₃)) ∷ ‵ (fdies (sliceTy (tyRef (named 2) mut (pointee (T.the-row .written)))) l₅) ∷ ‵ (fat fullShare (sliceTy (tyRef (named 1) mut (tyInt w32))) l₄ 0 (σ₂)) ∷ ‵ (fdies (sliceTy (tyRef (named 1) mut (tyInt w32))) l₄) ∷ ‵ (fat fullShare (sliceTy (tyRef (named 0) imm (tyInt w8))) l₃ 0 (σ)) ∷ ‵ (fdies (sliceTy (tyRef (named 0) imm (tyInt w8))) l₃) ∷ ‵ (fat fullShare (tyInt w32) l₂ 0 (vint w32 mode)) ∷ ‵ (fdies (tyInt w32) l₂) ∷ ‵ (fat fullShare (tyInt w32) l₁ 0 (vint w32 axes)) ∷ ‵ (fdies (tyInt w32) l₁) ∷ ‵ (froom (B′.mir) l₀ 0) ∷ ‵ (fdies (B′.mir) l₀) ∷ []
 
       body : Sq W Start (runs C Λ En code-mir.t-1 (atRet En Post))
       body =
-          assigns ! (addr ! (from ! (fld ! refl (hop ! (look-in ! 39 (sub ! 0 refl (whole !))) (stop !))))) (from ! (stop !)) (init ! 29 refl (tt, tt)) $
-          assigns ! (agg ! (and-then ! (load ! (from ! (stop !)) (look ! 29 refl)) (and-then ! (load ! (from ! (fld ! refl (stop !))) (look-in ! 39 (sub ! 1 refl (whole !)))) (no-more !)))) (from ! (stop !)) (init ! 27 refl (tt, (tt, (record { fits = sized₂ .0 }, tt)))) $
-          assigns ! (of-opd ! (load ! (from ! (fld ! refl (stop !))) (look-in ! 37 (sub ! 1 refl (whole !))))) (from ! (stop !)) (init ! 25 refl (tt, record { fits = (sized₃ .0) })) $
+          assigns ! (agg ! (and-then ! (lit ! tt) (no-more !))) (from ! (stop !)) (init ! 31 refl (EL.lawful E.the-type E′.the-laws 𝓤 H A W tt .typed Plain _ (EL.owes E.the-type E′.the-laws Plain tt) .0)) $
+          assigns ! (addr ! (from ! (fld ! refl (hop ! (look-in ! 41 (sub ! 0 refl (whole !))) (stop !))))) (from ! (stop !)) (init ! 29 refl (tt, tt)) $
+          assigns ! (agg ! (and-then ! (load ! (from ! (stop !)) (look ! 29 refl)) (and-then ! (load ! (from ! (fld ! refl (stop !))) (look-in ! 41 (sub ! 1 refl (whole !)))) (no-more !)))) (from ! (stop !)) (init ! 27 refl (tt, (tt, (record { fits = sized₂ .0 }, tt)))) $
+          assigns ! (of-opd ! (load ! (from ! (fld ! refl (stop !))) (look-in ! 39 (sub ! 1 refl (whole !))))) (from ! (stop !)) (init ! 25 refl (tt, record { fits = (sized₃ .0) })) $
           join ! $
-          use1 W (later (raw (C #opening·opens (vint w32 axes ∷ vint w32 mode ∷ σ ∷ σ₂ ∷ vint w64 ν₃ ∷ []) (λ w. mean 𝓤 H A (After-opens-see-mut 𝓤 H A W mem run C fm known-opens κ θ γ β ι ν job κ₂ θ₂ γ₂ β₂ ι₂ ν₂ work axes mode ν₃ w))))) (opens-see-mut 𝓤 H A W mem run C fm known-opens κ θ γ β ι ν job κ₂ θ₂ γ₂ β₂ ι₂ ν₂ work axes mode ν₃ refl sized₂ g-axes g-mode (sized₃ .0)) $ await ! tt $
-          calls ! fm (After-opens-see-mut 𝓤 H A W mem run C fm known-opens κ θ γ β ι ν job κ₂ θ₂ γ₂ β₂ ι₂ ν₂ work axes mode ν₃) (and-then ! (load ! (from ! (stop !)) (look ! 44 refl)) (and-then ! (load ! (from ! (stop !)) (look ! 42 refl)) (and-then ! (load ! (from ! (stop !)) (look ! 40 refl)) (and-then ! (load ! (from ! (stop !)) (look ! 26 refl)) (and-then ! (load ! (from ! (stop !)) (look ! 24 refl)) (no-more !)))))) (λ r-s. await ! tt $ pick ! (λ s. pick ! (λ x-s. learn ! (λ e-s. split ! $ move ! (1 ∷ []) $ facts ! S.the-row (Is S.the-row) (shows 𝓤 H A S.the-row) s (r-s ∷ []) (λ g-s.
-          land ! (from ! (stop !)) (init ! 34 refl (LL.lawful S.the-type S′.the-laws 𝓤 H A W .typed s _ g-s .0)) $
-          rewrite ! 34 (λ (u : Val). ‵ (fat fullShare (S′.mir) l₆ 0 u)) (spelt-S s r-s g-s) refl $
+          use1 W (later (raw (C #opening·opens (EL.val E.the-type E′.the-laws Plain ∷ vint w32 axes ∷ vint w32 mode ∷ σ ∷ σ₂ ∷ vint w64 ν₃ ∷ []) (λ w. mean 𝓤 H A (After-opens-see-mut 𝓤 H A W mem run C fm known-opens κ θ γ β ι ν job κ₂ θ₂ γ₂ β₂ ι₂ ν₂ work Plain axes mode ν₃ w))))) (opens-see-mut 𝓤 H A W mem run C fm known-opens κ θ γ β ι ν job κ₂ θ₂ γ₂ β₂ ι₂ ν₂ work Plain axes mode ν₃ refl sized₂ (EL.owes E.the-type E′.the-laws Plain tt) g-axes g-mode (sized₃ .0)) $ await ! tt $
+          calls ! fm (After-opens-see-mut 𝓤 H A W mem run C fm known-opens κ θ γ β ι ν job κ₂ θ₂ γ₂ β₂ ι₂ ν₂ work Plain axes mode ν₃) (and-then ! (load ! (from ! (stop !)) (look ! 30 refl)) (and-then ! (load ! (from ! (stop !)) (look ! 46 refl)) (and-then ! (load ! (from ! (stop !)) (look ! 44 refl)) (and-then ! (load ! (from ! (stop !)) (look ! 42 refl)) (and-then ! (load ! (from ! (stop !)) (look ! 26 refl)) (and-then ! (load ! (from ! (stop !)) (look ! 24 refl)) (no-more !))))))) (λ r-s. await ! tt $ pick ! (λ s. pick ! (λ x-s. learn ! (λ e-s. split ! $ move ! (1 ∷ []) $ facts ! S.the-row (Is S.the-row) (shows 𝓤 H A S.the-row) s (r-s ∷ []) (λ g-s.
+          land ! (from ! (stop !)) (init ! 36 refl (LL.lawful S.the-type S′.the-laws 𝓤 H A W .typed s _ g-s .0)) $
+          rewrite ! 36 (λ (u : Val). ‵ (fat fullShare (S′.mir) l₆ 0 u)) (spelt-S s r-s g-s) refl $
           split ! $
-          assigns ! (addr ! (from ! (fld ! refl (hop ! (look-in ! 37 (sub ! 0 refl (whole !))) (stop !))))) (from ! (stop !)) (init ! 23 refl (tt, tt)) $
-          assigns ! (agg ! (and-then ! (load ! (from ! (stop !)) (look ! 23 refl)) (and-then ! (load ! (from ! (fld ! refl (stop !))) (look-in ! 37 (sub ! 1 refl (whole !)))) (no-more !)))) (from ! (stop !)) (init ! 21 refl (tt, (tt, (record { fits = sized₃ .0 }, tt)))) $
-          assigns ! (addr ! (from ! (fld ! refl (hop ! (look-in ! 39 (sub ! 0 refl (whole !))) (stop !))))) (from ! (stop !)) (init ! 19 refl (tt, tt)) $
-          assigns ! (agg ! (and-then ! (load ! (from ! (stop !)) (look ! 19 refl)) (and-then ! (load ! (from ! (fld ! refl (stop !))) (look-in ! 39 (sub ! 1 refl (whole !)))) (no-more !)))) (from ! (stop !)) (init ! 17 refl (tt, (tt, (record { fits = sized₂ .0 }, tt)))) $
-          use0 W (raw (C #encoder·lays (places-mach (s .places) ∷ vint w64 (s .groups) ∷ []) (λ w. mean 𝓤 H A (After-lays-call 𝓤 H A W mem run C fm known-lays (s .places) (s .groups) w)))) (lays-call 𝓤 H A W mem run C fm known-lays (s .places) (s .groups) (LL.owed S.the-type S′.the-laws s _ (at-S s r-s g-s) .1 .1 .1 .1 .1 .1 .0) (LL.owed S.the-type S′.the-laws s _ (at-S s r-s g-s) .1 .1 .1 .1 .1 .1 .1 .0 .1)) $
-          calls ! fm (After-lays-call 𝓤 H A W mem run C fm known-lays (s .places) (s .groups)) (and-then ! (load ! (from ! (fld ! refl (stop !))) (look-in ! 36 (sub ! 6 refl (whole !)))) (and-then ! (load ! (from ! (fld ! refl (stop !))) (look-in ! 36 (sub ! 7 refl (whole !)))) (no-more !))) (λ r-tb. await ! tt $ pick ! (λ tb. learn ! (λ e-tb. facts ! L.the-row (Is L.the-row) (shows 𝓤 H A L.the-row) tb (r-tb ∷ []) (λ g-tb.
+          assigns ! (addr ! (from ! (fld ! refl (hop ! (look-in ! 39 (sub ! 0 refl (whole !))) (stop !))))) (from ! (stop !)) (init ! 23 refl (tt, tt)) $
+          assigns ! (agg ! (and-then ! (load ! (from ! (stop !)) (look ! 23 refl)) (and-then ! (load ! (from ! (fld ! refl (stop !))) (look-in ! 39 (sub ! 1 refl (whole !)))) (no-more !)))) (from ! (stop !)) (init ! 21 refl (tt, (tt, (record { fits = sized₃ .0 }, tt)))) $
+          assigns ! (addr ! (from ! (fld ! refl (hop ! (look-in ! 41 (sub ! 0 refl (whole !))) (stop !))))) (from ! (stop !)) (init ! 19 refl (tt, tt)) $
+          assigns ! (agg ! (and-then ! (load ! (from ! (stop !)) (look ! 19 refl)) (and-then ! (load ! (from ! (fld ! refl (stop !))) (look-in ! 41 (sub ! 1 refl (whole !)))) (no-more !)))) (from ! (stop !)) (init ! 17 refl (tt, (tt, (record { fits = sized₂ .0 }, tt)))) $
+          use0 W (raw (C #encoder·lays (places-mach (s .places) ∷ vint w64 (s .groups) ∷ []) (λ w. mean 𝓤 H A (After-lays-call 𝓤 H A W mem run C fm known-lays (s .places) (s .groups) w)))) (lays-call 𝓤 H A W mem run C fm known-lays (s .places) (s .groups) (LL.owed S.the-type S′.the-laws s _ (at-S s r-s g-s) .1 .1 .1 .1 .1 .1 .1 .0) (LL.owed S.the-type S′.the-laws s _ (at-S s r-s g-s) .1 .1 .1 .1 .1 .1 .1 .1 .0 .1)) $
+          calls ! fm (After-lays-call 𝓤 H A W mem run C fm known-lays (s .places) (s .groups)) (and-then ! (load ! (from ! (fld ! refl (stop !))) (look-in ! 38 (sub ! 7 refl (whole !)))) (and-then ! (load ! (from ! (fld ! refl (stop !))) (look-in ! 38 (sub ! 8 refl (whole !)))) (no-more !))) (λ r-tb. await ! tt $ pick ! (λ tb. learn ! (λ e-tb. facts ! L.the-row (Is L.the-row) (shows 𝓤 H A L.the-row) tb (r-tb ∷ []) (λ g-tb.
           land ! (from ! (stop !)) (init ! 15 refl (LL.lawful L.the-type L′.the-laws 𝓤 H A W .typed tb _ g-tb .0)) $
-          rewrite ! 15 (λ (u : Val). ‵ (fat fullShare (L′.mir) l₁₆ 0 u)) (spelt-L tb r-tb g-tb) refl $
+          rewrite ! 15 (λ (u : Val). ‵ (fat fullShare (L′.mir) l₁₇ 0 u)) (spelt-L tb r-tb g-tb) refl $
           move ! (2 ∷ 1 ∷ []) $
           join ! $
           use1 W (later (raw (C #merging·optimize (σ₃ ∷ σ₂ ∷ mach-tables tb ∷ []) (λ w. mean 𝓤 H A (After-optimize-call 𝓤 H A W mem run C fm known-optimize κ₃ θ₃ γ₃ β₃ ι₃ ν₃ pairs κ₂ θ₂ γ₂ β₂ ι₂ ν₂ (x-s .1) tb w))))) (optimize-call 𝓤 H A W mem run C fm known-optimize κ₃ θ₃ γ₃ β₃ ι₃ ν₃ pairs κ₂ θ₂ γ₂ β₂ ι₂ ν₂ (x-s .1) tb refl (e-s .0 .1) sized₃ sized₂ (at-L tb r-tb g-tb) ((ready-at tb s e-tb (e-s .1 .ready), pairs-enough tb e-tb (e-s .1)))) $ await ! tt $
           calls ! fm (After-optimize-call 𝓤 H A W mem run C fm known-optimize κ₃ θ₃ γ₃ β₃ ι₃ ν₃ pairs κ₂ θ₂ γ₂ β₂ ι₂ ν₂ (x-s .1) tb) (and-then ! (load ! (from ! (stop !)) (look ! 20 refl)) (and-then ! (load ! (from ! (stop !)) (look ! 16 refl)) (and-then ! (load ! (from ! (stop !)) (look ! 14 refl)) (no-more !)))) (λ r-m. await ! tt $ pick ! (λ m. pick ! (λ x-m. learn ! (λ e-m. split ! $ move ! (1 ∷ []) $ facts ! D.the-row (Is D.the-row) (shows 𝓤 H A D.the-row) m (r-m ∷ []) (λ g-m.
-          land ! (from ! (stop !)) (init ! 32 refl (LL.lawful D.the-type D′.the-laws 𝓤 H A W .typed m _ g-m .0)) $
-          rewrite ! 32 (λ (u : Val). ‵ (fat fullShare (D′.mir) l₇ 0 u)) (spelt-D m r-m g-m) refl $
+          land ! (from ! (stop !)) (init ! 34 refl (LL.lawful D.the-type D′.the-laws 𝓤 H A W .typed m _ g-m .0)) $
+          rewrite ! 34 (λ (u : Val). ‵ (fat fullShare (D′.mir) l₇ 0 u)) (spelt-D m r-m g-m) refl $
           split ! $
-          assigns ! (addr ! (from ! (fld ! refl (hop ! (look-in ! 39 (sub ! 0 refl (whole !))) (stop !))))) (from ! (stop !)) (init ! 13 refl (tt, tt)) $
-          assigns ! (agg ! (and-then ! (load ! (from ! (stop !)) (look ! 13 refl)) (and-then ! (load ! (from ! (fld ! refl (stop !))) (look-in ! 39 (sub ! 1 refl (whole !)))) (no-more !)))) (from ! (stop !)) (init ! 11 refl (tt, (tt, (record { fits = sized₂ .0 }, tt)))) $
+          assigns ! (addr ! (from ! (fld ! refl (hop ! (look-in ! 41 (sub ! 0 refl (whole !))) (stop !))))) (from ! (stop !)) (init ! 13 refl (tt, tt)) $
+          assigns ! (agg ! (and-then ! (load ! (from ! (stop !)) (look ! 13 refl)) (and-then ! (load ! (from ! (fld ! refl (stop !))) (look-in ! 41 (sub ! 1 refl (whole !)))) (no-more !)))) (from ! (stop !)) (init ! 11 refl (tt, (tt, (record { fits = sized₂ .0 }, tt)))) $
           move ! (1 ∷ []) $
-          use1 W (later (raw (C #closing·foresee (σ₂ ∷ stage-mach s ∷ mach-merged m ∷ []) (λ w. mean 𝓤 H A (After-foresee-call 𝓤 H A W mem run C fm known-foresee κ₂ θ₂ γ₂ β₂ ι₂ ν₂ (x-m .1) s m w))))) (foresee-call 𝓤 H A W mem run C fm known-foresee κ₂ θ₂ γ₂ β₂ ι₂ ν₂ (x-m .1) s m (e-m .0 .1) sized₂ (at-S s r-s g-s) (at-D m r-m g-m) (record { job = job; fits = record { axes = axes; mode = mode; old = work; pairs = length pairs; mid = x-s .1; opened = e-s .1; joined = joined-at tb s e-tb (e-m .1 .0) } })) $ await ! tt $
-          calls ! fm (After-foresee-call 𝓤 H A W mem run C fm known-foresee κ₂ θ₂ γ₂ β₂ ι₂ ν₂ (x-m .1) s m) (and-then ! (load ! (from ! (stop !)) (look ! 11 refl)) (and-then ! (load ! (from ! (stop !)) (look ! 35 refl)) (and-then ! (load ! (from ! (stop !)) (look ! 33 refl)) (no-more !)))) (λ r-b. await ! tt $ pick ! (λ b. pick ! (λ x-b. learn ! (λ e-b. split ! $ move ! (1 ∷ []) $ facts ! B.the-row (Is B.the-row) (shows 𝓤 H A B.the-row) b (r-b ∷ []) (λ g-b.
-          land ! (from ! (stop !)) (init ! 31 refl (EL.lawful B.the-type B′.the-laws 𝓤 H A W tt .typed b _ g-b .0)) $
-          rewrite ! 31 (λ (u : Val). ‵ (fat fullShare (B′.mir) l₈ 0 u)) (spelt-B b r-b g-b) refl $
-          assigns ! (addr ! (from ! (fld ! refl (hop ! (look-in ! 37 (sub ! 0 refl (whole !))) (stop !))))) (from ! (stop !)) (init ! 7 refl (tt, tt)) $
-          assigns ! (agg ! (and-then ! (load ! (from ! (stop !)) (look ! 7 refl)) (and-then ! (load ! (from ! (fld ! refl (stop !))) (look-in ! 37 (sub ! 1 refl (whole !)))) (no-more !)))) (from ! (stop !)) (init ! 5 refl (tt, (tt, (record { fits = sized₃ .0 }, tt)))) $
-          assigns ! (of-opd ! (load ! (from ! (fld ! refl (stop !))) (look-in ! 37 (sub ! 1 refl (whole !))))) (from ! (stop !)) (init ! 3 refl (tt, record { fits = (sized₃ .0) })) $
+          use1 W (later (raw (C #closing·foresee (σ₂ ∷ stage-mach s ∷ mach-merged m ∷ []) (λ w. mean 𝓤 H A (After-foresee-call 𝓤 H A W mem run C fm known-foresee κ₂ θ₂ γ₂ β₂ ι₂ ν₂ (x-m .1) s m w))))) (foresee-call 𝓤 H A W mem run C fm known-foresee κ₂ θ₂ γ₂ β₂ ι₂ ν₂ (x-m .1) s m (e-m .0 .1) sized₂ (at-S s r-s g-s) (at-D m r-m g-m) (record { job = job; fits = record { profile = Plain; axes = axes; mode = mode; old = work; pairs = length pairs; mid = x-s .1; opened = e-s .1; joined = joined-at tb s e-tb (e-m .1 .0) } })) $ await ! tt $
+          calls ! fm (After-foresee-call 𝓤 H A W mem run C fm known-foresee κ₂ θ₂ γ₂ β₂ ι₂ ν₂ (x-m .1) s m) (and-then ! (load ! (from ! (stop !)) (look ! 11 refl)) (and-then ! (load ! (from ! (stop !)) (look ! 37 refl)) (and-then ! (load ! (from ! (stop !)) (look ! 35 refl)) (no-more !)))) (λ r-b. await ! tt $ pick ! (λ b. pick ! (λ x-b. learn ! (λ e-b. split ! $ move ! (1 ∷ []) $ facts ! B.the-row (Is B.the-row) (shows 𝓤 H A B.the-row) b (r-b ∷ []) (λ g-b.
+          land ! (from ! (stop !)) (init ! 33 refl (EL.lawful B.the-type B′.the-laws 𝓤 H A W tt .typed b _ g-b .0)) $
+          rewrite ! 33 (λ (u : Val). ‵ (fat fullShare (B′.mir) l₈ 0 u)) (spelt-B b r-b g-b) refl $
+          assigns ! (addr ! (from ! (fld ! refl (hop ! (look-in ! 39 (sub ! 0 refl (whole !))) (stop !))))) (from ! (stop !)) (init ! 7 refl (tt, tt)) $
+          assigns ! (agg ! (and-then ! (load ! (from ! (stop !)) (look ! 7 refl)) (and-then ! (load ! (from ! (fld ! refl (stop !))) (look-in ! 39 (sub ! 1 refl (whole !)))) (no-more !)))) (from ! (stop !)) (init ! 5 refl (tt, (tt, (record { fits = sized₃ .0 }, tt)))) $
+          assigns ! (of-opd ! (load ! (from ! (fld ! refl (stop !))) (look-in ! 39 (sub ! 1 refl (whole !))))) (from ! (stop !)) (init ! 3 refl (tt, record { fits = (sized₃ .0) })) $
           use0 W (raw (C #arranging·pairs-used (stage-mach s ∷ vint w64 ν₃ ∷ []) (λ w. mean 𝓤 H A (After-pairs-used-call 𝓤 H A W mem run C fm known-pairs-used s ν₃ w)))) (pairs-used-call 𝓤 H A W mem run C fm known-pairs-used s ν₃ (at-S s r-s g-s) (sized₃ .0)) $
-          calls ! fm (After-pairs-used-call 𝓤 H A W mem run C fm known-pairs-used s ν₃) (and-then ! (load ! (from ! (stop !)) (look ! 36 refl)) (and-then ! (load ! (from ! (stop !)) (look ! 4 refl)) (no-more !))) (λ r-n. await ! tt $ pick ! (λ n. learn ! (λ e-n. facts ! usize (Is usize) (shows 𝓤 H A usize) n (r-n ∷ []) (λ g-n.
+          calls ! fm (After-pairs-used-call 𝓤 H A W mem run C fm known-pairs-used s ν₃) (and-then ! (load ! (from ! (stop !)) (look ! 38 refl)) (and-then ! (load ! (from ! (stop !)) (look ! 4 refl)) (no-more !))) (λ r-n. await ! tt $ pick ! (λ n. learn ! (λ e-n. facts ! usize (Is usize) (shows 𝓤 H A usize) n (r-n ∷ []) (λ g-n.
           land ! (from ! (stop !)) (store ! 25 refl (uint-lawful 𝓤 H A W w64 .typed n _ g-n .0)) $
-          rewrite ! 25 (λ (u : Val). ‵ (fat fullShare (tyInt w64) l₁₁ 0 u)) (ap only (g-n .0)) refl $
+          rewrite ! 25 (λ (u : Val). ‵ (fat fullShare (tyInt w64) l₁₂ 0 u)) (ap only (g-n .0)) refl $
           move ! (1 ∷ []) $
           use1 W (later (raw (C #pairs·clear-pairs (σ₃ ∷ vint w64 n ∷ []) (λ w. mean 𝓤 H A (After-clear-pairs-call 𝓤 H A W mem run C fm known-clear-pairs κ₃ θ₃ γ₃ β₃ ι₃ ν₃ (x-m .0) n w))))) (clear-pairs-call 𝓤 H A W mem run C fm known-clear-pairs κ₃ θ₃ γ₃ β₃ ι₃ ν₃ (x-m .0) n (e-m .0 .0) sized₃ (g-n .1) (omega (arith, used-few s (length pairs) n e-n, e-m .0 .0))) $ await ! tt $
           calls ! fm (After-clear-pairs-call 𝓤 H A W mem run C fm known-clear-pairs κ₃ θ₃ γ₃ β₃ ι₃ ν₃ (x-m .0) n) (and-then ! (load ! (from ! (stop !)) (look ! 5 refl)) (and-then ! (load ! (from ! (stop !)) (look ! 25 refl)) (no-more !))) (λ r-u-zs. await ! tt $ pick ! (λ u-zs. pick ! (λ zs. learn ! (λ e-zs. split ! $ move ! (1 ∷ []) $ facts ! Nothing (Is Nothing) (shows 𝓤 H A Nothing) u-zs (r-u-zs ∷ []) (λ g-u-zs.
           land ! (from ! (stop !)) (init ! 9 refl (nothing-lawful 𝓤 H A W .typed u-zs _ g-u-zs .0)) $
-          assigns ! (of-opd ! (load ! (from ! (stop !)) (look ! 31 refl))) (from ! (stop !)) (init ! 47 refl (EL.lawful B.the-type B′.the-laws 𝓤 H A W tt .typed b _ (at-B b r-b g-b) .0)) $
-          returns ! (look ! 47 refl) $
-          forget ! 47 refl $ forget ! 45 refl $ forget ! 43 refl $ forget ! 41 refl $ forget ! 39 refl $ forget ! 37 refl $ forget ! 35 refl $ forget ! 33 refl $ forget ! 31 refl $ forget ! 29 refl $ forget ! 27 refl $ forget ! 25 refl $ forget ! 23 refl $ forget ! 21 refl $ forget ! 19 refl $ forget ! 17 refl $ forget ! 15 refl $ forget ! 13 refl $ forget ! 11 refl $ forget ! 9 refl $ forget ! 7 refl $ forget ! 5 refl $ forget ! 3 refl $
-          move ! (47 ∷ 48 ∷ []) $ free1 ! $ move ! (45 ∷ 46 ∷ []) $ free1 ! $ move ! (43 ∷ 44 ∷ []) $ free1 ! $ move ! (41 ∷ 42 ∷ []) $ free1 ! $ move ! (39 ∷ 40 ∷ []) $ free1 ! $ move ! (37 ∷ 38 ∷ []) $ free1 ! $ move ! (35 ∷ 36 ∷ []) $ free1 ! $ move ! (33 ∷ 34 ∷ []) $ free1 ! $ move ! (31 ∷ 32 ∷ []) $ free1 ! $ move ! (29 ∷ 30 ∷ []) $ free1 ! $ move ! (27 ∷ 28 ∷ []) $ free1 ! $ move ! (25 ∷ 26 ∷ []) $ free1 ! $ move ! (23 ∷ 24 ∷ []) $ free1 ! $ move ! (21 ∷ 22 ∷ []) $ free1 ! $ move ! (19 ∷ 20 ∷ []) $ free1 ! $ move ! (17 ∷ 18 ∷ []) $ free1 ! $ move ! (15 ∷ 16 ∷ []) $ free1 ! $ move ! (13 ∷ 14 ∷ []) $ free1 ! $ move ! (11 ∷ 12 ∷ []) $ free1 ! $ move ! (9 ∷ 10 ∷ []) $ free1 ! $ move ! (7 ∷ 8 ∷ []) $ free1 ! $ move ! (5 ∷ 6 ∷ []) $ free1 ! $ move ! (3 ∷ 4 ∷ []) $ free1 ! $ free0 ! $
+          assigns ! (of-opd ! (load ! (from ! (stop !)) (look ! 33 refl))) (from ! (stop !)) (init ! 49 refl (EL.lawful B.the-type B′.the-laws 𝓤 H A W tt .typed b _ (at-B b r-b g-b) .0)) $
+          returns ! (look ! 49 refl) $
+          forget ! 49 refl $ forget ! 47 refl $ forget ! 45 refl $ forget ! 43 refl $ forget ! 41 refl $ forget ! 39 refl $ forget ! 37 refl $ forget ! 35 refl $ forget ! 33 refl $ forget ! 31 refl $ forget ! 29 refl $ forget ! 27 refl $ forget ! 25 refl $ forget ! 23 refl $ forget ! 21 refl $ forget ! 19 refl $ forget ! 17 refl $ forget ! 15 refl $ forget ! 13 refl $ forget ! 11 refl $ forget ! 9 refl $ forget ! 7 refl $ forget ! 5 refl $ forget ! 3 refl $
+          move ! (49 ∷ 50 ∷ []) $ free1 ! $ move ! (47 ∷ 48 ∷ []) $ free1 ! $ move ! (45 ∷ 46 ∷ []) $ free1 ! $ move ! (43 ∷ 44 ∷ []) $ free1 ! $ move ! (41 ∷ 42 ∷ []) $ free1 ! $ move ! (39 ∷ 40 ∷ []) $ free1 ! $ move ! (37 ∷ 38 ∷ []) $ free1 ! $ move ! (35 ∷ 36 ∷ []) $ free1 ! $ move ! (33 ∷ 34 ∷ []) $ free1 ! $ move ! (31 ∷ 32 ∷ []) $ free1 ! $ move ! (29 ∷ 30 ∷ []) $ free1 ! $ move ! (27 ∷ 28 ∷ []) $ free1 ! $ move ! (25 ∷ 26 ∷ []) $ free1 ! $ move ! (23 ∷ 24 ∷ []) $ free1 ! $ move ! (21 ∷ 22 ∷ []) $ free1 ! $ move ! (19 ∷ 20 ∷ []) $ free1 ! $ move ! (17 ∷ 18 ∷ []) $ free1 ! $ move ! (15 ∷ 16 ∷ []) $ free1 ! $ move ! (13 ∷ 14 ∷ []) $ free1 ! $ move ! (11 ∷ 12 ∷ []) $ free1 ! $ move ! (9 ∷ 10 ∷ []) $ free1 ! $ move ! (7 ∷ 8 ∷ []) $ free1 ! $ move ! (5 ∷ 6 ∷ []) $ free1 ! $ move ! (3 ∷ 4 ∷ []) $ free1 ! $ free0 ! $
           move ! (2 ∷ 1 ∷ 0 ∷ []) $
           by ! (exits x-b (e-b .0) zs (e-zs .0) b (at-B b r-b g-b) (foretells axes mode job work pairs b _ zs (e-b .1 axes mode job work (length pairs) (x-s .1) (e-s .1) (joined-at tb s e-tb (e-m .1 .0))) (pairs-left pairs (x-m .0) zs (e-s .1) e-n (e-m .0 .0) (pairs-idle tb e-tb (e-s .1) (e-m .0 .0) (e-m .1 .1)) (e-zs .1))))))))))))))))))))))))))))))))
 
     walk : ent 𝓤 (onEntry 𝓤 H A forecast.signature (κ, (κ₂, (κ₃, tt))) (θ, (θ₂, (θ₃, tt))) (bound .0 .3) (bound .0 .4)) (WpFn 𝓤 H C Λ code.function (vint w32 axes ∷ vint w32 mode ∷ σ ∷ σ₂ ∷ σ₃ ∷ []) Post)
     walk =
         qed W ((‵ (flft κ θ) ⊛ ‵ (flft κ₂ θ₂) ⊛ ‵ (flft κ₃ θ₃) ⊛ ‵ ftrue) ∷ ‵ (owns (u32 ∷ u32 ∷ ShrSlice (named 0) κ u8 ∷ MutSlice (named 1) κ₂ u32 ∷ MutSlice (named 2) κ₃ T.the-row ∷ []) (bound .0 .3) (bound .0 .4)) ∷ []) ∵ enter ! C Λ code.function (vint w32 axes ∷ vint w32 mode ∷ σ ∷ σ₂ ∷ σ₃ ∷ []) _ $
-        alloc1 ! (λ l₀. alloc1 ! (λ l₁. alloc1 ! (λ l₂. alloc1 ! (λ l₃. alloc1 ! (λ l₄. alloc1 ! (λ l₅. alloc1 ! (λ l₆. alloc1 ! (λ l₇. alloc1 ! (λ l₈. alloc1 ! (λ l₉. alloc1 ! (λ l₁₀. alloc1 ! (λ l₁₁. alloc1 ! (λ l₁₂. alloc1 ! (λ l₁₃. alloc1 ! (λ l₁₄. alloc1 ! (λ l₁₅. alloc1 ! (λ l₁₆. alloc1 ! (λ l₁₇. alloc1 ! (λ l₁₈. alloc1 ! (λ l₁₉. alloc1 ! (λ l₂₀. alloc1 ! (λ l₂₁. alloc1 ! (λ l₂₂. alloc0 ! $ params1 ! $
-        pass1 ! (init ! 42 refl (tt, record { fits = g-axes })) $ pass1 ! (init ! 40 refl (tt, record { fits = g-mode })) $ pass1 ! (init ! 38 refl (tt, (tt, (record { fits = sized .0 }, tt)))) $ pass1 ! (init ! 36 refl (tt, (tt, (record { fits = sized₂ .0 }, tt)))) $ pass1 ! (init ! 34 refl (tt, (tt, (record { fits = sized₃ .0 }, tt)))) $ pass0 ! $
-        move ! (47 ∷ []) $
+        alloc1 ! (λ l₀. alloc1 ! (λ l₁. alloc1 ! (λ l₂. alloc1 ! (λ l₃. alloc1 ! (λ l₄. alloc1 ! (λ l₅. alloc1 ! (λ l₆. alloc1 ! (λ l₇. alloc1 ! (λ l₈. alloc1 ! (λ l₉. alloc1 ! (λ l₁₀. alloc1 ! (λ l₁₁. alloc1 ! (λ l₁₂. alloc1 ! (λ l₁₃. alloc1 ! (λ l₁₄. alloc1 ! (λ l₁₅. alloc1 ! (λ l₁₆. alloc1 ! (λ l₁₇. alloc1 ! (λ l₁₈. alloc1 ! (λ l₁₉. alloc1 ! (λ l₂₀. alloc1 ! (λ l₂₁. alloc1 ! (λ l₂₂. alloc1 ! (λ l₂₃. alloc0 ! $ params1 ! $
+        pass1 ! (init ! 44 refl (tt, record { fits = g-axes })) $ pass1 ! (init ! 42 refl (tt, record { fits = g-mode })) $ pass1 ! (init ! 40 refl (tt, (tt, (record { fits = sized .0 }, tt)))) $ pass1 ! (init ! 38 refl (tt, (tt, (record { fits = sized₂ .0 }, tt)))) $ pass1 ! (init ! 36 refl (tt, (tt, (record { fits = sized₃ .0 }, tt)))) $ pass0 ! $
+        move ! (49 ∷ []) $
         fsplit ! $
         move ! (1 ∷ []) $
         fsplit ! $
@@ -239,7 +244,7 @@ module _ {M : Type 1} (𝓤 : URA M) (H : Heap 𝓤) (A : Atoms 𝓤) (W : Given
         fsplit ! $
         move ! (1 ∷ []) $
         fsplit ! $
-        move ! (52 ∷ []) $
+        move ! (54 ∷ []) $
         split ! $
         move ! (1 ∷ []) $
         split ! $
@@ -260,7 +265,7 @@ module _ {M : Type 1} (𝓤 : URA M) (H : Heap 𝓤) (A : Atoms 𝓤) (W : Given
         move ! (3 ∷ 2 ∷ []) $
         join ! $
         move ! (2 ∷ 1 ∷ 0 ∷ []) $
-        body l₀ l₁ l₂ l₃ l₄ l₅ l₆ l₇ l₈ l₉ l₁₀ l₁₁ l₁₂ l₁₃ l₁₄ l₁₅ l₁₆ l₁₇ l₁₈ l₁₉ l₂₀ l₂₁ l₂₂)))))))))))))))))))))))
+        body l₀ l₁ l₂ l₃ l₄ l₅ l₆ l₇ l₈ l₉ l₁₀ l₁₁ l₁₂ l₁₃ l₁₄ l₁₅ l₁₆ l₁₇ l₁₈ l₁₉ l₂₀ l₂₁ l₂₂ l₂₃))))))))))))))))))))))))
 
   -- and with what it asks
   abbrev Entry : SProp 𝓤

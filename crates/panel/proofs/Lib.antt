@@ -1,0 +1,4 @@
+pub mod CoordinateLaws
+pub mod OddLaws
+pub mod PanelledLaws
+pub mod ReachLaws

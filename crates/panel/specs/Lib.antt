@@ -1,0 +1,3 @@
+pub mod Taken
+pub mod Panelled
+pub mod LentOdd

@@ -1,0 +1,5 @@
+pub mod ShortSets
+pub mod LowShapes
+pub mod LowTables
+pub mod Rows
+pub mod ReadableLaws
