@@ -1,17 +1,44 @@
 # What there is to do here; README.md says more. `rt` is Rattle's command, cargo the host's.
 #
-#   make run    the proved build on the example that ships: its table, and the store's rows
-#   make test   everything that is tested; .ci/run is the same, and fails where the source is not there to compare with
-#   make check  the proofs alone, what changed since they last passed
-#   make bench  the times of the library beside the source's; docs/BENCH.md
-#   make fmt    the layout of every file
+#   make run      the proved build on the example that ships: its table, and the store's rows
+#   make install  the library and the program below PREFIX (/usr/local), or below DESTDIR/PREFIX
+#   make dist     a tar of the library for who links it without proving it, into target/dist
+#   make test     everything that is tested; .ci/run is the same, and fails where the source is not there to compare with
+#   make check    the proofs alone, what changed since they last passed
+#   make bench    the times of the library beside the source's; docs/BENCH.md
+#   make fmt      the layout of every file
+#
+# IVS_LIB names a folder of `make install` or `make dist`: `run` and `install` link that library, and nothing is proved.
 
-.PHONY: run test bench check fmt
+PREFIX = /usr/local
+DESTDIR =
+ifdef IVS_LIB
+override IVS_LIB := $(abspath $(IVS_LIB))
+export IVS_LIB
+endif
+ARCHIVE = $(if $(IVS_LIB),$(IVS_LIB)/lib/libivs.a,target/staticlib/libivs.a)
 
-run:
+.PHONY: run install dist library program test bench check fmt
+
+run: program
+	@./examples/run host/target/release/fenikezo
+
+# Proved once, with a line a crate; seconds where nothing has changed.
+library:
+	@$(if $(IVS_LIB),,./tools/staticlib)
+
+program: library
 	@$(MAKE) -s -C host --no-print-directory crates
 	@cd host && cargo build --quiet --release -p cli
-	@./examples/run host/target/release/fenikezo
+
+install: program
+	./tools/install "$(DESTDIR)$(PREFIX)" "$(ARCHIVE)" host/target/release/fenikezo
+
+# Its page speaks of all crates, so all are proved.
+dist:
+	rt check
+	@./tools/staticlib
+	./tools/dist target/dist target/staticlib/libivs.a
 
 test:
 	./tests/run

@@ -1,8 +1,13 @@
-/* Fenikezo: item variation stores. Link with libivs.a (`rt staticlib ivs`), which is for x86-64. docs/RULES.md has the
- * rules, by labels (J1, R6), which are given below.
+/* Fenikezo: item variation stores. Link with libivs.a (`make install`, or `rt staticlib ivs`), which is for x86-64.
+ * docs/RULES.md has the rules, by labels (J1, R6), which are given below.
  *
  * A slice passes as a pointer and a length. A pointer must not be null, also where the length is 0, and must be aligned
- * for its type; nothing lent may overlap anything else that is lent. */
+ * for its type; nothing lent may overlap anything else that is lent.
+ *
+ * Threads: every function may be called from any number of threads at once. The library has no memory of its own and
+ * asks for none; it touches only what the call is lent. What a call may write to (what is lent without const) must not
+ * be lent to another call, nor be read or written by anybody, until the call is back; what is only read may be lent to
+ * many calls at once. */
 #ifndef IVS_H
 #define IVS_H
 
@@ -12,6 +17,71 @@
 #ifdef __cplusplus
 extern "C" {
 #endif
+
+/* The version of the header; the library's is the same. */
+#define IVS_VERSION "0.1.0"
+
+/* Every refusal: EACH(number, name). */
+#define IVS_REFUSALS(EACH) \
+    EACH(1, BAD_AXES) \
+    EACH(2, BAD_MODE) \
+    EACH(3, BAD_JOB_LENGTH) \
+    EACH(4, WORK_SHORT) \
+    EACH(6, UNKNOWN_REGION) \
+    EACH(7, REGION_TWICE) \
+    EACH(8, UNFINISHED) \
+    EACH(9, SETS_FULL) \
+    EACH(10, SHAPES_FULL) \
+    EACH(11, IDS_SHORT) \
+    EACH(12, MAP_SHORT) \
+    EACH(13, LOG_SHORT) \
+    EACH(14, OUT_SHORT) \
+    EACH(20, BAD_STORE) \
+    EACH(21, NO_ROW) \
+    EACH(22, NO_REGION) \
+    EACH(30, UNKNOWN_KIND) \
+    EACH(31, NOT_ZERO) \
+    EACH(32, AXIS_OUT_OF_TURN) \
+    EACH(33, AXIS_TOO_LATE) \
+    EACH(34, REGION_UNFINISHED) \
+    EACH(40, TOO_MANY_GLYPHS) \
+    EACH(41, GLYPH_MAP_SHORT) \
+    EACH(42, BAD_GLYPH_MAP) \
+    EACH(43, BAD_WIDTHS) \
+    EACH(61, ORIGINS_SHORT) \
+    EACH(64, NO_SET) \
+    EACH(70, LONG_VALUE) \
+    EACH(71, BAD_REGION) \
+    EACH(72, WIDE_SUBTABLE)
+
+/* The numbers by their names: IVS_DONE is 0, IVS_BAD_AXES is 1 and so on. Functions answer plain numbers. */
+enum ivs_refusal {
+#define IVS_EACH(number, name) IVS_##name = number,
+    IVS_REFUSALS(IVS_EACH)
+#undef IVS_EACH
+    IVS_DONE = 0
+};
+
+/* The name of a number, as "BAD_AXES"; "DONE" of 0, and "UNKNOWN" of a number that is no refusal. */
+static inline const char *ivs_name(uint32_t number) {
+    switch (number) {
+#define IVS_EACH(number, name) \
+    case number: \
+        return #name;
+        IVS_REFUSALS(IVS_EACH)
+#undef IVS_EACH
+    case IVS_DONE:
+        return "DONE";
+    default:
+        return "UNKNOWN";
+    }
+}
+
+/* The modes of a build. */
+enum ivs_mode {
+    IVS_DEDUPLICATING = 0, /* equal sets share a row */
+    IVS_IMPLICIT = 1       /* a row for each set, in its order, in one subtable */
+};
 
 /* The 32-bit words of work that a job of r records needs (J7), 16 r + min(r, 1,024)^2; 0 above the record limit
  * (1,048,576). */

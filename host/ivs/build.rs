@@ -1,5 +1,7 @@
 //! Has Rattle prove the crate `ivs` and compile it, and links what it wrote. A crate
-//! that was proved before and has not changed is not proved again.
+//! that was proved before and has not changed is not proved again. Where `IVS_LIB` names
+//! the folder of a library that was made before (`make dist`, `make install`), that one is
+//! linked, and `rt` is not asked.
 //!
 //! The archive is for x86-64. On another machine it is linked into src/served.c, by the
 //! compiler in Rattle's kit, which src/emulated.rs runs under the kit's emulator.
@@ -12,8 +14,12 @@ use std::process::Command;
 /// Set where nothing is linked, for lints: then nothing is proved or compiled here either.
 const LINTS: &str = "FENIKEZO_LINTS";
 
+/// Names the folder of a library that was made before.
+const LIB: &str = "IVS_LIB";
+
 fn main() {
     println!("cargo:rerun-if-env-changed={LINTS}");
+    println!("cargo:rerun-if-env-changed={LIB}");
     if env::var_os(LINTS).is_some() {
         for name in ["IVS_ARCHIVE", "IVS_EMULATOR", "IVS_SERVER"] {
             println!("cargo:rustc-env={name}=");
@@ -22,17 +28,16 @@ fn main() {
     }
     let here = PathBuf::from(env::var_os("CARGO_MANIFEST_DIR").expect("cargo sets it"));
     let root = here.join("../..");
-    watch(&root.join("crates"));
     println!("cargo:rerun-if-changed=src/served.c");
-    run(
-        Command::new("rt").args(["staticlib", "ivs"]).current_dir(&root),
-        "this crate links the proved library, which Rattle's command `rt` builds: put its folder into PATH",
-    );
+    let made = match env::var_os(LIB) {
+        Some(folder) => made_before(&root, Path::new(&folder)),
+        None => proved(&root),
+    };
     // A copy, since Rattle's target folder is cleared by its verdict.
     let out = PathBuf::from(env::var_os("OUT_DIR").expect("cargo sets it"));
     let archive = out.join("libivs.a");
-    fs::copy(root.join("target/staticlib/libivs.a"), &archive)
-        .expect("Rattle has written the archive");
+    fs::copy(&made, &archive)
+        .unwrap_or_else(|error| panic!("cannot copy {}: {error}", made.display()));
     println!("cargo:rustc-env=IVS_ARCHIVE={}", archive.display());
     if env::var("CARGO_CFG_TARGET_ARCH").as_deref() == Ok("x86_64") {
         println!("cargo:rustc-link-search=native={}", out.display());
@@ -40,6 +45,44 @@ fn main() {
     } else {
         emulated(&here, &out, &archive);
     }
+}
+
+/// The archive of a library that was made before. Its header must be ours, word for word: a
+/// library of another header is called otherwise.
+fn made_before(root: &Path, folder: &Path) -> PathBuf {
+    assert!(
+        folder.is_absolute(),
+        "{LIB}: name the folder by its whole path, not {}",
+        folder.display()
+    );
+    let (archive, header) = (folder.join("lib/libivs.a"), folder.join("include/ivs.h"));
+    println!("cargo:rerun-if-changed={}", archive.display());
+    println!("cargo:rerun-if-changed={}", header.display());
+    let read = |path: &Path| {
+        fs::read(path).unwrap_or_else(|error| panic!("{LIB}: {}: {error}", path.display()))
+    };
+    assert!(
+        read(&header) == read(&root.join("include/ivs.h")),
+        "{LIB}: {} is not the header that this crate was written for: take the library of the same version",
+        header.display()
+    );
+    archive
+}
+
+/// The archive as Rattle proves and writes it now. Cargo keeps what a build script says until
+/// it ends, so the terminal is told of a first run's progress itself, where there is one.
+fn proved(root: &Path) -> PathBuf {
+    watch(&root.join("crates"));
+    println!(
+        "cargo:rerun-if-changed={}",
+        root.join("tools/staticlib").display()
+    );
+    let mut command = Command::new(root.join("tools/staticlib"));
+    if let Ok(terminal) = fs::OpenOptions::new().write(true).open("/dev/tty") {
+        command.stderr(terminal);
+    }
+    run(&mut command, "this crate links the proved library");
+    root.join("target/staticlib/libivs.a")
 }
 
 /// Every crate's sources, statements and proofs, and none of what stands beside them.

@@ -4,6 +4,7 @@ use crate::arguments::{Build, Profile};
 use crate::failure::Failure;
 use crate::files;
 use crate::input::Input;
+use crate::json::{list, object, Json};
 use crate::numbers::{self, Number};
 use std::fmt::Write;
 use std::path::Path;
@@ -62,14 +63,9 @@ fn lines(words: &[u32], a_line: usize) -> Vec<u8> {
 }
 
 /// The numbers, and of each starting shape its number and its final group.
-fn json(numbers: &[Number], origins: &[u32]) -> String {
-    let origins: Vec<String> = origins
-        .chunks(2)
-        .map(|origin| format!("[{}, {}]", origin[0], origin[1]))
-        .collect();
-    let numbers = numbers::json(numbers);
-    let open = numbers.trim_end_matches('}');
-    format!("{open}, \"origins\": [{}]}}", origins.join(", "))
+fn json(numbers: &[Number], origins: &[u32]) -> Json {
+    let origin = |origin: &[u32]| list(origin, |&word| word.into());
+    numbers::json(numbers).and(object([("origins", list(origins.chunks(2), origin))]))
 }
 
 fn table(numbers: &[Number]) -> String {

@@ -1,8 +1,8 @@
 //! The item variation stores of a font: in which table each stands, and its rows as a job.
 
+use crate::big_endian::{u16_at, u32_at};
 use crate::sfnt::Font;
-use crate::store::{u16_at, u32_at, Store, Subtable};
-use ivs::{JobError, JobWriter, Packed, Refused};
+use ivs::{JobError, JobWriter, Packed, Refused, Row, Store, Subtable};
 
 /// What stands in place of a row's number for no variation.
 const NO_ROW: u32 = 0xFFFF_FFFF;
@@ -106,8 +106,7 @@ pub struct Rows<'a> {
 impl<'a> Rows<'a> {
     pub fn of(bytes: &'a [u8]) -> Result<Rows<'a>, Refused> {
         let store = Store::decode(bytes)?;
-        let subtables = (0..store.subtables()).map(|outer| store.subtable(outer));
-        let subtables = subtables.collect::<Result<_, _>>()?;
+        let subtables = store.subtables().collect::<Result<_, _>>()?;
         Ok(Rows { store, subtables })
     }
 
@@ -123,10 +122,9 @@ impl<'a> Rows<'a> {
         self.row(word).is_some()
     }
 
-    fn row(&self, word: u32) -> Option<(&Subtable<'a>, usize)> {
-        let inner = (word & 0xFFFF) as usize;
+    fn row(&self, word: u32) -> Option<Row<'_>> {
         let subtable = self.subtables.get((word >> 16) as usize)?.as_ref()?;
-        (inner < subtable.items).then_some((subtable, inner))
+        subtable.row((word & 0xFFFF) as usize)
     }
 
     /// Packs the rows of these words, a set each, in a mode.
@@ -146,16 +144,16 @@ impl<'a> Rows<'a> {
         if word == NO_ROW {
             return Ok(Vec::new());
         }
-        let (subtable, inner) = self.row(word).ok_or_else(|| {
+        let row = self.row(word).ok_or_else(|| {
             let (outer, inner) = (word >> 16, word & 0xFFFF);
             Unpacked::Other(format!(
                 "it names row {inner} of subtable {outer}, which is not there"
             ))
         })?;
-        let columns = subtable.columns.iter().zip(subtable.row(inner));
         // There are no more regions than a job can name, or the job was refused before.
-        Ok(columns
-            .map(|(&(region, _), value)| (region as u8, value))
+        let values = row.values();
+        Ok(values
+            .map(|(region, value)| (region as u8, value))
             .collect())
     }
 }

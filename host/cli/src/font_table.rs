@@ -1,8 +1,8 @@
 //! The tables that are packed anew: HVAR and VVAR, whose maps name the rows of their store,
 //! and MVAR, whose records do.
 
+use crate::big_endian::{u16_at, u32_at};
 use crate::font_store::{Rows, Unpacked};
-use crate::store::{u16_at, u32_at};
 use ivs::Refused;
 
 /// The table packed anew in a mode; none where it is none of the three.
@@ -153,7 +153,7 @@ mod tests {
             0 => glyph,
             at => ivs::read_glyph(&table[at..], glyph).unwrap(),
         };
-        let regions = crate::store::Store::decode(store).unwrap().regions;
+        let regions = ivs::Store::decode(store).unwrap().regions;
         let scalar = |&(_, peak, _): &ivs::Tent| (place / f64::from(peak)).max(0.0);
         let one = |(number, region): (u32, &Vec<ivs::Tent>)| match ivs::read(
             store,

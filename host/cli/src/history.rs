@@ -167,7 +167,7 @@ fn subtables(groups: &[Group]) -> Vec<usize> {
 #[cfg(test)]
 mod tests {
     use super::*;
-    use crate::store::Store;
+    use ivs::Store;
 
     /// Every set's group leads to the subtable that the map names, whose columns are the
     /// group's; and what merges save is what the numbers say.
@@ -196,7 +196,7 @@ mod tests {
                 let mut columns: Vec<&Vec<Tent>> = subtable
                     .columns
                     .iter()
-                    .map(|&(region, _)| &store.regions[region])
+                    .map(|column| &store.regions[column.region])
                     .collect();
                 let shape = &history.groups[group].shape;
                 let mut regions: Vec<&Vec<Tent>> = shape

@@ -1,7 +1,7 @@
 //! What a file is, by its first bytes: so that who gives the wrong one is told.
 
+use crate::big_endian::{u16_at, u32_at};
 use crate::failure::Failure;
-use crate::store::{u16_at, u32_at};
 use ivs::Refused;
 use std::path::Path;
 

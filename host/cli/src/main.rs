@@ -3,6 +3,7 @@
 
 mod arguments;
 mod batch;
+mod big_endian;
 mod build;
 mod check;
 mod explain;
@@ -32,7 +33,6 @@ mod sfnt;
 mod show;
 mod show_job;
 mod show_store;
-mod store;
 mod story;
 mod text;
 mod widths;

@@ -1,6 +1,6 @@
 //! A font file: its tables by the directory, and the file written anew with others in it.
 
-use crate::store::{u16_at, u32_at};
+use crate::big_endian::{u16_at, u32_at};
 use ttf_parser::{fonts_in_collection, Face, RawFace, Tag};
 
 /// Bytes of the file's head and of a record of its directory.

@@ -4,8 +4,8 @@ use crate::arguments::Show;
 use crate::failure::Failure;
 use crate::input::Input;
 use crate::kind::{self, Kind};
-use crate::store::Store;
 use crate::{files, names, show_job, show_store, text};
+use ivs::Store;
 
 pub fn run(arguments: &Show) -> Result<(), Failure> {
     let bytes = files::read(&arguments.file)?;
@@ -48,19 +48,21 @@ fn store(arguments: &Show, bytes: &[u8]) -> Result<(), Failure> {
     let names = names::of_store(&store.regions, job.as_ref());
     let subtable = |outer| store.subtable(outer).map_err(refused);
     // Nothing is said of a store that is refused.
-    (0..store.subtables()).try_for_each(|outer| subtable(outer).map(|_| ()))?;
+    store
+        .subtables()
+        .try_for_each(|s| s.map(|_| ()).map_err(refused))?;
     // One after another: together they may be far more than the file, since the subtables
     // of a store that others wrote may share bytes.
     if arguments.json {
         files::print(&show_store::json_head(&store, &names))?;
-        for outer in 0..store.subtables() {
+        for outer in 0..store.subtable_count() {
             let json = show_store::json_subtable(&names, subtable(outer)?.as_ref());
             files::print(&format!("{}{json}", if outer == 0 { "" } else { ", " }))?;
         }
         return files::print("]}\n");
     }
     files::print(&show_store::head(&store, &names))?;
-    for outer in 0..store.subtables() {
+    for outer in 0..store.subtable_count() {
         let text = show_store::subtable(outer, &names, subtable(outer)?.as_ref());
         files::print(&text)?;
     }

@@ -3,17 +3,17 @@
 use crate::json::{list, object, Json};
 use crate::names as name;
 use crate::show_job::{count, regions};
-use crate::store::{Store, Subtable};
+use ivs::{Column, Row, Store, Subtable};
 use std::fmt::Write;
 
 /// The store's numbers and its regions.
 pub fn head(store: &Store<'_>, names: &[String]) -> String {
     let mut text = format!(
         "store: {}, {}, {}, {}\n",
-        count(store.bytes(), "byte", "bytes"),
+        count(store.bytes().len(), "byte", "bytes"),
         count(store.axes, "axis", "axes"),
         count(store.regions.len(), "region", "regions"),
-        count(store.subtables(), "subtable", "subtables")
+        count(store.subtable_count(), "subtable", "subtables")
     );
     text += &regions(names, &store.regions);
     text
@@ -30,7 +30,7 @@ pub fn subtable(outer: usize, names: &[String], subtable: Option<&Subtable<'_>>)
         count(subtable.row_bytes(), "byte", "bytes")
     );
     // The judge has seen that every column's region is in the list.
-    let name = |&(region, bytes): &(usize, usize)| format!("{}:{bytes}", names[region]);
+    let name = |column: &Column| format!("{}:{}", names[column.region], column.bytes);
     let heads: Vec<String> = subtable.columns.iter().map(name).collect();
     let wide = |head: &String| head.chars().count().max(11);
     // Writing to a string cannot fail.
@@ -38,9 +38,9 @@ pub fn subtable(outer: usize, names: &[String], subtable: Option<&Subtable<'_>>)
         let _ = write!(text, " {head:>11}");
     }
     text.push('\n');
-    for inner in 0..subtable.items {
-        let _ = write!(text, "{inner:<7}");
-        for (value, head) in subtable.row(inner).iter().zip(&heads) {
+    for row in subtable.rows() {
+        let _ = write!(text, "{:<7}", row.inner());
+        for ((_, value), head) in row.values().zip(&heads) {
             let _ = write!(text, " {value:>wide$}", wide = wide(head));
         }
         text.push('\n');
@@ -53,7 +53,7 @@ pub fn json_head(store: &Store<'_>, names: &[String]) -> String {
     let regions = names.iter().zip(&store.regions);
     let json = object([
         ("kind", "store".into()),
-        ("bytes", store.bytes().into()),
+        ("bytes", store.bytes().len().into()),
         ("axes", store.axes.into()),
         (
             "regions",
@@ -70,13 +70,13 @@ pub fn json_subtable(names: &[String], subtable: Option<&Subtable<'_>>) -> Json 
     let Some(subtable) = subtable else {
         return Json::Null;
     };
-    let column = |&(region, bytes): &(usize, usize)| {
-        let name = names[region].as_str().into();
-        object([("region", name), ("bytes", bytes.into())])
+    let column = |column: &Column| {
+        let name = names[column.region].as_str().into();
+        object([("region", name), ("bytes", column.bytes.into())])
     };
-    let row = |inner| list(subtable.row(inner), Json::from);
+    let row = |row: Row<'_>| list(row.values(), |(_, value)| value.into());
     object([
         ("columns", list(&subtable.columns, column)),
-        ("rows", list(0..subtable.items, row)),
+        ("rows", list(subtable.rows(), row)),
     ])
 }

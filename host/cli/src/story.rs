@@ -7,9 +7,8 @@ use crate::job::Job;
 use crate::json::{list, object, Json};
 use crate::names;
 use crate::show_job::{count, set_json};
-use crate::store::{Store, Subtable};
 use crate::text;
-use ivs::{Packed, Refused};
+use ivs::{Packed, Refused, Store, Subtable};
 use std::collections::HashMap;
 
 const NO_SET: u32 = 64;
@@ -44,7 +43,7 @@ impl Columns {
                 row_bytes: 0,
             };
         };
-        let column = |&(region, bytes): &(usize, usize)| (kept[region], bytes);
+        let column = |column: &ivs::Column| (kept[column.region], column.bytes);
         Columns {
             columns: subtable.columns.iter().map(column).collect(),
             rows: subtable.items,
@@ -95,9 +94,10 @@ impl<'a> Story<'a> {
         let packed = ivs::pack(input.axes, mode, &input.job).map_err(refused)?;
         let store = Store::decode(&packed.store).map_err(refused)?;
         let kept = kept(&job, &store);
-        let subtable = |outer| Ok(Columns::of(store.subtable(outer).map_err(refused)?, &kept));
-        let subtables = (0..store.subtables())
-            .map(subtable)
+        let columns = |subtable| Columns::of(subtable, &kept);
+        let subtables = store
+            .subtables()
+            .map(|subtable| subtable.map(columns).map_err(refused))
             .collect::<Result<_, _>>()?;
         let mut sets_of = vec![Vec::new(); packed.map.len()];
         for (set, &id) in packed.ids.iter().enumerate() {

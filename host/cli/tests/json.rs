@@ -22,7 +22,11 @@ fn what_each_command_says() {
     let numbers = "{\"bytes\": 42, \"subtables\": 1, \"regions\": 2, \"ids\": 2, \"shapes\": 2, \
                    \"merges\": 1, \"pairs\": 1, \"size_before\": 26, \"size_after\": 18, \
                    \"forecast\": 42}";
-    assert_eq!(said("build text -o store"), format!("{numbers}\n"));
+    let counts = numbers.trim_end_matches('}');
+    assert_eq!(
+        said("build text -o store"),
+        format!("{counts}, \"origins\": [[0, 0], [1, 0]]}}\n")
+    );
     let forecast = said("forecast text");
     assert!(forecast.starts_with(&format!("{{\"dedup\": {numbers}, \"implicit\": {{")));
     assert!(forecast.ends_with(", \"smaller\": null}\n"), "{forecast}");

@@ -1,11 +1,17 @@
 //! Building a store: in lent memory, and in memory of its own.
 
 use crate::forecast::forecast_with;
+use crate::kept;
 use crate::raw;
 use crate::refusals::{Refused, RECORD};
 
 /// A record for a pair of groups that waits to be merged: room that is lent, with nothing
 /// in it for who lends it.
+///
+/// ```
+/// let pairs = vec![ivs::Pair::default(); ivs::PAIRS];
+/// assert_eq!(std::mem::size_of_val(&pairs[..]), 12 << 20);
+/// ```
 #[repr(C)]
 #[derive(Clone, Copy, Debug, Default, PartialEq, Eq)]
 pub struct Pair {
@@ -18,6 +24,12 @@ pub struct Pair {
 }
 
 /// For which reader a store is built. What the panel's takes is built as for any other.
+///
+/// ```
+/// let job = ivs::JobWriter::new(1).job();
+/// assert_eq!(job.pack_for(ivs::Profile::Panel, ivs::Mode::Deduplicating)?.store.len(), 12);
+/// # Ok::<(), ivs::Refused>(())
+/// ```
 #[derive(Clone, Copy, Debug, Default, PartialEq, Eq)]
 pub enum Profile {
     /// Any reader of OpenType.
@@ -31,7 +43,7 @@ pub enum Profile {
 /// The pair records that a build needs, whatever its job is: 12 MiB.
 pub const PAIRS: usize = 1_048_576;
 
-/// Memory lent to a build.
+/// Memory lent to a build; [`build_into`] has the example.
 pub struct Lent<'a> {
     /// As many words as [`work_words`] says; all zeros after a call that was not refused
     /// by 1 to 4.
@@ -53,6 +65,12 @@ pub struct Lent<'a> {
 /// The numbers of a done build, or of a forecast. What a build has written: `store_bytes` of
 /// out, a word of ids for each set, `distinct_ids` words of map, 3 x `merges` words of log,
 /// 2 x `shapes` words of origins.
+///
+/// ```
+/// let done = ivs::pack(1, 1, &[])?.done;              // no sets in mode 1: one subtable, null
+/// assert_eq!((done.store_bytes, done.subtables, done.distinct_ids), (16, 1, 0));
+/// # Ok::<(), ivs::Refused>(())
+/// ```
 #[derive(Clone, Copy, Debug, Default, PartialEq, Eq)]
 pub struct Done {
     /// Bytes of the store.
@@ -119,6 +137,9 @@ pub struct Packed {
     /// For each starting shape, in order: its number, and the place of its final group in the
     /// final order, from 0, before cutting. None in mode 1.
     pub origins: Vec<u32>,
+    /// For each region of the job its number in the store's list, or none where no row has a
+    /// column for it: [`Packed::region`].
+    pub regions: Vec<Option<u32>>,
 }
 
 /// The words of work that a job of so many records needs; 0 above the record limit.
@@ -329,6 +350,7 @@ pub fn pack_for(profile: Profile, axes: u32, mode: u32, job: &[u8]) -> Result<Pa
     log.truncate(3 * done.merges as usize);
     Ok(Packed {
         done,
+        regions: kept::regions(axes, job, &out),
         store: out,
         ids,
         map,

@@ -6,7 +6,9 @@
 //! told by a word and not sent.
 
 use crate::{Lent, Pair, Profile};
+use std::env;
 use std::io::{BufReader, BufWriter, Read, Write};
+use std::path::PathBuf;
 use std::process::{Child, ChildStdin, ChildStdout, Command, Stdio};
 use std::sync::{Mutex, OnceLock};
 
@@ -129,14 +131,37 @@ fn ask(what: [u64; 4], job: &[u8], lent: &mut Lent<'_>, report: &mut [u64; 16]) 
         .expect("the library's program under the emulator answers")
 }
 
+/// Where a program is: named by a variable, or beside the running program, or where it was
+/// when this was built.
+fn found(variable: &str, name: &str, built: Option<&str>) -> PathBuf {
+    let beside = || Some(env::current_exe().ok()?.with_file_name(name));
+    let built = || built.map(PathBuf::from);
+    let named = env::var_os(variable).map(PathBuf::from);
+    named
+        .or_else(|| beside().filter(|path| path.is_file()))
+        .or_else(|| built().filter(|path| path.is_file()))
+        .unwrap_or_else(|| {
+            panic!("the library runs by the program {name}: put it beside this one, or name it by {variable}")
+        })
+}
+
 impl Server {
     fn start() -> Server {
-        let mut child = Command::new(env!("IVS_EMULATOR"))
-            .arg(env!("IVS_SERVER"))
+        let server = found("IVS_SERVER", "ivs-served", option_env!("IVS_SERVER"));
+        // For x86-64 itself, where tests/served.rs asks, it needs no emulator.
+        let mut command = if cfg!(target_arch = "x86_64") {
+            Command::new(server)
+        } else {
+            let built = option_env!("IVS_EMULATOR");
+            let mut command = Command::new(found("IVS_EMULATOR", "qemu-x86_64", built));
+            command.arg(server);
+            command
+        };
+        let mut child = command
             .stdin(Stdio::piped())
             .stdout(Stdio::piped())
             .spawn()
-            .expect("the emulator of Rattle's kit can be run");
+            .unwrap_or_else(|error| panic!("cannot run {command:?}: {error}"));
         let pipes = child.stdin.take().zip(child.stdout.take());
         let (to, from) = pipes.expect("both were asked for");
         Server {

@@ -6,6 +6,12 @@ use crate::refusals::{Refused, RECORD};
 
 /// How the first of two sets stands to the second, in the order of rows: by their values,
 /// region after region.
+///
+/// ```
+/// let ends = [[3, 0, 0, 0, 0, 0, 0, 0, 0, 0, 0, 0]; 2].concat(); // two sets, both empty
+/// assert_eq!(ivs::part(1, &ends, 0, 1)?, ivs::Parted::Equal);
+/// # Ok::<(), ivs::Refused>(())
+/// ```
 #[derive(Clone, Copy, Debug, PartialEq, Eq)]
 pub enum Parted {
     /// They have the same values, so mode 0 gives them one row.
@@ -18,6 +24,16 @@ pub enum Parted {
 
 /// Where two sets part: at the first region that they give different values, zero where a
 /// set gives it none.
+///
+/// ```
+/// let mut job = ivs::JobWriter::new(1);
+/// let bold = job.region(&[(0, 0x4000, 0x4000)])?;
+/// job.set(&[(bold, 10)])?;
+/// job.set(&[])?;
+/// let ivs::Parted::Larger(at) = job.job().part(0, 1)? else { panic!() };
+/// assert_eq!((at.region, at.first, at.second), (bold.into(), 10, 0));
+/// # Ok::<(), ivs::Error>(())
+/// ```
 #[derive(Clone, Copy, Debug, PartialEq, Eq)]
 pub struct Parting {
     /// The region's index: regions are indexed in the order in which values first name them.

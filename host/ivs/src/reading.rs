@@ -4,6 +4,19 @@ use crate::raw;
 use crate::refusals::Refused;
 
 /// What reading one value answers when it is not refused.
+///
+/// ```
+/// let mut job = ivs::JobWriter::new(1);
+/// let bold = job.region(&[(0, 0x4000, 0x4000)])?;
+/// job.set(&[(bold, 10)])?;
+/// let store = job.job().pack(ivs::Mode::Deduplicating)?.store;
+/// let value = match ivs::read(&store, 0, 0, 0)? {
+///     ivs::Reading::Written(value) => value,
+///     ivs::Reading::NoColumn => 0,
+/// };
+/// assert_eq!(value, 10);
+/// # Ok::<(), ivs::Error>(())
+/// ```
 #[derive(Clone, Copy, Debug, PartialEq, Eq)]
 pub enum Reading {
     /// The row has a column for the region, with this value.

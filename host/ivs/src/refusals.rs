@@ -67,6 +67,12 @@ pub struct Refused {
 }
 
 /// What WORK_SHORT is about, and how much of it is needed.
+///
+/// ```
+/// let end = [3, 0, 0, 0, 0, 0, 0, 0, 0, 0, 0, 0];     // one set, which is empty
+/// let refused = ivs::forecast_with(1, 0, &end, &mut [], &mut []).unwrap_err();
+/// assert_eq!(refused.short, Some(ivs::Short::Work(17)));
+/// ```
 #[derive(Clone, Copy, Debug, PartialEq, Eq)]
 pub enum Short {
     /// Words of work.

@@ -1,6 +1,6 @@
 /* The library's calls, answered over a pipe: for machines other than x86-64, where the
  * library cannot be linked and this program runs under the emulator of Rattle's kit
- * (src/emulated.rs asks). It has no C library: three system calls and memset.
+ * (src/emulated.rs asks). It has no C library: three system calls, memset and memcpy.
  *
  * A question is 13 words of 64 bits (what is asked, three numbers, the lengths of job,
  * work, pairs, out, ids, map, log and origins, and whether the pairs hold anything), then what is
@@ -54,6 +54,13 @@ void *memset(void *at, int byte, u64 count) {
     for (; count >= 8; count -= 8, p += 8) *(u64 *)p = word;
     for (; count > 0; count--) *p++ = (u8)byte;
     return at;
+}
+
+void *memcpy(void *to, const void *from, u64 count) {
+    u8 *p = to;
+    const u8 *q = from;
+    for (; count > 0; count--) *p++ = *q++;
+    return to;
 }
 
 static void take(u8 *at, u64 count) {

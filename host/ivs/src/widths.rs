@@ -61,11 +61,28 @@ pub fn write_widths_into(store: &[u8], words: &[u32], out: &mut [u8]) -> Result<
 
 /// The value that a glyph's width has for a region (by its number in the store's list),
 /// whatever the bytes of the table are.
+///
+/// ```
+/// let mut job = ivs::JobWriter::new(1);
+/// let bold = job.region(&[(0, 0x4000, 0x4000)])?;
+/// job.set(&[(bold, 10)])?;
+/// let rows = job.job().pack(ivs::Mode::Implicit)?;
+/// let table = ivs::write_widths(&rows.store, &[])?;
+/// assert_eq!(ivs::read_width(&table, 0, 0)?, ivs::Reading::Written(10));
+/// assert_eq!(ivs::read_width(&table[..19], 0, 0).unwrap_err().name(), "BAD_WIDTHS");
+/// # Ok::<(), ivs::Error>(())
+/// ```
 pub fn read_width(table: &[u8], glyph: u32, region: u32) -> Result<Reading, Refused> {
     reading(raw::read_width(table, glyph, region))
 }
 
 /// The words of a job whose n-th set is glyph n's: of each set the map's word of its id.
+///
+/// ```
+/// let ends = [[3, 0, 0, 0, 0, 0, 0, 0, 0, 0, 0, 0]; 2].concat(); // two sets, one id
+/// assert_eq!(ivs::set_words(&ivs::pack(1, 0, &ends)?), [0, 0]);
+/// # Ok::<(), ivs::Refused>(())
+/// ```
 pub fn set_words(packed: &Packed) -> Vec<u32> {
     let word = |&id: &u32| packed.map[id as usize];
     packed.ids.iter().map(word).collect()

@@ -1,6 +1,7 @@
 //! A job's bytes out of regions and sets, so that nobody lays out records by hand.
 
 use crate::refusals::RECORD;
+use crate::Job;
 use std::error::Error;
 use std::fmt;
 
@@ -41,6 +42,13 @@ struct Region {
 }
 
 /// What a job cannot say; the writer is left as it was.
+///
+/// ```
+/// let mut job = ivs::JobWriter::new(1);
+/// let error = job.set(&[(0, 10)]).unwrap_err();
+/// assert_eq!(error, ivs::JobError::UnknownRegion(0));
+/// assert_eq!(error.to_string(), "region 0 is not in the job; add it before the set");
+/// ```
 #[derive(Clone, Copy, Debug, PartialEq, Eq)]
 pub enum JobError {
     /// The axis count of the job is 0 or above 64.
@@ -151,6 +159,20 @@ impl JobWriter {
         }
         job.extend(self.sets);
         job
+    }
+
+    /// The job with its axis count, which need not be said again.
+    ///
+    /// ```
+    /// let mut writer = ivs::JobWriter::new(2);
+    /// writer.set(&[])?;
+    /// assert_eq!(writer.job().axes(), 2);
+    /// # Ok::<(), ivs::JobError>(())
+    /// ```
+    pub fn job(self) -> Job {
+        // More axes than a number of 32 bits holds are refused as any that are too many.
+        let axes = u32::try_from(self.axes).unwrap_or(u32::MAX);
+        Job::new(axes, self.finish())
     }
 
     fn records(&self) -> usize {
