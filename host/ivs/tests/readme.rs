@@ -23,29 +23,23 @@ fn shown<'a>(lines: impl Iterator<Item = &'a str>) {
     );
 }
 
-/// The first example of the crate's documentation, but for what is hidden there.
-#[test]
-fn from_rust() {
-    let source = file("host/ivs/src/lib.rs");
-    let lines = source.lines().map(|line| line.trim_start_matches("//! "));
-    let example = lines
-        .skip_while(|line| *line != "```")
-        .skip(1)
-        .take_while(|line| *line != "```");
-    shown(example.filter(|line| !line.starts_with("# ")));
+/// The function `main` of an example, from its first line on.
+fn main_of(name: &str, begins: &str) {
+    let source = file(name);
+    let (_, main) = source.split_once(begins).unwrap();
+    shown(format!("{begins}{main}").trim_end().lines());
 }
 
-/// The function `build` of the program that the tests of C compile.
+/// cli/tests/install.rs runs it.
+#[test]
+fn from_rust() {
+    main_of("host/ivs/examples/value.rs", "fn main()");
+}
+
+/// cli/tests/install.rs compiles it against the installed library, and runs it.
 #[test]
 fn from_c() {
-    let source = file("examples/pack.c");
-    let function = source
-        .lines()
-        .skip_while(|line| !line.starts_with("uint32_t build("))
-        .take_while(|line| *line != "/* The whole file, as far as there is room. */");
-    let function: Vec<&str> = function.filter(|line| !line.is_empty()).collect();
-    assert_eq!(function.last(), Some(&"}"));
-    shown(function.into_iter());
+    main_of("examples/value.c", "int main(void)");
 }
 
 /// The header's numbers are the library's, and README's are the header's.
