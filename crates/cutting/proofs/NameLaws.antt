@@ -10,7 +10,6 @@ use lib.Dec.{eqb}
 use lib.ListN.{length, getD, set, length-set}
 use lib.Seq.{getD-set-same, getD-set-other}
 use borrow.Author.Tests.{eq-eqb, ne-eqb, eqb-true}
-use Rattle.laws.specs.Pick.{pick}
 use Rattle.laws.specs.Bounded.{tabulate}
 use Rattle.laws.specs.LentRange.{Only}
 use Rattle.laws.specs.Bytes.{be}
@@ -27,7 +26,7 @@ use Rattle.stores.specs.Stores.{Table, tableAt}
 use Rattle.stores.specs.Dropping.{has, named}
 use Rattle.stores.proofs.Picking.{has-all}
 use Rattle.stores.proofs.WholeLaws.{subtable-named}
-use Rattle.cutting.specs.LentCut.{tableOf, TableFit, StoreFit, CutIs, marked, ColumnsMarked, tablesOf, TablesMarked, NumberedAt}
+use Rattle.cutting.specs.LentCut.{tableOf, TableFit, StoreFit, CutIs, marked, numberOf, ColumnsMarked, tablesOf, TablesMarked, NumberedAt}
 use Rattle.cutting.proofs.CutLaws.{fits, table-kept, fit-kept}
 
 -- ---- what a list has
@@ -189,7 +188,7 @@ pub record NumbersSo (m regions : ℕ) (old new : List ℕ) (k r : ℕ) : Type 0
   pub within : r ≤ regions
   pub only : Only ((m, regions) ∷ []) old new
   pub count : k ≡ rank (marked m old) r
-  pub is : (i : ℕ) → i < r → getD new (m + i) 0 ≡ pick (marked m old i) (rank (marked m old) i + 1) 0
+  pub is : (i : ℕ) → i < r → getD new (m + i) 0 ≡ numberOf m old i
   pub later : (i : ℕ) → r ≤ i → i < regions → getD new (m + i) 0 ≡ getD old (m + i) 0
 
 module _ (m regions : ℕ) (old : List ℕ) where
@@ -218,7 +217,7 @@ module _ (m regions : ℕ) (old : List ℕ) where
               (λ (c : i < r). getD-set-other new (m + r) (m + i) (k + 1) 0 (λ z. omega arith) ∙ h .is i c)
               (λ (c : r ≤ i).
               let z : i ≡ r = omega arith in
-              rw (z, e) (getD-set-same new (m + r) (k + 1) 0 (omega (arith, h .only .long)) ∙ ap (λ (x : ℕ). x + 1) (h .count)))
+              rw (z, e) (omega (arith, getD-set-same new (m + r) (k + 1) 0 (omega (arith, h .only .long)), h .count)))
               (lt-or-ge i r);
           later = λ i p q. getD-set-other new (m + r) (m + i) (k + 1) 0 (λ z. omega arith) ∙ h .later i (omega arith) q;
         }

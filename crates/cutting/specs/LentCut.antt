@@ -84,10 +84,13 @@ pub record TablesMarked (s : List ℕ) (n t : ℕ) (old new : List ℕ) : Type 0
   pub only : Only ((3 * n + 1, regionCount s) ∷ []) old new
   pub is : (r : ℕ) → r < regionCount s → marked (3 * n + 1) new r ≡ named (tablesOf s n old t) r
 
--- one more than a region's number, or 0
+-- one more than a region's new number where it has a mark, else 0
+abbrev pub numberOf : ℕ → List ℕ → ℕ → ℕ
+numberOf m w r = pick (marked m w r) (rank (marked m w) r + 1) 0
+
 pub record NumberedAt (m regions : ℕ) (old new : List ℕ) (k : ℕ) : Type 0 where
   pub only : Only ((m, regions) ∷ []) old new
-  pub is : (r : ℕ) → r < regions → getD new (m + r) 0 ≡ pick (marked m old r) (rank (marked m old) r + 1) 0
+  pub is : (r : ℕ) → r < regions → getD new (m + r) 0 ≡ numberOf m old r
   pub count : k ≡ rank (marked m old) regions
 
 -- ---- what is written

@@ -62,7 +62,7 @@ words-many bytes rows h l = rw (lt-ltb bytes (2 ^ 63) (omega arith), le-ltb rows
 
 pub words-some : (bytes rows : ℕ) → bytes < 9223372036854775808 → rows < 2305843009213693952 → 3 * rows + bytes + 65536 ≡ keepWords bytes rows
 unfolding keepWords
-words-some bytes rows h l = rw (lt-ltb bytes (2 ^ 63) (omega arith), lt-ltb rows (2 ^ 61) (omega arith))
+words-some bytes rows h l = rw (lt-ltb bytes (2 ^ 63) (omega arith), lt-ltb rows (2 ^ 61) (omega arith)) (omega arith)
 
 -- ---- room
 

@@ -5,3 +5,4 @@ pub mod PlacedLaws
 pub mod RegionLaws
 pub mod KeepLaws
 pub mod CallLaws
+pub mod Told

@@ -35,7 +35,7 @@ loop-less : tie.Need-loop-less Inv-loop μ-loop
 loop-less c = omega arith
 
 loop-again : tie.Need-loop-again Inv-loop μ-loop
-loop-again c = half-up (c .before .before .before .before .pre .1) (c .before .before .before .loop .inv) _ (omega arith) (omega arith) (c .if1 .taken)
+loop-again c = half-up (c .before .before .before .before .pre .1) (c .before .before .before .loop .inv) _ (omega arith) (omega arith) (omega (arith, c .if1 .taken))
 
 loop-less-2 : tie.Need-loop-less-2 Inv-loop μ-loop
 loop-less-2 c = omega arith
