@@ -17,10 +17,10 @@ use Rattle.finishing.specs.declared.answers.Report.{Report}
 use Rattle.pairs.specs.declared.Pair.{Pair}
 use Rattle.finishing.specs.Buffers.{Buffers}
 use Rattle.finishing.specs.Late.{storeFor}
-use Rattle.packer.specs.Lending.{Lending}
-use Rattle.packer.specs.Build.{coordsInUse, packedOf, outcomeOf, answerOf, after}
-use Rattle.packer.proofs.Accepted.{Accepted, accepted, map-is, store-front, id-at}
-use Rattle.packer.proofs.PastLaws.{ids-long}
+use Rattle.call.specs.Lending.{Lending}
+use Rattle.call.specs.Build.{coordsInUse, packedOf, outcomeOf, answerOf, after}
+use Rattle.accepted.proofs.Accepted.{Accepted, accepted, map-is, store-front, id-at}
+use Rattle.accepted.proofs.PastLaws.{ids-long}
 use Rattle.recovering.specs.Recovering.{rowNo, recordsOf, saidOf}
 use Rattle.recovering.proofs.Sound.{Takes, job-says, job-sound, there}
 use Rattle.recovering.proofs.Rows.{rows-at, rows-count}
