@@ -1,0 +1,4 @@
+pub mod LayLaws
+pub mod PassLaws
+pub mod RowLaws
+pub mod WordLaws
