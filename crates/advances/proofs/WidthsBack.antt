@@ -30,15 +30,15 @@ use Rattle.widths.specs.Back.{wordFor, said}
 use Rattle.widths.proofs.DoneLaws.{store-inside, done-back}
 use Rattle.finishing.specs.declared.answers.Report.{Report}
 use Rattle.finishing.specs.declared.answers.Built.the-variants as built
-use Rattle.packer.specs.Lending.{Lending}
-use Rattle.packer.specs.Build.{answerOf, after}
-use Rattle.packer.proofs.Accepted.{accepted}
-use Rattle.packer.proofs.WholeBack.{madeIn, made-axes, store-parsed}
+use Rattle.call.specs.Lending.{Lending}
+use Rattle.call.specs.Build.{answerOf, after}
+use Rattle.accepted.proofs.Accepted.{accepted}
+use Rattle.accepted.proofs.WholeBack.{madeIn, made-axes, store-parsed}
 use Rattle.refusing.specs.Counts.{endRecords}
-use Rattle.ivs.specs.SetsRead.{listed, namedBy, InStore, SetRead}
+use Rattle.demands.specs.SetsRead.{listed, namedBy, InStore, SetRead}
 use Rattle.advances.specs.WidthsRead.{storeIn, GlyphRead, storeLeft, setWords, TableRead, WidthsRead}
-use Rattle.ivs.proofs.BytesBack.{bytes-back}
-use Rattle.ivs.proofs.PlainRows.{plain}
+use Rattle.demands.proofs.BytesBack.{bytes-back}
+use Rattle.demands.proofs.PlainRows.{plain}
 
 -- ---- the region list of a store with more behind it
 

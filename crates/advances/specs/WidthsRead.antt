@@ -16,10 +16,10 @@ use Rattle.widths.specs.declared.write.Widths.the-variants.{Done}
 use Rattle.widths.specs.Answers.{widthsOf, widthsLeft}
 use Rattle.widths.specs.Reading.{storeAt, readWidth}
 use Rattle.finishing.specs.declared.answers.Report.{Report}
-use Rattle.packer.specs.Lending.{Lending}
-use Rattle.packer.specs.Build.{after}
+use Rattle.call.specs.Lending.{Lending}
+use Rattle.call.specs.Build.{after}
 use Rattle.refusing.specs.Counts.{endRecords}
-use Rattle.ivs.specs.SetsRead.{listed, namedBy, valueAt, InStore}
+use Rattle.demands.specs.SetsRead.{listed, namedBy, valueAt, InStore}
 
 -- the store of a table: what stands from its offset on
 abbrev pub storeIn : List ℕ → List ℕ

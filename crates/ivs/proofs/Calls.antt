@@ -28,10 +28,9 @@ use denote.Triple.Spec.{tripleOf}
 use denote.Triple.Statement.{Contract, Triple}
 use denote.Triple.Clauses.{Lasts, lasts}
 use Rattle.finishing.specs.Buffers.{buffers}
-use Rattle.packer.specs.Lending.{lending, leaves, noBuffers}
-use Rattle.packer.specs.Build.{Obeys}
-use Rattle.packer.specs.Foretold.{Foretells}
-use Rattle.ivs.specs.Answers.{numberOf, reportWords, filled, numberFew, byteWithin}
+use Rattle.call.specs.Lending.{lending, leaves, noBuffers}
+use Rattle.packer.specs.Promised.{Obeys, Foretells}
+use Rattle.reporting.specs.Answers.{numberOf, reportWords, filled, numberFew, byteWithin}
 use Rattle.pairs.specs.declared.Pair.{Pair}
 use Rattle.pairs.proofs.Pair as T
 use Rattle.finishing.specs.declared.answers.Built.{Built}
@@ -42,10 +41,10 @@ use Rattle.pairs.proofs.Slices.{ref, Has, Sees, lent-mut, lent-see}
 use Rattle.pairs.proofs.Refs.{HasRef, at-ref, lent-ref}
 use Rattle.packer.proofs.build as build
 use Rattle.packer.proofs.forecast as forecast
-use Rattle.ivs.proofs.report.tell as tell
+use Rattle.reporting.proofs.tell as tell
 use Rattle.packer.proofs.build.Symbol.{name as #packer·build}
 use Rattle.packer.proofs.forecast.Symbol.{name as #packer·forecast}
-use Rattle.ivs.proofs.report.tell.Symbol.{name as #ivs·tell}
+use Rattle.reporting.proofs.tell.Symbol.{name as #reporting·tell}
 
 abbrev pub mach : Pair → Val
 mach x = vstruct (vcons (vint w32 (x .gain)) (vcons (vint w32 (x .first)) (vcons (vint w32 (x .second)) vnil)))
@@ -301,7 +300,7 @@ module _ {M : Type 1} (𝓤 : URA M) (H : Heap 𝓤) (A : Atoms 𝓤) (W : Given
         frame ! $
         done !)
 
-  module _ (C : Calls 𝓤 H) (fm : FmC 𝓤 H (W .laws) C) (known : Triple 𝓤 (C #ivs·tell) (Tell-of 𝓤 H A mem run)) (κ : Lft) (θ : Share) (γ : GName) (β ι : ℕ) (ν : ℕ) (report : List ℕ) (κ₂ : Lft) (θ₂ : Share) (γ₂ : GName) (β₂ ι₂ : ℕ) (ν₂ : ℕ) (job : List ℕ) (answer : Built) where
+  module _ (C : Calls 𝓤 H) (fm : FmC 𝓤 H (W .laws) C) (known : Triple 𝓤 (C #reporting·tell) (Tell-of 𝓤 H A mem run)) (κ : Lft) (θ : Share) (γ : GName) (β ι : ℕ) (ν : ℕ) (report : List ℕ) (κ₂ : Lft) (θ₂ : Share) (γ₂ : GName) (β₂ ι₂ : ℕ) (ν₂ : ℕ) (job : List ℕ) (answer : Built) where
     abbrev Loan-tell-mut-see : Loan 𝓤 H A
     Loan-tell-mut-see = both 𝓤 H A W (lent-ref (Array u64 tt 16) κ θ γ β ι 𝓤 H A W report) (lent-see u8 κ₂ θ₂ γ₂ β₂ ι₂ 𝓤 H A W job ν₂)
 
@@ -332,10 +331,10 @@ module _ {M : Type 1} (𝓤 : URA M) (H : Heap 𝓤) (A : Atoms 𝓤) (W : Given
         join ! $
         keep ! (0 ∷ 2 ∷ []) $ by ! (gives 𝓤 H A W (Loan-tell-mut-see) u32 (λ x r. (r ≡ numberOf answer) × ((x .0) ≡ filled 0 (reportWords job answer) report)) g w r ((ws .0, tt)) ((tt, tt), (e₀, e₁)))))))
 
-    pub tell-mut-see : Is D.the-row answer (EL.val D.the-type D′.the-laws answer ∷ []) → ((numberFew answer) × (byteWithin job answer)) → ent 𝓤 (mean 𝓤 H A (Loan-tell-mut-see .held)) (H .⇛ (C #ivs·tell (vptr β ι ∷ sliceVal (β₂, ι₂) ν₂ ∷ EL.val D.the-type D′.the-laws answer ∷ []) (λ w. mean 𝓤 H A (After-tell-mut-see w))))
-    tell-mut-see g-answer l = loan-call 𝓤 H A W (Loan-tell-mut-see) u32 (λ x r. (r ≡ numberOf answer) × ((x .0) ≡ filled 0 (reportWords job answer) report)) C fm #ivs·tell (vptr β ι ∷ sliceVal (β₂, ι₂) ν₂ ∷ EL.val D.the-type D′.the-laws answer ∷ []) (λ g.
+    pub tell-mut-see : Is D.the-row answer (EL.val D.the-type D′.the-laws answer ∷ []) → ((numberFew answer) × (byteWithin job answer)) → ent 𝓤 (mean 𝓤 H A (Loan-tell-mut-see .held)) (H .⇛ (C #reporting·tell (vptr β ι ∷ sliceVal (β₂, ι₂) ν₂ ∷ EL.val D.the-type D′.the-laws answer ∷ []) (λ w. mean 𝓤 H A (After-tell-mut-see w))))
+    tell-mut-see g-answer l = loan-call 𝓤 H A W (Loan-tell-mut-see) u32 (λ x r. (r ≡ numberOf answer) × ((x .0) ≡ filled 0 (reportWords job answer) report)) C fm #reporting·tell (vptr β ι ∷ sliceVal (β₂, ι₂) ν₂ ∷ EL.val D.the-type D′.the-laws answer ∷ []) (λ g.
         qed W (Loan-tell-mut-see .goes g ∷ []) ∵
-        suffices ! (C #ivs·tell (vptr β ι ∷ sliceVal (β₂, ι₂) ν₂ ∷ EL.val D.the-type D′.the-laws answer ∷ []) (Tell-of 𝓤 H A mem run .post (at-tell-mut-see g))) (fm→monoC 𝓤 H (W .laws) C fm #ivs·tell (vptr β ι ∷ sliceVal (β₂, ι₂) ν₂ ∷ EL.val D.the-type D′.the-laws answer ∷ []) (Tell-of 𝓤 H A mem run .post (at-tell-mut-see g)) _ (leaves-tell-mut-see g)) $
+        suffices ! (C #reporting·tell (vptr β ι ∷ sliceVal (β₂, ι₂) ν₂ ∷ EL.val D.the-type D′.the-laws answer ∷ []) (Tell-of 𝓤 H A mem run .post (at-tell-mut-see g))) (fm→monoC 𝓤 H (W .laws) C fm #reporting·tell (vptr β ι ∷ sliceVal (β₂, ι₂) ν₂ ∷ EL.val D.the-type D′.the-laws answer ∷ []) (Tell-of 𝓤 H A mem run .post (at-tell-mut-see g)) _ (leaves-tell-mut-see g)) $
         suffices ! (Tell-of 𝓤 H A mem run .pre (at-tell-mut-see g)) (known (at-tell-mut-see g)) $ split ! $
         split ! $
         move ! (2 ∷ []) $

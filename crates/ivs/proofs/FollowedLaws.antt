@@ -11,15 +11,17 @@ use Rattle.finishing.specs.declared.answers.Built.{Built}
 use Rattle.finishing.specs.declared.answers.Built.the-variants.{Refused, Done}
 use Rattle.finishing.specs.declared.answers.Built.the-variants as built
 use Rattle.finishing.specs.Buffers.{Buffers}
-use Rattle.packer.specs.Lending.{Lending, Left}
-use Rattle.packer.specs.Build.{answerOf}
-use Rattle.packer.specs.Foretold.{foretold}
-use Rattle.ivs.specs.Answers.{numberOf, doneWords, reportWords}
+use Rattle.call.specs.Lending.{Lending, Left}
+use Rattle.call.specs.Build.{answerOf}
+use Rattle.call.specs.Foretold.{foretold}
+use Rattle.reporting.specs.Answers.{numberOf, doneWords, reportWords}
 use Rattle.ivs.specs.Answered.{Answered, Forecasted}
-use Rattle.ivs.specs.Foretold.{building, AsMuch, RoomFor, Followed}
-use Rattle.ivs.proofs.OutcomeRows.{numbers}
-use Rattle.ivs.proofs.ReportLaws.{sixteen, reported}
-use Rattle.ivs.proofs.ForetoldLaws.{foretold-law}
+use Rattle.demands.specs.Foretold.{building, AsMuch, RoomFor}
+use Rattle.ivs.specs.Followed.{Followed}
+use Rattle.demands.proofs.OutcomeRows.{numbers}
+use Rattle.reporting.proofs.ReportLaws.{sixteen}
+use Rattle.ivs.proofs.ReportedLaws.{reported}
+use Rattle.demands.proofs.ForetoldLaws.{foretold-law}
 
 room-of : (job : List ℕ) (r : Report) (words : List ℕ) (lent : Buffers) → words ≡ doneWords r → RoomFor job (getD words 5 0) (getD words 6 0) (getD words 2 0) lent
     → RoomFor job (r .ids) (r .groups) (r .bytes) lent

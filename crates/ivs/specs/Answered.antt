@@ -4,10 +4,9 @@ use mathlib.Core.List.{List}
 use Prim.Native.Nat.{ℕ}
 use Rattle.pairs.specs.declared.Pair.{Pair}
 use Rattle.finishing.specs.declared.answers.Built.{Built}
-use Rattle.packer.specs.Lending.{Lending, Left}
-use Rattle.packer.specs.Build.{Obeys}
-use Rattle.packer.specs.Foretold.{Foretells}
-use Rattle.ivs.specs.Answers.{numberOf, reportWords, filled}
+use Rattle.call.specs.Lending.{Lending, Left}
+use Rattle.packer.specs.Promised.{Obeys, Foretells}
+use Rattle.reporting.specs.Answers.{numberOf, reportWords, filled}
 
 -- the number that is returned, all that is left, and the report before and after
 pub record Answered (c : Lending) (number : ℕ) (l : Left) (report report′ : List ℕ) : Type 0 where

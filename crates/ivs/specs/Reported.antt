@@ -2,9 +2,9 @@
 use mathlib.Core.Path.{_≡_}
 use mathlib.Core.List.{List}
 use Prim.Native.Nat.{ℕ}
-use Rattle.packer.specs.Lending.{Lending, Left}
-use Rattle.packer.specs.Build.{answerOf, after}
-use Rattle.ivs.specs.Answers.{numberOf, reportWords}
+use Rattle.call.specs.Lending.{Lending, Left}
+use Rattle.call.specs.Build.{answerOf, after}
+use Rattle.reporting.specs.Answers.{numberOf, reportWords}
 
 pub record Reported (c : Lending) (number : ℕ) (l : Left) (report : List ℕ) : Type 0 where
   pub number-is : number ≡ numberOf (answerOf c)

@@ -1,7 +1,7 @@
 // The entry point of the forecast: what a build would answer, with nothing lent to write to. A host asks, lends exactly, and builds.
-use crate::report::tell;
 use pairs::Pair;
-ghost use Rattle.packer.specs.Lending.{lending, noBuffers};
+use reporting::tell;
+ghost use Rattle.call.specs.Lending.{lending, noBuffers};
 ghost use Rattle.ivs.specs.Answered.{Forecasted};
 
 // The refusal number, 0 for a job that a build takes; the report has all numbers of a done build.

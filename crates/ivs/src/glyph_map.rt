@@ -5,7 +5,7 @@ ghost use mathlib.Core.Path.{_≡_};
 ghost use lib.ListN.{length};
 ghost use Rattle.glyphs.specs.Answers.{glyphsOf, glyphsLeft};
 ghost use Rattle.glyphs.specs.Reading.{readMap};
-ghost use Rattle.ivs.specs.GlyphWords.{glyphsWord, entryWord};
+ghost use Rattle.numbers.specs.GlyphWords.{glyphsWord, entryWord};
 
 // Writes the map of a word for each glyph. High half: 0 written, else the refusal number; low half: the bytes.
 #[no_mangle]

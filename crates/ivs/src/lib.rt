@@ -2,25 +2,22 @@
 mod foretelling;
 mod glyph_map;
 mod part;
-mod report;
 mod width_table;
 
 pub use crate::foretelling::ivs_forecast;
 pub use crate::glyph_map::ivs_read_glyph;
 pub use crate::glyph_map::ivs_write_glyphs;
 pub use crate::part::ivs_part;
-use crate::report::tell;
 pub use crate::width_table::ivs_read_width;
 pub use crate::width_table::ivs_write_widths;
 use pairs::Pair;
-use reader::Reading;
+use reporting::tell;
 ghost use mathlib.Core.Path.{_≡_};
-ghost use Rattle.laws.specs.Signed.{twos};
 ghost use Rattle.said.specs.Refusals.{workWords};
 ghost use Rattle.reader.specs.Store.{readStore};
 ghost use Rattle.finishing.specs.Buffers.{buffers};
-ghost use Rattle.packer.specs.Lending.{lending, leaves};
-ghost use Rattle.ivs.specs.Answers.{readWord};
+ghost use Rattle.call.specs.Lending.{lending, leaves};
+ghost use Rattle.numbers.specs.ReadWords.{readWord};
 ghost use Rattle.ivs.specs.Answered.{Answered};
 
 // The words of work that a job of so many records needs; 0 above the record limit.
@@ -31,33 +28,12 @@ pub extern "C" fn ivs_work_words(records: usize) -> usize
     job::work_words(records)
 }
 
-// The 32 bits of a value, as a number.
-fn bits(v: i32) -> u64
-    ensures { λ r. ⌜ r ≡ twos 4 v ⌝ }
-{
-    if v < 0 {
-        return 4294967295 - ((-1 - v) as u64);
-    }
-    v as u64
-}
-
-// A reading as a number. High half: 0 written, 1 no column, else the refusal number; low half: the value's 32 bits.
-fn as_word(reading: Reading) -> u64
-    ensures { λ r. ⌜ r ≡ readWord reading ⌝ }
-{
-    match reading {
-        Reading::Written(v) => bits(v),
-        Reading::NoColumn => 4294967296,
-        Reading::Refused(n) => (n as u64) * 4294967296,
-    }
-}
-
 // The value of a region in a row of a store, as a number.
 #[no_mangle]
 pub extern "C" fn ivs_read(store: &[u8], outer: u32, inner: u32, region: u32) -> u64
     ensures { λ r. ⌜ r ≡ readWord (readStore (now (store .entry)) outer inner region) ⌝ }
 {
-    as_word(reader::read(store, outer, inner, region))
+    numbers::as_word(reader::read(store, outer, inner, region))
 }
 
 // One build: the refusal number, 0 for done; the report has all numbers of the answer.

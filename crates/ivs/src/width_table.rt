@@ -1,12 +1,11 @@
 // The entry points of the width table (HVAR): written whole, and read one glyph and region at a time.
-use crate::as_word;
 use widths::Widths;
 ghost use mathlib.Core.Path.{_≡_};
 ghost use lib.ListN.{length};
 ghost use Rattle.widths.specs.Answers.{widthsOf, widthsLeft};
 ghost use Rattle.widths.specs.Reading.{readWidth};
-ghost use Rattle.ivs.specs.Answers.{readWord};
-ghost use Rattle.ivs.specs.WidthWords.{widthsWord};
+ghost use Rattle.numbers.specs.ReadWords.{readWord};
+ghost use Rattle.numbers.specs.WidthWords.{widthsWord};
 
 // Writes the table of a store and a word for each glyph, of no words without a map. High half: 0 written, else the refusal number; low half:
 // the bytes.
@@ -26,5 +25,5 @@ pub extern "C" fn ivs_write_widths(store: &[u8], words: &[u32], out: &mut [u8]) 
 pub extern "C" fn ivs_read_width(table: &[u8], glyph: u32, region: u32) -> u64
     ensures { λ r. ⌜ r ≡ readWord (readWidth (now (table .entry)) glyph region) ⌝ }
 {
-    as_word(widths::read_width(table, glyph, region))
+    numbers::as_word(widths::read_width(table, glyph, region))
 }

@@ -27,7 +27,9 @@ use denote.Struct.Laws as LL
 use denote.Triple.Spec.{tripleOf}
 use denote.Triple.Statement.{Contract, Triple}
 use denote.Triple.Clauses.{Lasts, lasts}
-use Rattle.packer.specs.LentOpened.{OpenedAt, Joined, CloseFit, Closed, ForeseeFit, Foreseen, PairsUsed}
+use Rattle.opening.specs.LentOpened.{OpenedAt}
+use Rattle.arranging.specs.LentArranged.{Joined, PairsUsed}
+use Rattle.closing.specs.LentClosed.{CloseFit, Closed, ForeseeFit, Foreseen}
 use Rattle.finishing.specs.Buffers.{buffers}
 use Rattle.encoder.specs.LentArranged.{tablesOf as layoutOf}
 use Rattle.merging.specs.LentOptimized.{Ready, Optimized}
@@ -44,26 +46,26 @@ use Rattle.merging.proofs.optimizing.Merged.Laws as D′
 use Rattle.encoder.specs.declared.places.Places.{Places}
 use Rattle.encoder.proofs.places.Places as P
 use Rattle.encoder.proofs.places.Places.Laws as P′
-use Rattle.packer.specs.declared.opening.Stage.{Stage}
-use Rattle.packer.proofs.opening.Stage as S
-use Rattle.packer.proofs.opening.Stage.Laws as S′
+use Rattle.opening.specs.declared.opening.Stage.{Stage}
+use Rattle.opening.proofs.opening.Stage as S
+use Rattle.opening.proofs.opening.Stage.Laws as S′
 use Rattle.finishing.specs.declared.answers.Built.{Built}
 use Rattle.finishing.proofs.answers.Built as B
 use Rattle.pairs.proofs.Loan.{Loan, both, Gives, gives, loan-call}
 use Rattle.pairs.proofs.Slices.{ref, Has, Sees, lent-mut, lent-see}
-use Rattle.packer.proofs.opening.open as opens
+use Rattle.opening.proofs.open as opens
 use Rattle.encoder.proofs.tables as lays
 use Rattle.merging.proofs.optimize as optimize
-use Rattle.packer.proofs.closing.close as close
-use Rattle.packer.proofs.foretelling.foresee as foresee
-use Rattle.packer.proofs.closing.pairs_used as pairs-used
+use Rattle.closing.proofs.close as close
+use Rattle.closing.proofs.foresee as foresee
+use Rattle.arranging.proofs.pairs_used as pairs-used
 use Rattle.pairs.proofs.clear_pairs as clear-pairs
-use Rattle.packer.proofs.opening.open.Symbol.{name as #packer·opens}
+use Rattle.opening.proofs.open.Symbol.{name as #opening·opens}
 use Rattle.encoder.proofs.tables.Symbol.{name as #encoder·lays}
 use Rattle.merging.proofs.optimize.Symbol.{name as #merging·optimize}
-use Rattle.packer.proofs.closing.close.Symbol.{name as #packer·close}
-use Rattle.packer.proofs.foretelling.foresee.Symbol.{name as #packer·foresee}
-use Rattle.packer.proofs.closing.pairs_used.Symbol.{name as #packer·pairs-used}
+use Rattle.closing.proofs.close.Symbol.{name as #closing·close}
+use Rattle.closing.proofs.foresee.Symbol.{name as #closing·foresee}
+use Rattle.arranging.proofs.pairs_used.Symbol.{name as #arranging·pairs-used}
 use Rattle.pairs.proofs.clear_pairs.Symbol.{name as #pairs·clear-pairs}
 
 abbrev pub mach : Pair → Val
@@ -104,7 +106,7 @@ module _ {M : Type 1} (𝓤 : URA M) (H : Heap 𝓤) (A : Atoms 𝓤) (mem : Mem
   ClearPairs-of = tripleOf 𝓤 H A clear-pairs.signature (clear-pairs.spec 𝓤 H A mem run)
 
 module _ {M : Type 1} (𝓤 : URA M) (H : Heap 𝓤) (A : Atoms 𝓤) (W : Given 𝓤 H A) (mem : Memory → SProp 𝓤) (run : Routine → Fun 𝓤) where
-  module _ (C : Calls 𝓤 H) (fm : FmC 𝓤 H (W .laws) C) (known : Triple 𝓤 (C #packer·opens) (Open-of 𝓤 H A mem run)) (κ : Lft) (θ : Share) (γ : GName) (β ι : ℕ) (ν : ℕ) (job : List ℕ) (κ₂ : Lft) (θ₂ : Share) (γ₂ : GName) (β₂ ι₂ : ℕ) (ν₂ : ℕ) (work : List ℕ) (axes : ℕ) (mode : ℕ) (count : ℕ) where
+  module _ (C : Calls 𝓤 H) (fm : FmC 𝓤 H (W .laws) C) (known : Triple 𝓤 (C #opening·opens) (Open-of 𝓤 H A mem run)) (κ : Lft) (θ : Share) (γ : GName) (β ι : ℕ) (ν : ℕ) (job : List ℕ) (κ₂ : Lft) (θ₂ : Share) (γ₂ : GName) (β₂ ι₂ : ℕ) (ν₂ : ℕ) (work : List ℕ) (axes : ℕ) (mode : ℕ) (count : ℕ) where
     abbrev Loan-opens-see-mut : (long₂ : length work ≡ ν₂) (sized₂ : Room u32 ν₂) → Loan 𝓤 H A
     Loan-opens-see-mut long₂ sized₂ = both 𝓤 H A W (lent-see u8 κ θ γ β ι 𝓤 H A W job ν) (lent-mut u32 κ₂ θ₂ γ₂ β₂ ι₂ 𝓤 H A W work ν₂ long₂ sized₂)
 
@@ -143,10 +145,10 @@ module _ {M : Type 1} (𝓤 : URA M) (H : Heap 𝓤) (A : Atoms 𝓤) (W : Given
         join ! $
         keep ! (0 ∷ 2 ∷ []) $ by ! (gives 𝓤 H A W (Loan-opens-see-mut long₂ sized₂) S.the-row (λ x r. OpenedAt axes mode job work count (x .1) r) g w r ((tt, ws .1 .1 .1 .0)) ((tt, l₁ ∙ long₂), e))))))
 
-    pub opens-see-mut : (long₂ : length work ≡ ν₂) (sized₂ : Room u32 ν₂) → axes < 2 ^ 32 → mode < 2 ^ 32 → count < 2 ^ 64 → ent 𝓤 (mean 𝓤 H A (Loan-opens-see-mut long₂ sized₂ .held)) (H .⇛ (C #packer·opens (vint w32 axes ∷ vint w32 mode ∷ sliceVal (β, ι) ν ∷ sliceVal (β₂, ι₂) ν₂ ∷ vint w64 count ∷ []) (λ w. mean 𝓤 H A (After-opens-see-mut w))))
-    opens-see-mut long₂ sized₂ g-axes g-mode g-count = loan-call 𝓤 H A W (Loan-opens-see-mut long₂ sized₂) S.the-row (λ x r. OpenedAt axes mode job work count (x .1) r) C fm #packer·opens (vint w32 axes ∷ vint w32 mode ∷ sliceVal (β, ι) ν ∷ sliceVal (β₂, ι₂) ν₂ ∷ vint w64 count ∷ []) (λ g.
+    pub opens-see-mut : (long₂ : length work ≡ ν₂) (sized₂ : Room u32 ν₂) → axes < 2 ^ 32 → mode < 2 ^ 32 → count < 2 ^ 64 → ent 𝓤 (mean 𝓤 H A (Loan-opens-see-mut long₂ sized₂ .held)) (H .⇛ (C #opening·opens (vint w32 axes ∷ vint w32 mode ∷ sliceVal (β, ι) ν ∷ sliceVal (β₂, ι₂) ν₂ ∷ vint w64 count ∷ []) (λ w. mean 𝓤 H A (After-opens-see-mut w))))
+    opens-see-mut long₂ sized₂ g-axes g-mode g-count = loan-call 𝓤 H A W (Loan-opens-see-mut long₂ sized₂) S.the-row (λ x r. OpenedAt axes mode job work count (x .1) r) C fm #opening·opens (vint w32 axes ∷ vint w32 mode ∷ sliceVal (β, ι) ν ∷ sliceVal (β₂, ι₂) ν₂ ∷ vint w64 count ∷ []) (λ g.
         qed W (Loan-opens-see-mut long₂ sized₂ .goes g ∷ []) ∵
-        suffices ! (C #packer·opens (vint w32 axes ∷ vint w32 mode ∷ sliceVal (β, ι) ν ∷ sliceVal (β₂, ι₂) ν₂ ∷ vint w64 count ∷ []) (Open-of 𝓤 H A mem run .post (at-opens-see-mut g))) (fm→monoC 𝓤 H (W .laws) C fm #packer·opens (vint w32 axes ∷ vint w32 mode ∷ sliceVal (β, ι) ν ∷ sliceVal (β₂, ι₂) ν₂ ∷ vint w64 count ∷ []) (Open-of 𝓤 H A mem run .post (at-opens-see-mut g)) _ (leaves-opens-see-mut long₂ sized₂ g)) $
+        suffices ! (C #opening·opens (vint w32 axes ∷ vint w32 mode ∷ sliceVal (β, ι) ν ∷ sliceVal (β₂, ι₂) ν₂ ∷ vint w64 count ∷ []) (Open-of 𝓤 H A mem run .post (at-opens-see-mut g))) (fm→monoC 𝓤 H (W .laws) C fm #opening·opens (vint w32 axes ∷ vint w32 mode ∷ sliceVal (β, ι) ν ∷ sliceVal (β₂, ι₂) ν₂ ∷ vint w64 count ∷ []) (Open-of 𝓤 H A mem run .post (at-opens-see-mut g)) _ (leaves-opens-see-mut long₂ sized₂ g)) $
         suffices ! (Open-of 𝓤 H A mem run .pre (at-opens-see-mut g)) (known (at-opens-see-mut g)) $ split ! $
         split ! $
         move ! (2 ∷ []) $
@@ -273,7 +275,7 @@ module _ {M : Type 1} (𝓤 : URA M) (H : Heap 𝓤) (A : Atoms 𝓤) (W : Given
         frame ! $
         use0 W (raw (fact 𝓤 (room (tb .groups) ≤ length pairs))) (factI 𝓤 (room (tb .groups) ≤ length pairs) (emp 𝓤) (l .1)) $ use0 W (raw (fact 𝓤 (Ready tb work))) (factI 𝓤 (Ready tb work) (emp 𝓤) (l .0)) $ done !)
 
-  module _ (C : Calls 𝓤 H) (fm : FmC 𝓤 H (W .laws) C) (known : Triple 𝓤 (C #packer·close) (Close-of 𝓤 H A mem run)) (κ : Lft) (θ : Share) (γ : GName) (β ι : ℕ) (ν : ℕ) (job : List ℕ) (κ₂ : Lft) (θ₂ : Share) (γ₂ : GName) (β₂ ι₂ : ℕ) (ν₂ : ℕ) (work : List ℕ) (κ₃ : Lft) (θ₃ : Share) (γ₃ : GName) (β₃ ι₃ : ℕ) (ν₃ : ℕ) (out : List ℕ) (κ₄ : Lft) (θ₄ : Share) (γ₄ : GName) (β₄ ι₄ : ℕ) (ν₄ : ℕ) (ids : List ℕ) (κ₅ : Lft) (θ₅ : Share) (γ₅ : GName) (β₅ ι₅ : ℕ) (ν₅ : ℕ) (map : List ℕ) (κ₆ : Lft) (θ₆ : Share) (γ₆ : GName) (β₆ ι₆ : ℕ) (ν₆ : ℕ) (log : List ℕ) (stage : Stage) (merged : Merged) where
+  module _ (C : Calls 𝓤 H) (fm : FmC 𝓤 H (W .laws) C) (known : Triple 𝓤 (C #closing·close) (Close-of 𝓤 H A mem run)) (κ : Lft) (θ : Share) (γ : GName) (β ι : ℕ) (ν : ℕ) (job : List ℕ) (κ₂ : Lft) (θ₂ : Share) (γ₂ : GName) (β₂ ι₂ : ℕ) (ν₂ : ℕ) (work : List ℕ) (κ₃ : Lft) (θ₃ : Share) (γ₃ : GName) (β₃ ι₃ : ℕ) (ν₃ : ℕ) (out : List ℕ) (κ₄ : Lft) (θ₄ : Share) (γ₄ : GName) (β₄ ι₄ : ℕ) (ν₄ : ℕ) (ids : List ℕ) (κ₅ : Lft) (θ₅ : Share) (γ₅ : GName) (β₅ ι₅ : ℕ) (ν₅ : ℕ) (map : List ℕ) (κ₆ : Lft) (θ₆ : Share) (γ₆ : GName) (β₆ ι₆ : ℕ) (ν₆ : ℕ) (log : List ℕ) (stage : Stage) (merged : Merged) where
     abbrev Loan-close-see-mut-mut-mut-mut-mut : (long₂ : length work ≡ ν₂) (long₃ : length out ≡ ν₃) (long₄ : length ids ≡ ν₄) (long₅ : length map ≡ ν₅) (long₆ : length log ≡ ν₆) (sized₂ : Room u32 ν₂) (sized₃ : Room u8 ν₃) (sized₄ : Room u32 ν₄) (sized₅ : Room u32 ν₅) (sized₆ : Room u32 ν₆) → Loan 𝓤 H A
     Loan-close-see-mut-mut-mut-mut-mut long₂ long₃ long₄ long₅ long₆ sized₂ sized₃ sized₄ sized₅ sized₆ = both 𝓤 H A W (lent-see u8 κ θ γ β ι 𝓤 H A W job ν) (both 𝓤 H A W (lent-mut u32 κ₂ θ₂ γ₂ β₂ ι₂ 𝓤 H A W work ν₂ long₂ sized₂) (both 𝓤 H A W (lent-mut u8 κ₃ θ₃ γ₃ β₃ ι₃ 𝓤 H A W out ν₃ long₃ sized₃) (both 𝓤 H A W (lent-mut u32 κ₄ θ₄ γ₄ β₄ ι₄ 𝓤 H A W ids ν₄ long₄ sized₄) (both 𝓤 H A W (lent-mut u32 κ₅ θ₅ γ₅ β₅ ι₅ 𝓤 H A W map ν₅ long₅ sized₅) (lent-mut u32 κ₆ θ₆ γ₆ β₆ ι₆ 𝓤 H A W log ν₆ long₆ sized₆)))))
 
@@ -356,10 +358,10 @@ module _ {M : Type 1} (𝓤 : URA M) (H : Heap 𝓤) (A : Atoms 𝓤) (W : Given
         join ! $
         keep ! (0 ∷ 2 ∷ []) $ by ! (gives 𝓤 H A W (Loan-close-see-mut-mut-mut-mut-mut long₂ long₃ long₄ long₅ long₆ sized₂ sized₃ sized₄ sized₅ sized₆) B.the-row (λ x r. (axes mode : ℕ) (old : List ℕ) (count : ℕ) (mid : List ℕ) → OpenedAt axes mode job old count mid stage → Joined stage merged mid work → Closed axes mode job old count r (buffers out ids map log) (buffers (x .1 .1 .0) (x .1 .1 .1 .0) (x .1 .1 .1 .1 .0) (x .1 .1 .1 .1 .1)) (x .1 .0)) g w r ((tt, (ws .1 .0, (ws .1 .1 .1 .1 .0, (ws .1 .1 .1 .1 .1 .0, (ws .1 .1 .1 .1 .1 .1 .0, ws .1 .1 .1 .1 .1 .1 .1 .0)))))) ((tt, (l₁ ∙ long₂, (l₂ ∙ long₃, (l₃ ∙ long₄, (l₄ ∙ long₅, l₅ ∙ long₆))))), e))))))))))
 
-    pub close-see-mut-mut-mut-mut-mut : (long₂ : length work ≡ ν₂) (long₃ : length out ≡ ν₃) (long₄ : length ids ≡ ν₄) (long₅ : length map ≡ ν₅) (long₆ : length log ≡ ν₆) (sized₂ : Room u32 ν₂) (sized₃ : Room u8 ν₃) (sized₄ : Room u32 ν₄) (sized₅ : Room u32 ν₅) (sized₆ : Room u32 ν₆) → Is S.the-row stage (stage-mach stage ∷ []) → Is D.the-row merged (mach-merged merged ∷ []) → (CloseFit job stage merged work) → ent 𝓤 (mean 𝓤 H A (Loan-close-see-mut-mut-mut-mut-mut long₂ long₃ long₄ long₅ long₆ sized₂ sized₃ sized₄ sized₅ sized₆ .held)) (H .⇛ (C #packer·close (sliceVal (β, ι) ν ∷ sliceVal (β₂, ι₂) ν₂ ∷ stage-mach stage ∷ mach-merged merged ∷ sliceVal (β₃, ι₃) ν₃ ∷ sliceVal (β₄, ι₄) ν₄ ∷ sliceVal (β₅, ι₅) ν₅ ∷ sliceVal (β₆, ι₆) ν₆ ∷ []) (λ w. mean 𝓤 H A (After-close-see-mut-mut-mut-mut-mut w))))
-    close-see-mut-mut-mut-mut-mut long₂ long₃ long₄ long₅ long₆ sized₂ sized₃ sized₄ sized₅ sized₆ g-stage g-merged l = loan-call 𝓤 H A W (Loan-close-see-mut-mut-mut-mut-mut long₂ long₃ long₄ long₅ long₆ sized₂ sized₃ sized₄ sized₅ sized₆) B.the-row (λ x r. (axes mode : ℕ) (old : List ℕ) (count : ℕ) (mid : List ℕ) → OpenedAt axes mode job old count mid stage → Joined stage merged mid work → Closed axes mode job old count r (buffers out ids map log) (buffers (x .1 .1 .0) (x .1 .1 .1 .0) (x .1 .1 .1 .1 .0) (x .1 .1 .1 .1 .1)) (x .1 .0)) C fm #packer·close (sliceVal (β, ι) ν ∷ sliceVal (β₂, ι₂) ν₂ ∷ stage-mach stage ∷ mach-merged merged ∷ sliceVal (β₃, ι₃) ν₃ ∷ sliceVal (β₄, ι₄) ν₄ ∷ sliceVal (β₅, ι₅) ν₅ ∷ sliceVal (β₆, ι₆) ν₆ ∷ []) (λ g.
+    pub close-see-mut-mut-mut-mut-mut : (long₂ : length work ≡ ν₂) (long₃ : length out ≡ ν₃) (long₄ : length ids ≡ ν₄) (long₅ : length map ≡ ν₅) (long₆ : length log ≡ ν₆) (sized₂ : Room u32 ν₂) (sized₃ : Room u8 ν₃) (sized₄ : Room u32 ν₄) (sized₅ : Room u32 ν₅) (sized₆ : Room u32 ν₆) → Is S.the-row stage (stage-mach stage ∷ []) → Is D.the-row merged (mach-merged merged ∷ []) → (CloseFit job stage merged work) → ent 𝓤 (mean 𝓤 H A (Loan-close-see-mut-mut-mut-mut-mut long₂ long₃ long₄ long₅ long₆ sized₂ sized₃ sized₄ sized₅ sized₆ .held)) (H .⇛ (C #closing·close (sliceVal (β, ι) ν ∷ sliceVal (β₂, ι₂) ν₂ ∷ stage-mach stage ∷ mach-merged merged ∷ sliceVal (β₃, ι₃) ν₃ ∷ sliceVal (β₄, ι₄) ν₄ ∷ sliceVal (β₅, ι₅) ν₅ ∷ sliceVal (β₆, ι₆) ν₆ ∷ []) (λ w. mean 𝓤 H A (After-close-see-mut-mut-mut-mut-mut w))))
+    close-see-mut-mut-mut-mut-mut long₂ long₃ long₄ long₅ long₆ sized₂ sized₃ sized₄ sized₅ sized₆ g-stage g-merged l = loan-call 𝓤 H A W (Loan-close-see-mut-mut-mut-mut-mut long₂ long₃ long₄ long₅ long₆ sized₂ sized₃ sized₄ sized₅ sized₆) B.the-row (λ x r. (axes mode : ℕ) (old : List ℕ) (count : ℕ) (mid : List ℕ) → OpenedAt axes mode job old count mid stage → Joined stage merged mid work → Closed axes mode job old count r (buffers out ids map log) (buffers (x .1 .1 .0) (x .1 .1 .1 .0) (x .1 .1 .1 .1 .0) (x .1 .1 .1 .1 .1)) (x .1 .0)) C fm #closing·close (sliceVal (β, ι) ν ∷ sliceVal (β₂, ι₂) ν₂ ∷ stage-mach stage ∷ mach-merged merged ∷ sliceVal (β₃, ι₃) ν₃ ∷ sliceVal (β₄, ι₄) ν₄ ∷ sliceVal (β₅, ι₅) ν₅ ∷ sliceVal (β₆, ι₆) ν₆ ∷ []) (λ g.
         qed W (Loan-close-see-mut-mut-mut-mut-mut long₂ long₃ long₄ long₅ long₆ sized₂ sized₃ sized₄ sized₅ sized₆ .goes g ∷ []) ∵
-        suffices ! (C #packer·close (sliceVal (β, ι) ν ∷ sliceVal (β₂, ι₂) ν₂ ∷ stage-mach stage ∷ mach-merged merged ∷ sliceVal (β₃, ι₃) ν₃ ∷ sliceVal (β₄, ι₄) ν₄ ∷ sliceVal (β₅, ι₅) ν₅ ∷ sliceVal (β₆, ι₆) ν₆ ∷ []) (Close-of 𝓤 H A mem run .post (at-close-see-mut-mut-mut-mut-mut g))) (fm→monoC 𝓤 H (W .laws) C fm #packer·close (sliceVal (β, ι) ν ∷ sliceVal (β₂, ι₂) ν₂ ∷ stage-mach stage ∷ mach-merged merged ∷ sliceVal (β₃, ι₃) ν₃ ∷ sliceVal (β₄, ι₄) ν₄ ∷ sliceVal (β₅, ι₅) ν₅ ∷ sliceVal (β₆, ι₆) ν₆ ∷ []) (Close-of 𝓤 H A mem run .post (at-close-see-mut-mut-mut-mut-mut g)) _ (leaves-close-see-mut-mut-mut-mut-mut long₂ long₃ long₄ long₅ long₆ sized₂ sized₃ sized₄ sized₅ sized₆ g)) $
+        suffices ! (C #closing·close (sliceVal (β, ι) ν ∷ sliceVal (β₂, ι₂) ν₂ ∷ stage-mach stage ∷ mach-merged merged ∷ sliceVal (β₃, ι₃) ν₃ ∷ sliceVal (β₄, ι₄) ν₄ ∷ sliceVal (β₅, ι₅) ν₅ ∷ sliceVal (β₆, ι₆) ν₆ ∷ []) (Close-of 𝓤 H A mem run .post (at-close-see-mut-mut-mut-mut-mut g))) (fm→monoC 𝓤 H (W .laws) C fm #closing·close (sliceVal (β, ι) ν ∷ sliceVal (β₂, ι₂) ν₂ ∷ stage-mach stage ∷ mach-merged merged ∷ sliceVal (β₃, ι₃) ν₃ ∷ sliceVal (β₄, ι₄) ν₄ ∷ sliceVal (β₅, ι₅) ν₅ ∷ sliceVal (β₆, ι₆) ν₆ ∷ []) (Close-of 𝓤 H A mem run .post (at-close-see-mut-mut-mut-mut-mut g)) _ (leaves-close-see-mut-mut-mut-mut-mut long₂ long₃ long₄ long₅ long₆ sized₂ sized₃ sized₄ sized₅ sized₆ g)) $
         suffices ! (Close-of 𝓤 H A mem run .pre (at-close-see-mut-mut-mut-mut-mut g)) (known (at-close-see-mut-mut-mut-mut-mut g)) $ split ! $
         split ! $
         move ! (2 ∷ []) $
@@ -411,7 +413,7 @@ module _ {M : Type 1} (𝓤 : URA M) (H : Heap 𝓤) (A : Atoms 𝓤) (W : Given
         frame ! $
         use0 W (raw (fact 𝓤 (CloseFit job stage merged work))) (factI 𝓤 (CloseFit job stage merged work) (emp 𝓤) l) $ done !)
 
-  module _ (C : Calls 𝓤 H) (fm : FmC 𝓤 H (W .laws) C) (known : Triple 𝓤 (C #packer·foresee) (Foresee-of 𝓤 H A mem run)) (κ : Lft) (θ : Share) (γ : GName) (β ι : ℕ) (ν : ℕ) (work : List ℕ) (stage : Stage) (merged : Merged) where
+  module _ (C : Calls 𝓤 H) (fm : FmC 𝓤 H (W .laws) C) (known : Triple 𝓤 (C #closing·foresee) (Foresee-of 𝓤 H A mem run)) (κ : Lft) (θ : Share) (γ : GName) (β ι : ℕ) (ν : ℕ) (work : List ℕ) (stage : Stage) (merged : Merged) where
     abbrev Loan-foresee-call : (long : length work ≡ ν) (sized : Room u32 ν) → Loan 𝓤 H A
     Loan-foresee-call long sized = lent-mut u32 κ θ γ β ι 𝓤 H A W work ν long sized
 
@@ -440,10 +442,10 @@ module _ {M : Type 1} (𝓤 : URA M) (H : Heap 𝓤) (A : Atoms 𝓤) (W : Given
         join ! $
         keep ! (0 ∷ 2 ∷ []) $ by ! (gives 𝓤 H A W (Loan-foresee-call long sized) B.the-row (λ x r. (axes mode : ℕ) (job old : List ℕ) (count : ℕ) (mid : List ℕ) → OpenedAt axes mode job old count mid stage → Joined stage merged mid work → Foreseen axes mode job old count r x) g w r (ws .0) (l₀ ∙ long, e))))))
 
-    pub foresee-call : (long : length work ≡ ν) (sized : Room u32 ν) → Is S.the-row stage (stage-mach stage ∷ []) → Is D.the-row merged (mach-merged merged ∷ []) → (ForeseeFit stage merged work) → ent 𝓤 (mean 𝓤 H A (Loan-foresee-call long sized .held)) (H .⇛ (C #packer·foresee (sliceVal (β, ι) ν ∷ stage-mach stage ∷ mach-merged merged ∷ []) (λ w. mean 𝓤 H A (After-foresee-call w))))
-    foresee-call long sized g-stage g-merged l = loan-call 𝓤 H A W (Loan-foresee-call long sized) B.the-row (λ x r. (axes mode : ℕ) (job old : List ℕ) (count : ℕ) (mid : List ℕ) → OpenedAt axes mode job old count mid stage → Joined stage merged mid work → Foreseen axes mode job old count r x) C fm #packer·foresee (sliceVal (β, ι) ν ∷ stage-mach stage ∷ mach-merged merged ∷ []) (λ g.
+    pub foresee-call : (long : length work ≡ ν) (sized : Room u32 ν) → Is S.the-row stage (stage-mach stage ∷ []) → Is D.the-row merged (mach-merged merged ∷ []) → (ForeseeFit stage merged work) → ent 𝓤 (mean 𝓤 H A (Loan-foresee-call long sized .held)) (H .⇛ (C #closing·foresee (sliceVal (β, ι) ν ∷ stage-mach stage ∷ mach-merged merged ∷ []) (λ w. mean 𝓤 H A (After-foresee-call w))))
+    foresee-call long sized g-stage g-merged l = loan-call 𝓤 H A W (Loan-foresee-call long sized) B.the-row (λ x r. (axes mode : ℕ) (job old : List ℕ) (count : ℕ) (mid : List ℕ) → OpenedAt axes mode job old count mid stage → Joined stage merged mid work → Foreseen axes mode job old count r x) C fm #closing·foresee (sliceVal (β, ι) ν ∷ stage-mach stage ∷ mach-merged merged ∷ []) (λ g.
         qed W (Loan-foresee-call long sized .goes g ∷ []) ∵
-        suffices ! (C #packer·foresee (sliceVal (β, ι) ν ∷ stage-mach stage ∷ mach-merged merged ∷ []) (Foresee-of 𝓤 H A mem run .post (at-foresee-call g))) (fm→monoC 𝓤 H (W .laws) C fm #packer·foresee (sliceVal (β, ι) ν ∷ stage-mach stage ∷ mach-merged merged ∷ []) (Foresee-of 𝓤 H A mem run .post (at-foresee-call g)) _ (leaves-foresee-call long sized g)) $
+        suffices ! (C #closing·foresee (sliceVal (β, ι) ν ∷ stage-mach stage ∷ mach-merged merged ∷ []) (Foresee-of 𝓤 H A mem run .post (at-foresee-call g))) (fm→monoC 𝓤 H (W .laws) C fm #closing·foresee (sliceVal (β, ι) ν ∷ stage-mach stage ∷ mach-merged merged ∷ []) (Foresee-of 𝓤 H A mem run .post (at-foresee-call g)) _ (leaves-foresee-call long sized g)) $
         suffices ! (Foresee-of 𝓤 H A mem run .pre (at-foresee-call g)) (known (at-foresee-call g)) $ split ! $
         nothing ! $
         move ! (1 ∷ 0 ∷ []) $
@@ -460,7 +462,7 @@ module _ {M : Type 1} (𝓤 : URA M) (H : Heap 𝓤) (A : Atoms 𝓤) (W : Given
         frame ! $
         use0 W (raw (fact 𝓤 (ForeseeFit stage merged work))) (factI 𝓤 (ForeseeFit stage merged work) (emp 𝓤) l) $ done !)
 
-  module _ (C : Calls 𝓤 H) (fm : FmC 𝓤 H (W .laws) C) (known : Triple 𝓤 (C #packer·pairs-used) (PairsUsed-of 𝓤 H A mem run)) (stage : Stage) (count : ℕ) where
+  module _ (C : Calls 𝓤 H) (fm : FmC 𝓤 H (W .laws) C) (known : Triple 𝓤 (C #arranging·pairs-used) (PairsUsed-of 𝓤 H A mem run)) (stage : Stage) (count : ℕ) where
     abbrev pub After-pairs-used-call : Val → Item 𝓤
     After-pairs-used-call w = later (some (λ (r : ℕ). given (PairsUsed stage count r) (‵ (usize .own r (w ∷ [])))))
 
@@ -479,10 +481,10 @@ module _ {M : Type 1} (𝓤 : URA M) (H : Heap 𝓤) (A : Atoms 𝓤) (W : Given
         at-once ! $
         keep ! (1 ∷ []) $ show ! (λ (r : ℕ). guard 𝓤 (PairsUsed stage count r) (sem 𝓤 H A (usize .own r (w ∷ [])))) r $ check ! e $ done !)))
 
-    pub pairs-used-call : Is S.the-row stage (stage-mach stage ∷ []) → count < 2 ^ 64 → ent 𝓤 (emp 𝓤) (C #packer·pairs-used (stage-mach stage ∷ vint w64 count ∷ []) (λ w. mean 𝓤 H A (After-pairs-used-call w)))
+    pub pairs-used-call : Is S.the-row stage (stage-mach stage ∷ []) → count < 2 ^ 64 → ent 𝓤 (emp 𝓤) (C #arranging·pairs-used (stage-mach stage ∷ vint w64 count ∷ []) (λ w. mean 𝓤 H A (After-pairs-used-call w)))
     pairs-used-call g-stage g-count =
         qed W ([]) ∵
-        suffices ! (C #packer·pairs-used (stage-mach stage ∷ vint w64 count ∷ []) (PairsUsed-of 𝓤 H A mem run .post (at-pairs-used-call))) (fm→monoC 𝓤 H (W .laws) C fm #packer·pairs-used (stage-mach stage ∷ vint w64 count ∷ []) (PairsUsed-of 𝓤 H A mem run .post (at-pairs-used-call)) _ (leaves-pairs-used-call)) $
+        suffices ! (C #arranging·pairs-used (stage-mach stage ∷ vint w64 count ∷ []) (PairsUsed-of 𝓤 H A mem run .post (at-pairs-used-call))) (fm→monoC 𝓤 H (W .laws) C fm #arranging·pairs-used (stage-mach stage ∷ vint w64 count ∷ []) (PairsUsed-of 𝓤 H A mem run .post (at-pairs-used-call)) _ (leaves-pairs-used-call)) $
         suffices ! (PairsUsed-of 𝓤 H A mem run .pre (at-pairs-used-call)) (known (at-pairs-used-call)) $ nothing ! $
         nothing ! $
         owned ! usize (Is usize) (uint-makes 𝓤 H A W w64) count _ (refl, g-count) $

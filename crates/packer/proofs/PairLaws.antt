@@ -1,10 +1,10 @@
 -- The pair records of a build: how many are cleared, and what is left of them. Assumes nothing.
-use mathlib.Core.Path.{_≡_, refl, sym, ap, subst, _∙_}
+use mathlib.Core.Path.{_≡_, refl, sym, ap, _∙_}
 use mathlib.Core.Bool.{Bool, true, false}
-use mathlib.Core.List.{List, [], _∷_, _++_, append-nil}
+use mathlib.Core.List.{List, _++_, append-nil}
 use Prim.Native.Nat.{ℕ, _≤_}
 use native.Mathlib.Omega.{arith}
-use lib.ListN.{length, drop, replicate}
+use lib.ListN.{length, replicate}
 use lib.Seq.{drop-length, ext-getD}
 use borrow.Author.Tests.{ne-eqb}
 use Rattle.pairs.specs.declared.Pair.{Pair}
@@ -16,18 +16,10 @@ use Rattle.waits.proofs.WaitLaws.{room-none, room-most}
 use Rattle.said.specs.Refusals.{earlyNo}
 use Rattle.said.proofs.SoundLaws.{open-if}
 use Rattle.encoder.specs.LentArranged.{tablesOf}
-use Rattle.packer.specs.declared.opening.Stage.{Stage}
-use Rattle.packer.specs.Build.{pairsLeft}
-use Rattle.packer.specs.LentOpened.{OpenedAt, PairsUsed}
-
-pub true-false : {A : Type 0} → _≡_ {A = Bool} true false → A
-true-false z = absurd (let one : _≡_ {A = ℕ} 0 1 = cc in omega arith)
-
-pub used-none : (s : Stage) (pairs : ℕ) → s .early ≡ true → PairsUsed s pairs 0
-used-none s pairs e = (λ _. refl, λ f. true-false (sym e ∙ f))
-
-pub used-all : (s : Stage) (pairs : ℕ) → s .early ≡ false → PairsUsed s pairs pairs
-used-all s pairs e = (λ f. true-false (sym f ∙ e), λ _. refl)
+use Rattle.opening.specs.declared.opening.Stage.{Stage}
+use Rattle.call.specs.Build.{pairsLeft}
+use Rattle.opening.specs.LentOpened.{OpenedAt}
+use Rattle.arranging.specs.LentArranged.{PairsUsed}
 
 pub used-few : (s : Stage) (pairs n : ℕ) → PairsUsed s pairs n → n ≤ pairs
 used-few s pairs n u = go (s .early) refl

@@ -1,5 +1,1 @@
-pub mod Lending
-pub mod Build
-pub mod Foretold
-pub mod LentCollected
-pub mod LentOpened
+pub mod Promised

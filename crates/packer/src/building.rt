@@ -1,14 +1,14 @@
 // One build call: it checks a job, refuses it or builds, with lent memory only.
-use crate::closing::close;
-use crate::closing::pairs_used;
-use crate::opening::open;
+use arranging::pairs_used;
+use closing::close;
 use encoder::tables;
 use finishing::Built;
 use merging::optimize;
+use opening::open;
 use pairs::Pair;
 ghost use Rattle.finishing.specs.Buffers.{buffers};
-ghost use Rattle.packer.specs.Lending.{lending, leaves};
-ghost use Rattle.packer.specs.Build.{Obeys};
+ghost use Rattle.call.specs.Lending.{lending, leaves};
+ghost use Rattle.packer.specs.Promised.{Obeys};
 
 // Takes every job, sound or not.
 pub fn build(

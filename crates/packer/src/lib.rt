@@ -1,9 +1,6 @@
 // A build, whole: a job's bytes checked, its sets packed, the store, ids, map and log written; and the forecast of one, which writes none of them.
-mod arranging;
 mod building;
-mod closing;
 mod foretelling;
-mod opening;
 
 pub use building::build;
 pub use finishing::Built;

@@ -20,10 +20,10 @@ use Rattle.encoder.proofs.DenseIds.{ids-length}
 use Rattle.finishing.specs.declared.answers.Report.{Report}
 use Rattle.finishing.specs.declared.answers.Built.the-variants.{Done}
 use Rattle.finishing.specs.Late.{storeFor, reportOf}
-use Rattle.packer.specs.Lending.{Lending}
-use Rattle.packer.specs.Build.{coordsInUse, packedOf, outcomeOf, answerOf, after}
-use Rattle.packer.proofs.PackedLaws.{WellPacked, shared-good}
-use Rattle.packer.proofs.Accepted.{Accepted, accepted, packedIn, map-is, store-front, log-front, id-at}
+use Rattle.call.specs.Lending.{Lending}
+use Rattle.call.specs.Build.{coordsInUse, packedOf, outcomeOf, answerOf, after}
+use Rattle.accepted.proofs.PackedLaws.{WellPacked, shared-good}
+use Rattle.accepted.proofs.Accepted.{Accepted, accepted, packedIn, map-is, store-front, log-front, id-at}
 use Rattle.unordered.proofs.Alike.{Fine}
 
 -- ---- the packed sets of mode 0

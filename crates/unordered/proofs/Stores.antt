@@ -13,8 +13,8 @@ use Rattle.encoder.specs.Packed.{Packed}
 use Rattle.encoder.specs.Lent.{relabel}
 use Rattle.finishing.specs.Late.{storeFor, regionsKept, reportOf}
 use Rattle.finishing.proofs.StoreLaws.{runs-relabel, runs-count, kept-relabel, forecast-relabel, store-relabel}
-use Rattle.packer.proofs.PackedLaws.{WellPacked}
-use Rattle.packer.proofs.RunSound.{Spot, id-spot, ids-once}
+use Rattle.accepted.proofs.PackedLaws.{WellPacked}
+use Rattle.accepted.proofs.RunSound.{Spot, id-spot, ids-once}
 use Rattle.unordered.proofs.Rows.{Renamed}
 
 abbrev none : Final

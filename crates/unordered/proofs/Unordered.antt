@@ -16,10 +16,10 @@ use Rattle.encoder.specs.Packed.{Packed, shared}
 use Rattle.finishing.specs.declared.answers.Report.{Report}
 use Rattle.finishing.specs.declared.answers.Built.the-variants.{Done}
 use Rattle.finishing.specs.Late.{storeFor, reportOf}
-use Rattle.packer.specs.Lending.{Lending}
-use Rattle.packer.specs.Build.{regionBytes, coordsInUse, packedOf, outcomeOf, answerOf, after}
-use Rattle.packer.proofs.PackedLaws.{WellPacked}
-use Rattle.packer.proofs.Accepted.{coords-long}
+use Rattle.call.specs.Lending.{Lending}
+use Rattle.call.specs.Build.{regionBytes, coordsInUse, packedOf, outcomeOf, answerOf, after}
+use Rattle.accepted.proofs.PackedLaws.{WellPacked}
+use Rattle.accepted.proofs.Accepted.{coords-long}
 use Rattle.unordered.specs.Same.{SameSets, placeOf, SameBuild}
 use Rattle.unordered.proofs.Alike.{Fine}
 use Rattle.unordered.proofs.Rows.{Renamed, shared-same}

@@ -46,8 +46,8 @@ use Rattle.pairs.specs.declared.Pair.{Pair}
 use Rattle.pairs.specs.LentQueue.{none}
 use Rattle.finishing.specs.Buffers.{Buffers, buffers, lengths}
 use Rattle.finishing.specs.Late.{storeFor, regionsKept, lateNo, reportOf, lateAnswer, written, buffersLeft}
-use Rattle.packer.specs.Lending.{Lending, lending}
-use Rattle.packer.specs.Build.{regionBytes, coordsInUse, packedOf, answerFrom, leftFrom, outcomeOf, answerOf}
+use Rattle.call.specs.Lending.{Lending, lending}
+use Rattle.call.specs.Build.{regionBytes, coordsInUse, packedOf, answerFrom, leftFrom, outcomeOf, answerOf}
 use Rattle.unordered.specs.Same.{SameSets, SameBuild}
 use Rattle.unordered.proofs.Unordered.{unordered}
 

@@ -8,8 +8,8 @@ use Rattle.sets.specs.Set.{Set}
 use Rattle.said.specs.Job.{Said}
 use Rattle.finishing.specs.declared.answers.Report.{Report}
 use Rattle.finishing.specs.Late.{storeFor}
-use Rattle.packer.specs.Lending.{Lending}
-use Rattle.packer.specs.Build.{coordsInUse, packedOf, after}
+use Rattle.call.specs.Lending.{Lending}
+use Rattle.call.specs.Build.{coordsInUse, packedOf, after}
 
 -- What two jobs say: the same regions by region index, which is by first use, and each set of the one is a set of the other.
 pub record SameSets (s t : Said) : Type 0 where

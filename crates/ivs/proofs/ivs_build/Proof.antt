@@ -38,9 +38,9 @@ use denote.Triple.Table.{entered, cited}
 use denote.Triple.Walked.{Stays, stay-ref, stay-slice, stay-none-slice, stay-none, walkOf, goes-ref, goes-slice, goes-none-slice, goes-none, Walks, ends-at, walked, walk-meets}
 use denote.Exit.{yes}
 use Rattle.finishing.specs.Buffers.{buffers}
-use Rattle.packer.specs.Lending.{lending, leaves}
+use Rattle.call.specs.Lending.{lending, leaves}
 use Rattle.ivs.specs.Answered.{Answered}
-use Rattle.ivs.proofs.TellLaws.{answer-few, answer-within}
+use Rattle.ivs.proofs.FewLaws.{answer-few, answer-within}
 use Rattle.pairs.specs.declared.Pair.{Pair}
 use Rattle.pairs.proofs.Pair as T
 use Rattle.finishing.specs.declared.answers.Built.{Built}
@@ -53,9 +53,9 @@ use Rattle.ivs.proofs.Calls.{Build-of, Tell-of, build-see-mut-mut-mut-m
 use Rattle.packer.proofs.build.Symbol as build-def
 use Rattle.packer.proofs.build.Symbol.{name as #packer·build}
 use Rattle.packer.proofs.build.Met as build-thm
-use Rattle.ivs.proofs.report.tell.Symbol as tell-def
-use Rattle.ivs.proofs.report.tell.Symbol.{name as #ivs·tell}
-use Rattle.ivs.proofs.report.tell.Met as tell-thm
+use Rattle.reporting.proofs.tell.Symbol as tell-def
+use Rattle.reporting.proofs.tell.Symbol.{name as #reporting·tell}
+use Rattle.reporting.proofs.tell.Met as tell-thm
 use Rattle.ivs.proofs.ivs_build.Key.{name as #ivs·ivs-build}
 use Rattle.ivs.proofs.ivs_build as ivs-build
 use Rattle.ivs.proofs.ivs_build.Statement as stated
@@ -156,7 +156,7 @@ module _ {M : Type 1} (𝓤 : URA M) (H : Heap 𝓤) (A : Atoms 𝓤) (W : Given
       qed W (Slice job ∷ Slice₂ work′ ∷ Slice₃ pairs′ ∷ Slice₄ out′ ∷ Slice₅ ids′ ∷ Slice₆ map′ ∷ Slice₇ log′ ∷ Slice₈ report′ ∷ []) ∵ suffices ! _ (ends-at 𝓤 H A ivs-build.ended stayed (ivs-build.clauses 𝓤 H A mem run) W bound (vint w32 r) r (tt, (tt, (tt, (work′, (pairs′, (out′, (ids′, (map′, (log′, (report′, tt)))))))))) (tt, (tt, (tt, (long₂, (long₃, (long₄, (long₅, (long₆, (long₇, (tt, tt))))))))))) $
       split ! $ move ! (2 ∷ []) $ split ! $ move ! (4 ∷ []) $ split ! $ move ! (6 ∷ []) $ split ! $ move ! (8 ∷ []) $ split ! $ move ! (10 ∷ []) $ split ! $ move ! (12 ∷ []) $ split ! $ move ! (14 ∷ []) $ split ! $ nothing ! $ move ! (2 ∷ 0 ∷ []) $ join ! $ move ! (3 ∷ 0 ∷ []) $ join ! $ move ! (4 ∷ 0 ∷ []) $ join ! $ move ! (5 ∷ 0 ∷ []) $ join ! $ move ! (6 ∷ 0 ∷ []) $ join ! $ move ! (7 ∷ 0 ∷ []) $ join ! $ move ! (8 ∷ 0 ∷ []) $ join ! $ move ! (9 ∷ 0 ∷ []) $ join ! $ owned ! u32 (Is u32) (uint-makes 𝓤 H A W w32) r _ (refl, g) $ nothing ! $ move ! (3 ∷ 0 ∷ []) $ fjoin ! $ move ! (3 ∷ 0 ∷ []) $ fjoin ! $ move ! (3 ∷ 0 ∷ []) $ fjoin ! $ move ! (3 ∷ 0 ∷ []) $ fjoin ! $ move ! (3 ∷ 0 ∷ []) $ fjoin ! $ move ! (3 ∷ 0 ∷ []) $ fjoin ! $ move ! (3 ∷ 0 ∷ []) $ fjoin ! $ move ! (3 ∷ 0 ∷ []) $ fjoin ! $ owned ! u32 (Is u32) (uint-makes 𝓤 H A W w32) mode _ (refl, g-mode) $ fjoin ! $ owned ! u32 (Is u32) (uint-makes 𝓤 H A W w32) axes _ (refl, g-axes) $ fjoin ! $ join ! $ move ! (1 ∷ 0 ∷ []) $ join ! $ frame ! $ use0 W (raw (fact 𝓤 (Answered (lending axes mode job work pairs (buffers out ids map log)) r (leaves work′ pairs′ (buffers out′ ids′ map′ log′)) report report′))) (factI 𝓤 (Answered (lending axes mode job work pairs (buffers out ids map log)) r (leaves work′ pairs′ (buffers out′ ids′ map′ log′)) report report′) (emp 𝓤) e) $ done !
 
-  module _ (𝓣 : AllCalls 𝓤 H) (known-build : Triple 𝓤 (𝓣 .C #packer·build) (Build-of 𝓤 H A mem run)) (known-tell : Triple 𝓤 (𝓣 .C #ivs·tell) (Tell-of 𝓤 H A mem run)) (sized : Room u8 ν) (sized₂ : Room u32 ν₂) (sized₃ : Room T.the-row ν₃) (sized₄ : Room u8 ν₄) (sized₅ : Room u32 ν₅) (sized₆ : Room u32 ν₆) (sized₇ : Room u32 ν₇) where
+  module _ (𝓣 : AllCalls 𝓤 H) (known-build : Triple 𝓤 (𝓣 .C #packer·build) (Build-of 𝓤 H A mem run)) (known-tell : Triple 𝓤 (𝓣 .C #reporting·tell) (Tell-of 𝓤 H A mem run)) (sized : Room u8 ν) (sized₂ : Room u32 ν₂) (sized₃ : Room T.the-row ν₃) (sized₄ : Room u8 ν₄) (sized₅ : Room u32 ν₅) (sized₆ : Room u32 ν₆) (sized₇ : Room u32 ν₇) where
     abbrev C : Calls 𝓤 H
     C = 𝓣 .C
 
@@ -220,7 +220,7 @@ module _ {M : Type 1} (𝓤 : URA M) (H : Heap 𝓤) (A : Atoms 𝓤) (W : Given
           assigns ! (addr ! (from ! (hop ! (look ! 36 refl) (stop !)))) (from ! (stop !)) (init ! 8 refl (tt, tt)) $
           move ! (7 ∷ 6 ∷ []) $
           join ! $
-          use1 W (later (raw (C #ivs·tell (σ₈ ∷ σ ∷ EL.val D.the-type D′.the-laws b ∷ []) (λ w. mean 𝓤 H A (After-tell-mut-see 𝓤 H A W mem run C fm known-tell κ₈ θ₈ γ₈ β₈ ι₈ ν₈ report κ θ γ β ι ν job b w))))) (tell-mut-see 𝓤 H A W mem run C fm known-tell κ₈ θ₈ γ₈ β₈ ι₈ ν₈ report κ θ γ β ι ν job b (at-D b r-b g-b) (answer-few (lending axes mode job work pairs (buffers out ids map log)) b (e-b .1 .answer), answer-within (lending axes mode job work pairs (buffers out ids map log)) b (e-b .1 .answer))) $ await ! tt $
+          use1 W (later (raw (C #reporting·tell (σ₈ ∷ σ ∷ EL.val D.the-type D′.the-laws b ∷ []) (λ w. mean 𝓤 H A (After-tell-mut-see 𝓤 H A W mem run C fm known-tell κ₈ θ₈ γ₈ β₈ ι₈ ν₈ report κ θ γ β ι ν job b w))))) (tell-mut-see 𝓤 H A W mem run C fm known-tell κ₈ θ₈ γ₈ β₈ ι₈ ν₈ report κ θ γ β ι ν job b (at-D b r-b g-b) (answer-few (lending axes mode job work pairs (buffers out ids map log)) b (e-b .1 .answer), answer-within (lending axes mode job work pairs (buffers out ids map log)) b (e-b .1 .answer))) $ await ! tt $
           calls ! fm (After-tell-mut-see 𝓤 H A W mem run C fm known-tell κ₈ θ₈ γ₈ β₈ ι₈ ν₈ report κ θ γ β ι ν job b) (and-then ! (load ! (from ! (stop !)) (look ! 7 refl)) (and-then ! (load ! (from ! (stop !)) (look ! 49 refl)) (and-then ! (load ! (from ! (stop !)) (look ! 33 refl)) (no-more !)))) (λ r-n. await ! tt $ pick ! (λ n. pick ! (λ x-n. learn ! (λ e-n. split ! $ move ! (1 ∷ []) $ facts ! u32 (Is u32) (shows 𝓤 H A u32) n (r-n ∷ []) (λ g-n.
           land ! (from ! (stop !)) (init ! 55 refl (uint-lawful 𝓤 H A W w32 .typed n _ g-n .0)) $
           rewrite ! 55 (λ (u : Val). ‵ (fat fullShare (tyInt w32) l₀ 0 u)) (ap only (g-n .0)) refl $
@@ -303,15 +303,15 @@ module _ {M : Type 1} (𝓤 : URA M) (H : Heap 𝓤) (A : Atoms 𝓤) (W : Given
   abbrev Entry : SProp 𝓤
   Entry = onEntry 𝓤 H A ivs-build.signature (κ, (κ₂, (κ₃, (κ₄, (κ₅, (κ₆, (κ₇, (κ₈, tt)))))))) (θ, (θ₂, (θ₃, (θ₄, (θ₅, (θ₆, (θ₇, (θ₈, tt)))))))) (bound .0 .3) (bound .0 .4)
 
-  starts : (𝓣 : AllCalls 𝓤 H) → Triple 𝓤 (𝓣 .C #packer·build) (Build-of 𝓤 H A mem run) → Triple 𝓤 (𝓣 .C #ivs·tell) (Tell-of 𝓤 H A mem run) → Room u8 ν → Room u32 ν₂ → Room T.the-row ν₃ → Room u8 ν₄ → Room u32 ν₅ → Room u32 ν₆ → Room u32 ν₇ → ent 𝓤 (sep 𝓤 Entry (emp 𝓤)) (WpFn 𝓤 H (𝓣 .C) (𝓣 .Λ) code.function (vint w32 axes ∷ vint w32 mode ∷ σ ∷ σ₂ ∷ σ₃ ∷ σ₄ ∷ σ₅ ∷ σ₆ ∷ σ₇ ∷ σ₈ ∷ []) Post)
+  starts : (𝓣 : AllCalls 𝓤 H) → Triple 𝓤 (𝓣 .C #packer·build) (Build-of 𝓤 H A mem run) → Triple 𝓤 (𝓣 .C #reporting·tell) (Tell-of 𝓤 H A mem run) → Room u8 ν → Room u32 ν₂ → Room T.the-row ν₃ → Room u8 ν₄ → Room u32 ν₅ → Room u32 ν₆ → Room u32 ν₇ → ent 𝓤 (sep 𝓤 Entry (emp 𝓤)) (WpFn 𝓤 H (𝓣 .C) (𝓣 .Λ) code.function (vint w32 axes ∷ vint w32 mode ∷ σ ∷ σ₂ ∷ σ₃ ∷ σ₄ ∷ σ₅ ∷ σ₆ ∷ σ₇ ∷ σ₈ ∷ []) Post)
   starts 𝓣 k-build k-tell sized sized₂ sized₃ sized₄ sized₅ sized₆ sized₇ = needs-none 𝓤 Entry (emp 𝓤) (walk 𝓣 k-build k-tell sized sized₂ sized₃ sized₄ sized₅ sized₆ sized₇)
 
 module _ {M : Type 1} (𝓤 : URA M) (H : Heap 𝓤) (A : Atoms 𝓤) (W : Given 𝓤 H A) (mem : Memory → SProp 𝓤) (run : Routine → Fun 𝓤) (𝓣 : AllCalls 𝓤 H) where
-  ivs-build-walks : Triple 𝓤 (𝓣 .C #packer·build) (Build-of 𝓤 H A mem run) → Triple 𝓤 (𝓣 .C #ivs·tell) (Tell-of 𝓤 H A mem run) → Walks 𝓤 H A ivs-build.ended stayed (WpFn 𝓤 H (𝓣 .C) (𝓣 .Λ) code.function) (ivs-build.clauses 𝓤 H A mem run)
+  ivs-build-walks : Triple 𝓤 (𝓣 .C #packer·build) (Build-of 𝓤 H A mem run) → Triple 𝓤 (𝓣 .C #reporting·tell) (Tell-of 𝓤 H A mem run) → Walks 𝓤 H A ivs-build.ended stayed (WpFn 𝓤 H (𝓣 .C) (𝓣 .Λ) code.function) (ivs-build.clauses 𝓤 H A mem run)
   ivs-build-walks k-build k-tell = walked 𝓤 H A ivs-build.ended stayed (ivs-build.clauses 𝓤 H A mem run) (WpFn 𝓤 H (𝓣 .C) (𝓣 .Λ) code.function) (λ κs. (uint-vals w32, (uint-vals w32, (slice-vals, (slice-vals, (slice-vals, (slice-vals, (slice-vals, (slice-vals, (slice-vals, (ptr-vals, tt))))))))))) (λ κs. (uint-tells w32, (uint-tells w32, (shr-slice-tells (named 0) (κs .0) u8, (mut-slice-tells (named 1) (κs .1 .0) u32, (mut-slice-tells (named 2) (κs .1 .1 .0) T.the-row, (mut-slice-tells (named 3) (κs .1 .1 .1 .0) u8, (mut-slice-tells (named 4) (κs .1 .1 .1 .1 .0) u32, (mut-slice-tells (named 5) (κs .1 .1 .1 .1 .1 .0) u32, (mut-slice-tells (named 6) (κs .1 .1 .1 .1 .1 .1 .0) u32, (mut-tells (named 7) (κs .1 .1 .1 .1 .1 .1 .1 .0) (Array u64 tt 16), tt)))))))))))
       (λ κs qs bounds a g are. starts 𝓤 H A W mem run (κs .0) (qs .0) (a .1 .1 .0 .name) (a .1 .1 .0 .ptr .0) (a .1 .1 .0 .ptr .1) (a .1 .1 .0 .now) (κs .1 .0) (qs .1 .0) (a .1 .1 .1 .0 .name) (a .1 .1 .1 .0 .ptr .0) (a .1 .1 .1 .0 .ptr .1) (a .1 .1 .1 .0 .now) (κs .1 .1 .0) (qs .1 .1 .0) (a .1 .1 .1 .1 .0 .name) (a .1 .1 .1 .1 .0 .ptr .0) (a .1 .1 .1 .1 .0 .ptr .1) (a .1 .1 .1 .1 .0 .now) (κs .1 .1 .1 .0) (qs .1 .1 .1 .0) (a .1 .1 .1 .1 .1 .0 .name) (a .1 .1 .1 .1 .1 .0 .ptr .0) (a .1 .1 .1 .1 .1 .0 .ptr .1) (a .1 .1 .1 .1 .1 .0 .now) (κs .1 .1 .1 .1 .0) (qs .1 .1 .1 .1 .0) (a .1 .1 .1 .1 .1 .1 .0 .name) (a .1 .1 .1 .1 .1 .1 .0 .ptr .0) (a .1 .1 .1 .1 .1 .1 .0 .ptr .1) (a .1 .1 .1 .1 .1 .1 .0 .now) (κs .1 .1 .1 .1 .1 .0) (qs .1 .1 .1 .1 .1 .0) (a .1 .1 .1 .1 .1 .1 .1 .0 .name) (a .1 .1 .1 .1 .1 .1 .1 .0 .ptr .0) (a .1 .1 .1 .1 .1 .1 .1 .0 .ptr .1) (a .1 .1 .1 .1 .1 .1 .1 .0 .now) (κs .1 .1 .1 .1 .1 .1 .0) (qs .1 .1 .1 .1 .1 .1 .0) (a .1 .1 .1 .1 .1 .1 .1 .1 .0 .name) (a .1 .1 .1 .1 .1 .1 .1 .1 .0 .ptr .0) (a .1 .1 .1 .1 .1 .1 .1 .1 .0 .ptr .1) (a .1 .1 .1 .1 .1 .1 .1 .1 .0 .now) (κs .1 .1 .1 .1 .1 .1 .1 .0) (qs .1 .1 .1 .1 .1 .1 .1 .0) (a .1 .1 .1 .1 .1 .1 .1 .1 .1 .0 .name) (a .1 .1 .1 .1 .1 .1 .1 .1 .1 .0 .ptr .0) (a .1 .1 .1 .1 .1 .1 .1 .1 .1 .0 .ptr .1) (a .1 .1 .1 .1 .1 .1 .1 .1 .1 .0 .now) (a .0) (a .1 .0) (are .0 .1) (are .1 .0 .1) 𝓣 k-build k-tell (are .1 .1 .0 .0 .1) (are .1 .1 .1 .0 .0 .1) (are .1 .1 .1 .1 .0 .0 .1) (are .1 .1 .1 .1 .1 .0 .0 .1) (are .1 .1 .1 .1 .1 .1 .0 .0 .1) (are .1 .1 .1 .1 .1 .1 .1 .0 .0 .1) (are .1 .1 .1 .1 .1 .1 .1 .1 .0 .0 .1))
 
-  ivs-build-meets : Triple 𝓤 (𝓣 .C #packer·build) (Build-of 𝓤 H A mem run) → Triple 𝓤 (𝓣 .C #ivs·tell) (Tell-of 𝓤 H A mem run) → Meets 𝓤 H A ivs-build.signature (WpFn 𝓤 H (𝓣 .C) (𝓣 .Λ) code.function) (ivs-build.spec 𝓤 H A mem run)
+  ivs-build-meets : Triple 𝓤 (𝓣 .C #packer·build) (Build-of 𝓤 H A mem run) → Triple 𝓤 (𝓣 .C #reporting·tell) (Tell-of 𝓤 H A mem run) → Meets 𝓤 H A ivs-build.signature (WpFn 𝓤 H (𝓣 .C) (𝓣 .Λ) code.function) (ivs-build.spec 𝓤 H A mem run)
   ivs-build-meets k-build k-tell = walk-meets 𝓤 H A ivs-build.ended stayed W (goes-none 𝓤 H A W 8 (λ _. u32) yes (λ κs x f. refl), (goes-none 𝓤 H A W 8 (λ _. u32) yes (λ κs x f. refl), (goes-none-slice 𝓤 H A W 8 (0 ∷ []) tt (plain (λ _. u8)) yes, (goes-slice 𝓤 H A W 8 1 tt (plain (λ _. u32)), (goes-slice 𝓤 H A W 8 2 tt (plain (λ _. T.the-row)), (goes-slice 𝓤 H A W 8 3 tt (plain (λ _. u8)), (goes-slice 𝓤 H A W 8 4 tt (plain (λ _. u32)), (goes-slice 𝓤 H A W 8 5 tt (plain (λ _. u32)), (goes-slice 𝓤 H A W 8 6 tt (plain (λ _. u32)), (goes-ref 𝓤 H A W 8 7 tt (plain (λ _. (Array u64 tt 16))), tt)))))))))) (ivs-build.clauses 𝓤 H A mem run) (WpFn 𝓤 H (𝓣 .C) (𝓣 .Λ) code.function) (WpFn-mono 𝓤 H (W .laws) 𝓣 code.function) (ivs-build-walks k-build k-tell)
 
 pub ivs-build-spec : {M : Type 1} → stated.statement M
@@ -321,4 +321,4 @@ ivs-build-spec 𝓤 H 𝓜 𝓖 𝓡 =
     (tables 𝓤 H 𝓜 𝓡 code.env .C) (tables 𝓤 H 𝓜 𝓡 code.env .Λ) #ivs·ivs-build code.function (code.unfolded 𝓤 H 𝓜 𝓡)
     (ivs-build-meets 𝓤 H (𝓖 .A) (givenOf 𝓤 H 𝓜 𝓖) (𝓜 .mem) (𝓡 .run) (tablesOf 𝓤 H 𝓜 (tables 𝓤 H 𝓜 𝓡 code.env))
     (cited 𝓤 H (Build-of 𝓤 H (𝓖 .A) (𝓜 .mem) (𝓡 .run)) 𝓜 𝓡 code.env #packer·build build-def.routine code.calls-packer·build (build-thm.met 𝓤 H 𝓜 𝓖 𝓡))
-    (cited 𝓤 H (Tell-of 𝓤 H (𝓖 .A) (𝓜 .mem) (𝓡 .run)) 𝓜 𝓡 code.env #ivs·tell tell-def.routine code.calls-ivs·report·tell (tell-thm.met 𝓤 H 𝓜 𝓖 𝓡)))
+    (cited 𝓤 H (Tell-of 𝓤 H (𝓖 .A) (𝓜 .mem) (𝓡 .run)) 𝓜 𝓡 code.env #reporting·tell tell-def.routine code.calls-reporting·tell (tell-thm.met 𝓤 H 𝓜 𝓖 𝓡)))

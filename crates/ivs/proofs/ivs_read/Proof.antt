@@ -1,11 +1,11 @@
 use mathlib.Core.Path.{ap, _∙_}
-use Rattle.ivs.specs.Answers.{readWord}
+use Rattle.numbers.specs.ReadWords.{readWord}
 use borrow.Author.Needs.{needs}
 use Rattle.ivs.proofs.ivs_read.Statement.{statement}
 use Rattle.ivs.proofs.ivs_read.Tie as tie
 use Rattle.ivs.proofs.ivs_read.Reads as reads
 use Rattle.ivs.proofs.ivs_read.Lts as lts
-use Rattle.ivs.proofs.as_word.Reads as as-word-reads
+use Rattle.numbers.proofs.as_word.Reads as as-word-reads
 use Rattle.reader.proofs.read.Reads as read-reads
 
 read-requires : tie.Need-read-requires

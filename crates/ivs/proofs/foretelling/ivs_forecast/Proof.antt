@@ -37,9 +37,9 @@ use denote.Triple.Statement.{Triple}
 use denote.Triple.Table.{entered, cited}
 use denote.Triple.Walked.{Stays, stay-ref, stay-slice, stay-none-slice, stay-none, walkOf, goes-ref, goes-slice, goes-none-slice, goes-none, Walks, ends-at, walked, walk-meets}
 use denote.Exit.{yes}
-use Rattle.packer.specs.Lending.{lending, noBuffers}
+use Rattle.call.specs.Lending.{lending, noBuffers}
 use Rattle.ivs.specs.Answered.{Forecasted}
-use Rattle.ivs.proofs.ForetoldLaws.{foretold-few, foretold-within}
+use Rattle.ivs.proofs.FewLaws.{foretold-few, foretold-within}
 use Rattle.pairs.specs.declared.Pair.{Pair}
 use Rattle.pairs.proofs.Pair as T
 use Rattle.finishing.specs.declared.answers.Built.{Built}
@@ -52,9 +52,9 @@ use Rattle.ivs.proofs.Calls.{Forecast-of, Tell-of, forecast-see-mut-mut
 use Rattle.packer.proofs.forecast.Symbol as forecast-def
 use Rattle.packer.proofs.forecast.Symbol.{name as #packer·forecast}
 use Rattle.packer.proofs.forecast.Met as forecast-thm
-use Rattle.ivs.proofs.report.tell.Symbol as tell-def
-use Rattle.ivs.proofs.report.tell.Symbol.{name as #ivs·tell}
-use Rattle.ivs.proofs.report.tell.Met as tell-thm
+use Rattle.reporting.proofs.tell.Symbol as tell-def
+use Rattle.reporting.proofs.tell.Symbol.{name as #reporting·tell}
+use Rattle.reporting.proofs.tell.Met as tell-thm
 use Rattle.ivs.proofs.foretelling.ivs_forecast.Key.{name as #ivs·ivs-forecast}
 use Rattle.ivs.proofs.foretelling.ivs_forecast as ivs-forecast
 use Rattle.ivs.proofs.foretelling.ivs_forecast.Statement as stated
@@ -119,7 +119,7 @@ module _ {M : Type 1} (𝓤 : URA M) (H : Heap 𝓤) (A : Atoms 𝓤) (W : Given
       qed W (Slice job ∷ Slice₂ work′ ∷ Slice₃ pairs′ ∷ Slice₄ report′ ∷ []) ∵ suffices ! _ (ends-at 𝓤 H A ivs-forecast.ended stayed (ivs-forecast.clauses 𝓤 H A mem run) W bound (vint w32 r) r (tt, (tt, (tt, (work′, (pairs′, (report′, tt)))))) (tt, (tt, (tt, (long₂, (long₃, (tt, tt))))))) $
       split ! $ move ! (2 ∷ []) $ split ! $ move ! (4 ∷ []) $ split ! $ move ! (6 ∷ []) $ split ! $ nothing ! $ move ! (2 ∷ 0 ∷ []) $ join ! $ move ! (3 ∷ 0 ∷ []) $ join ! $ move ! (4 ∷ 0 ∷ []) $ join ! $ move ! (5 ∷ 0 ∷ []) $ join ! $ owned ! u32 (Is u32) (uint-makes 𝓤 H A W w32) r _ (refl, g) $ nothing ! $ move ! (3 ∷ 0 ∷ []) $ fjoin ! $ move ! (3 ∷ 0 ∷ []) $ fjoin ! $ move ! (3 ∷ 0 ∷ []) $ fjoin ! $ move ! (3 ∷ 0 ∷ []) $ fjoin ! $ owned ! u32 (Is u32) (uint-makes 𝓤 H A W w32) mode _ (refl, g-mode) $ fjoin ! $ owned ! u32 (Is u32) (uint-makes 𝓤 H A W w32) axes _ (refl, g-axes) $ fjoin ! $ join ! $ move ! (1 ∷ 0 ∷ []) $ join ! $ frame ! $ use0 W (raw (fact 𝓤 (Forecasted (lending axes mode job work pairs noBuffers) r work′ pairs′ report report′))) (factI 𝓤 (Forecasted (lending axes mode job work pairs noBuffers) r work′ pairs′ report report′) (emp 𝓤) e) $ done !
 
-  module _ (𝓣 : AllCalls 𝓤 H) (known-forecast : Triple 𝓤 (𝓣 .C #packer·forecast) (Forecast-of 𝓤 H A mem run)) (known-tell : Triple 𝓤 (𝓣 .C #ivs·tell) (Tell-of 𝓤 H A mem run)) (sized : Room u8 ν) (sized₂ : Room u32 ν₂) (sized₃ : Room T.the-row ν₃) where
+  module _ (𝓣 : AllCalls 𝓤 H) (known-forecast : Triple 𝓤 (𝓣 .C #packer·forecast) (Forecast-of 𝓤 H A mem run)) (known-tell : Triple 𝓤 (𝓣 .C #reporting·tell) (Tell-of 𝓤 H A mem run)) (sized : Room u8 ν) (sized₂ : Room u32 ν₂) (sized₃ : Room T.the-row ν₃) where
     abbrev C : Calls 𝓤 H
     C = 𝓣 .C
 
@@ -159,7 +159,7 @@ module _ {M : Type 1} (𝓤 : URA M) (H : Heap 𝓤) (A : Atoms 𝓤) (W : Given
           assigns ! (addr ! (from ! (hop ! (look ! 16 refl) (stop !)))) (from ! (stop !)) (init ! 4 refl (tt, tt)) $
           move ! (3 ∷ 2 ∷ []) $
           join ! $
-          use1 W (later (raw (C #ivs·tell (σ₄ ∷ σ ∷ EL.val D.the-type D′.the-laws b ∷ []) (λ w. mean 𝓤 H A (After-tell-mut-see 𝓤 H A W mem run C fm known-tell κ₄ θ₄ γ₄ β₄ ι₄ ν₄ report κ θ γ β ι ν job b w))))) (tell-mut-see 𝓤 H A W mem run C fm known-tell κ₄ θ₄ γ₄ β₄ ι₄ ν₄ report κ θ γ β ι ν job b (at-D b r-b g-b) (foretold-few (lending axes mode job work pairs noBuffers) b (e-b .1 .answer), foretold-within (lending axes mode job work pairs noBuffers) b (e-b .1 .answer))) $ await ! tt $
+          use1 W (later (raw (C #reporting·tell (σ₄ ∷ σ ∷ EL.val D.the-type D′.the-laws b ∷ []) (λ w. mean 𝓤 H A (After-tell-mut-see 𝓤 H A W mem run C fm known-tell κ₄ θ₄ γ₄ β₄ ι₄ ν₄ report κ θ γ β ι ν job b w))))) (tell-mut-see 𝓤 H A W mem run C fm known-tell κ₄ θ₄ γ₄ β₄ ι₄ ν₄ report κ θ γ β ι ν job b (at-D b r-b g-b) (foretold-few (lending axes mode job work pairs noBuffers) b (e-b .1 .answer), foretold-within (lending axes mode job work pairs noBuffers) b (e-b .1 .answer))) $ await ! tt $
           calls ! fm (After-tell-mut-see 𝓤 H A W mem run C fm known-tell κ₄ θ₄ γ₄ β₄ ι₄ ν₄ report κ θ γ β ι ν job b) (and-then ! (load ! (from ! (stop !)) (look ! 3 refl)) (and-then ! (load ! (from ! (stop !)) (look ! 21 refl)) (and-then ! (load ! (from ! (stop !)) (look ! 13 refl)) (no-more !)))) (λ r-n. await ! tt $ pick ! (λ n. pick ! (λ x-n. learn ! (λ e-n. split ! $ move ! (1 ∷ []) $ facts ! u32 (Is u32) (shows 𝓤 H A u32) n (r-n ∷ []) (λ g-n.
           land ! (from ! (stop !)) (init ! 27 refl (uint-lawful 𝓤 H A W w32 .typed n _ g-n .0)) $
           rewrite ! 27 (λ (u : Val). ‵ (fat fullShare (tyInt w32) l₀ 0 u)) (ap only (g-n .0)) refl $
@@ -218,15 +218,15 @@ module _ {M : Type 1} (𝓤 : URA M) (H : Heap 𝓤) (A : Atoms 𝓤) (W : Given
   abbrev Entry : SProp 𝓤
   Entry = onEntry 𝓤 H A ivs-forecast.signature (κ, (κ₂, (κ₃, (κ₄, tt)))) (θ, (θ₂, (θ₃, (θ₄, tt)))) (bound .0 .3) (bound .0 .4)
 
-  starts : (𝓣 : AllCalls 𝓤 H) → Triple 𝓤 (𝓣 .C #packer·forecast) (Forecast-of 𝓤 H A mem run) → Triple 𝓤 (𝓣 .C #ivs·tell) (Tell-of 𝓤 H A mem run) → Room u8 ν → Room u32 ν₂ → Room T.the-row ν₃ → ent 𝓤 (sep 𝓤 Entry (emp 𝓤)) (WpFn 𝓤 H (𝓣 .C) (𝓣 .Λ) code.function (vint w32 axes ∷ vint w32 mode ∷ σ ∷ σ₂ ∷ σ₃ ∷ σ₄ ∷ []) Post)
+  starts : (𝓣 : AllCalls 𝓤 H) → Triple 𝓤 (𝓣 .C #packer·forecast) (Forecast-of 𝓤 H A mem run) → Triple 𝓤 (𝓣 .C #reporting·tell) (Tell-of 𝓤 H A mem run) → Room u8 ν → Room u32 ν₂ → Room T.the-row ν₃ → ent 𝓤 (sep 𝓤 Entry (emp 𝓤)) (WpFn 𝓤 H (𝓣 .C) (𝓣 .Λ) code.function (vint w32 axes ∷ vint w32 mode ∷ σ ∷ σ₂ ∷ σ₃ ∷ σ₄ ∷ []) Post)
   starts 𝓣 k-forecast k-tell sized sized₂ sized₃ = needs-none 𝓤 Entry (emp 𝓤) (walk 𝓣 k-forecast k-tell sized sized₂ sized₃)
 
 module _ {M : Type 1} (𝓤 : URA M) (H : Heap 𝓤) (A : Atoms 𝓤) (W : Given 𝓤 H A) (mem : Memory → SProp 𝓤) (run : Routine → Fun 𝓤) (𝓣 : AllCalls 𝓤 H) where
-  ivs-forecast-walks : Triple 𝓤 (𝓣 .C #packer·forecast) (Forecast-of 𝓤 H A mem run) → Triple 𝓤 (𝓣 .C #ivs·tell) (Tell-of 𝓤 H A mem run) → Walks 𝓤 H A ivs-forecast.ended stayed (WpFn 𝓤 H (𝓣 .C) (𝓣 .Λ) code.function) (ivs-forecast.clauses 𝓤 H A mem run)
+  ivs-forecast-walks : Triple 𝓤 (𝓣 .C #packer·forecast) (Forecast-of 𝓤 H A mem run) → Triple 𝓤 (𝓣 .C #reporting·tell) (Tell-of 𝓤 H A mem run) → Walks 𝓤 H A ivs-forecast.ended stayed (WpFn 𝓤 H (𝓣 .C) (𝓣 .Λ) code.function) (ivs-forecast.clauses 𝓤 H A mem run)
   ivs-forecast-walks k-forecast k-tell = walked 𝓤 H A ivs-forecast.ended stayed (ivs-forecast.clauses 𝓤 H A mem run) (WpFn 𝓤 H (𝓣 .C) (𝓣 .Λ) code.function) (λ κs. (uint-vals w32, (uint-vals w32, (slice-vals, (slice-vals, (slice-vals, (ptr-vals, tt))))))) (λ κs. (uint-tells w32, (uint-tells w32, (shr-slice-tells (named 0) (κs .0) u8, (mut-slice-tells (named 1) (κs .1 .0) u32, (mut-slice-tells (named 2) (κs .1 .1 .0) T.the-row, (mut-tells (named 3) (κs .1 .1 .1 .0) (Array u64 tt 16), tt)))))))
       (λ κs qs bounds a g are. starts 𝓤 H A W mem run (κs .0) (qs .0) (a .1 .1 .0 .name) (a .1 .1 .0 .ptr .0) (a .1 .1 .0 .ptr .1) (a .1 .1 .0 .now) (κs .1 .0) (qs .1 .0) (a .1 .1 .1 .0 .name) (a .1 .1 .1 .0 .ptr .0) (a .1 .1 .1 .0 .ptr .1) (a .1 .1 .1 .0 .now) (κs .1 .1 .0) (qs .1 .1 .0) (a .1 .1 .1 .1 .0 .name) (a .1 .1 .1 .1 .0 .ptr .0) (a .1 .1 .1 .1 .0 .ptr .1) (a .1 .1 .1 .1 .0 .now) (κs .1 .1 .1 .0) (qs .1 .1 .1 .0) (a .1 .1 .1 .1 .1 .0 .name) (a .1 .1 .1 .1 .1 .0 .ptr .0) (a .1 .1 .1 .1 .1 .0 .ptr .1) (a .1 .1 .1 .1 .1 .0 .now) (a .0) (a .1 .0) (are .0 .1) (are .1 .0 .1) 𝓣 k-forecast k-tell (are .1 .1 .0 .0 .1) (are .1 .1 .1 .0 .0 .1) (are .1 .1 .1 .1 .0 .0 .1))
 
-  ivs-forecast-meets : Triple 𝓤 (𝓣 .C #packer·forecast) (Forecast-of 𝓤 H A mem run) → Triple 𝓤 (𝓣 .C #ivs·tell) (Tell-of 𝓤 H A mem run) → Meets 𝓤 H A ivs-forecast.signature (WpFn 𝓤 H (𝓣 .C) (𝓣 .Λ) code.function) (ivs-forecast.spec 𝓤 H A mem run)
+  ivs-forecast-meets : Triple 𝓤 (𝓣 .C #packer·forecast) (Forecast-of 𝓤 H A mem run) → Triple 𝓤 (𝓣 .C #reporting·tell) (Tell-of 𝓤 H A mem run) → Meets 𝓤 H A ivs-forecast.signature (WpFn 𝓤 H (𝓣 .C) (𝓣 .Λ) code.function) (ivs-forecast.spec 𝓤 H A mem run)
   ivs-forecast-meets k-forecast k-tell = walk-meets 𝓤 H A ivs-forecast.ended stayed W (goes-none 𝓤 H A W 4 (λ _. u32) yes (λ κs x f. refl), (goes-none 𝓤 H A W 4 (λ _. u32) yes (λ κs x f. refl), (goes-none-slice 𝓤 H A W 4 (0 ∷ []) tt (plain (λ _. u8)) yes, (goes-slice 𝓤 H A W 4 1 tt (plain (λ _. u32)), (goes-slice 𝓤 H A W 4 2 tt (plain (λ _. T.the-row)), (goes-ref 𝓤 H A W 4 3 tt (plain (λ _. (Array u64 tt 16))), tt)))))) (ivs-forecast.clauses 𝓤 H A mem run) (WpFn 𝓤 H (𝓣 .C) (𝓣 .Λ) code.function) (WpFn-mono 𝓤 H (W .laws) 𝓣 code.function) (ivs-forecast-walks k-forecast k-tell)
 
 pub ivs-forecast-spec : {M : Type 1} → stated.statement M
@@ -236,4 +236,4 @@ ivs-forecast-spec 𝓤 H 𝓜 𝓖 𝓡 =
     (tables 𝓤 H 𝓜 𝓡 code.env .C) (tables 𝓤 H 𝓜 𝓡 code.env .Λ) #ivs·ivs-forecast code.function (code.unfolded 𝓤 H 𝓜 𝓡)
     (ivs-forecast-meets 𝓤 H (𝓖 .A) (givenOf 𝓤 H 𝓜 𝓖) (𝓜 .mem) (𝓡 .run) (tablesOf 𝓤 H 𝓜 (tables 𝓤 H 𝓜 𝓡 code.env))
     (cited 𝓤 H (Forecast-of 𝓤 H (𝓖 .A) (𝓜 .mem) (𝓡 .run)) 𝓜 𝓡 code.env #packer·forecast forecast-def.routine code.calls-packer·forecast (forecast-thm.met 𝓤 H 𝓜 𝓖 𝓡))
-    (cited 𝓤 H (Tell-of 𝓤 H (𝓖 .A) (𝓜 .mem) (𝓡 .run)) 𝓜 𝓡 code.env #ivs·tell tell-def.routine code.calls-ivs·report·tell (tell-thm.met 𝓤 H 𝓜 𝓖 𝓡)))
+    (cited 𝓤 H (Tell-of 𝓤 H (𝓖 .A) (𝓜 .mem) (𝓡 .run)) 𝓜 𝓡 code.env #reporting·tell tell-def.routine code.calls-reporting·tell (tell-thm.met 𝓤 H 𝓜 𝓖 𝓡)))

@@ -1,4 +1,4 @@
-use Rattle.ivs.proofs.GlyphLaws.{entry-word, entry-refused}
+use Rattle.numbers.proofs.GlyphLaws.{entry-word, entry-refused}
 use native.Mathlib.Omega.{arith}
 use borrow.Author.Needs.{needs}
 use Rattle.ivs.proofs.glyph_map.ivs_read_glyph.Statement.{statement}

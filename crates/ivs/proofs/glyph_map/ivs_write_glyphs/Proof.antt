@@ -1,6 +1,6 @@
 use denote.Ref.{now}
 use lib.ListN.{length}
-use Rattle.ivs.proofs.GlyphLaws.{glyphs-done, glyphs-refused}
+use Rattle.numbers.proofs.GlyphLaws.{glyphs-done, glyphs-refused}
 use native.Mathlib.Omega.{arith}
 use borrow.Author.Needs.{needs}
 use Rattle.ivs.proofs.glyph_map.ivs_write_glyphs.Statement.{statement}

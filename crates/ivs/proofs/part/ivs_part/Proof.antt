@@ -1,15 +1,15 @@
 use mathlib.Core.Path.{_≡_, ap, _∙_}
 use Rattle.parting.specs.declared.answering.Parted.{Parted}
-use Rattle.ivs.specs.Answers.{filled}
-use Rattle.ivs.specs.PartWords.{partNumber, partWords}
-use Rattle.ivs.proofs.PartTells.{part-few, part-within}
+use Rattle.reporting.specs.Answers.{filled}
+use Rattle.part_words.specs.PartWords.{partNumber, partWords}
+use Rattle.ivs.proofs.PartLaws.{part-few, part-within}
 use native.Mathlib.Omega.{arith}
 use borrow.Author.Needs.{needs}
 use Rattle.ivs.proofs.part.ivs_part.Statement.{statement}
 use Rattle.ivs.proofs.part.ivs_part.Tie as tie
 use Rattle.ivs.proofs.part.ivs_part.Reads as reads
 use Rattle.ivs.proofs.part.ivs_part.Lts as lts
-use Rattle.ivs.proofs.part.tell_parted.Reads as tell-parted-reads
+use Rattle.part_words.proofs.tell_parted.Reads as tell-parted-reads
 use Rattle.parting.proofs.part.Reads as part-reads
 
 part-requires : tie.Need-part-requires

@@ -1,11 +1,11 @@
 use mathlib.Core.Path.{ap, _∙_}
-use Rattle.ivs.specs.Answers.{readWord}
+use Rattle.numbers.specs.ReadWords.{readWord}
 use borrow.Author.Needs.{needs}
 use Rattle.ivs.proofs.width_table.ivs_read_width.Statement.{statement}
 use Rattle.ivs.proofs.width_table.ivs_read_width.Tie as tie
 use Rattle.ivs.proofs.width_table.ivs_read_width.Reads as reads
 use Rattle.ivs.proofs.width_table.ivs_read_width.Lts as lts
-use Rattle.ivs.proofs.as_word.Reads as as-word-reads
+use Rattle.numbers.proofs.as_word.Reads as as-word-reads
 use Rattle.widths.proofs.read_width.Reads as read-width-reads
 
 read-width-requires : tie.Need-read-width-requires

@@ -1,4 +1,4 @@
-use Rattle.ivs.proofs.WidthLaws.{widths-done, widths-refused}
+use Rattle.numbers.proofs.WidthLaws.{widths-done, widths-refused}
 use borrow.Author.Needs.{needs}
 use Rattle.ivs.proofs.width_table.ivs_write_widths.Statement.{statement}
 use Rattle.ivs.proofs.width_table.ivs_write_widths.Tie as tie

@@ -37,11 +37,11 @@ use denote.Triple.Statement.{Triple}
 use denote.Triple.Table.{entered, cited}
 use denote.Triple.Walked.{Stays, stay-slice, stay-none-slice, stay-none, walkOf, goes-slice, goes-none-slice, goes-none, Walks, ends-at, walked, walk-meets}
 use denote.Exit.{yes}
-use Rattle.packer.specs.Lending.{lending, leaves}
-use Rattle.packer.specs.Build.{Obeys}
+use Rattle.call.specs.Lending.{lending, leaves}
+use Rattle.packer.specs.Promised.{Obeys}
 use Rattle.finishing.specs.Buffers.{buffers}
 use Rattle.encoder.specs.LentArranged.{tablesOf as layoutOf}
-use Rattle.packer.proofs.CloseLaws.{ready-at, joined-at, obeys}
+use Rattle.packer.proofs.BuildLaws.{ready-at, joined-at, obeys}
 use Rattle.packer.proofs.PairLaws.{used-few, pairs-enough, pairs-idle, pairs-left}
 use Rattle.pairs.specs.declared.Pair.{Pair}
 use Rattle.pairs.proofs.Pair as T
@@ -51,30 +51,30 @@ use Rattle.slots.proofs.tables.MergeTables.Laws as L′
 use Rattle.merging.specs.declared.optimizing.Merged.{Merged}
 use Rattle.merging.proofs.optimizing.Merged as D
 use Rattle.merging.proofs.optimizing.Merged.Laws as D′
-use Rattle.packer.specs.declared.opening.Stage.{Stage}
-use Rattle.packer.proofs.opening.Stage as S
-use Rattle.packer.proofs.opening.Stage.Laws as S′
+use Rattle.opening.specs.declared.opening.Stage.{Stage}
+use Rattle.opening.proofs.opening.Stage as S
+use Rattle.opening.proofs.opening.Stage.Laws as S′
 use Rattle.finishing.specs.declared.answers.Built.{Built}
 use Rattle.finishing.proofs.answers.Built as B
 use Rattle.finishing.proofs.answers.Built.Laws as B′
 use Rattle.pairs.proofs.Slices.{ref, Has, Sees}
 use Rattle.pairs.proofs.Clauses.{needs-none}
 use Rattle.packer.proofs.Calls.{mach-tables, mach-merged, places-mach, stage-mach, Open-of, Tables-of, Optimize-of, Close-of, PairsUsed-of, ClearPairs-of, clear-pairs-call, close-see-mut-mut-mut-mut-mut, lays-call, opens-see-mut, optimize-call, pairs-used-call, After-clear-pairs-call, After-close-see-mut-mut-mut-mut-mut, After-lays-call, After-opens-see-mut, After-optimize-call, After-pairs-used-call}
-use Rattle.packer.proofs.opening.open.Symbol as opens-def
-use Rattle.packer.proofs.opening.open.Symbol.{name as #packer·opens}
-use Rattle.packer.proofs.opening.open.Met as opens-thm
+use Rattle.opening.proofs.open.Symbol as opens-def
+use Rattle.opening.proofs.open.Symbol.{name as #opening·opens}
+use Rattle.opening.proofs.open.Met as opens-thm
 use Rattle.encoder.proofs.tables.Symbol as lays-def
 use Rattle.encoder.proofs.tables.Symbol.{name as #encoder·lays}
 use Rattle.encoder.proofs.tables.Met as lays-thm
 use Rattle.merging.proofs.optimize.Symbol as optimize-def
 use Rattle.merging.proofs.optimize.Symbol.{name as #merging·optimize}
 use Rattle.merging.proofs.optimize.Met as optimize-thm
-use Rattle.packer.proofs.closing.close.Symbol as close-def
-use Rattle.packer.proofs.closing.close.Symbol.{name as #packer·close}
-use Rattle.packer.proofs.closing.close.Met as close-thm
-use Rattle.packer.proofs.closing.pairs_used.Symbol as pairs-used-def
-use Rattle.packer.proofs.closing.pairs_used.Symbol.{name as #packer·pairs-used}
-use Rattle.packer.proofs.closing.pairs_used.Met as pairs-used-thm
+use Rattle.closing.proofs.close.Symbol as close-def
+use Rattle.closing.proofs.close.Symbol.{name as #closing·close}
+use Rattle.closing.proofs.close.Met as close-thm
+use Rattle.arranging.proofs.pairs_used.Symbol as pairs-used-def
+use Rattle.arranging.proofs.pairs_used.Symbol.{name as #arranging·pairs-used}
+use Rattle.arranging.proofs.pairs_used.Met as pairs-used-thm
 use Rattle.pairs.proofs.clear_pairs.Symbol as clear-pairs-def
 use Rattle.pairs.proofs.clear_pairs.Symbol.{name as #pairs·clear-pairs}
 use Rattle.pairs.proofs.clear_pairs.Met as clear-pairs-thm
@@ -190,7 +190,7 @@ module _ {M : Type 1} (𝓤 : URA M) (H : Heap 𝓤) (A : Atoms 𝓤) (W : Given
       qed W (Slice job ∷ Slice₂ work′ ∷ Slice₃ pairs′ ∷ Slice₄ out′ ∷ Slice₅ ids′ ∷ Slice₆ map′ ∷ Slice₇ log′ ∷ []) ∵ suffices ! _ (ends-at 𝓤 H A build.ended stayed (build.clauses 𝓤 H A mem run) W bound (EL.val B.the-type B′.the-laws r) r (tt, (tt, (tt, (work′, (pairs′, (out′, (ids′, (map′, (log′, tt))))))))) (tt, (tt, (tt, (long₂, (long₃, (long₄, (long₅, (long₆, (long₇, tt)))))))))) $
       split ! $ move ! (2 ∷ []) $ split ! $ move ! (4 ∷ []) $ split ! $ move ! (6 ∷ []) $ split ! $ move ! (8 ∷ []) $ split ! $ move ! (10 ∷ []) $ split ! $ move ! (12 ∷ []) $ split ! $ nothing ! $ move ! (2 ∷ 0 ∷ []) $ join ! $ move ! (3 ∷ 0 ∷ []) $ join ! $ move ! (4 ∷ 0 ∷ []) $ join ! $ move ! (5 ∷ 0 ∷ []) $ join ! $ move ! (6 ∷ 0 ∷ []) $ join ! $ move ! (7 ∷ 0 ∷ []) $ join ! $ move ! (8 ∷ 0 ∷ []) $ join ! $ owned ! B.the-row (Is B.the-row) (EL.makes B.the-type B′.the-plain 𝓤 H A) r _ g $ nothing ! $ move ! (3 ∷ 0 ∷ []) $ fjoin ! $ move ! (3 ∷ 0 ∷ []) $ fjoin ! $ move ! (3 ∷ 0 ∷ []) $ fjoin ! $ move ! (3 ∷ 0 ∷ []) $ fjoin ! $ move ! (3 ∷ 0 ∷ []) $ fjoin ! $ move ! (3 ∷ 0 ∷ []) $ fjoin ! $ move ! (3 ∷ 0 ∷ []) $ fjoin ! $ owned ! u32 (Is u32) (uint-makes 𝓤 H A W w32) mode _ (refl, g-mode) $ fjoin ! $ owned ! u32 (Is u32) (uint-makes 𝓤 H A W w32) axes _ (refl, g-axes) $ fjoin ! $ join ! $ move ! (1 ∷ 0 ∷ []) $ join ! $ frame ! $ use0 W (raw (fact 𝓤 (Obeys (lending axes mode job work pairs (buffers out ids map log)) r (leaves work′ pairs′ (buffers out′ ids′ map′ log′))))) (factI 𝓤 (Obeys (lending axes mode job work pairs (buffers out ids map log)) r (leaves work′ pairs′ (buffers out′ ids′ map′ log′))) (emp 𝓤) e) $ done !
 
-  module _ (𝓣 : AllCalls 𝓤 H) (known-opens : Triple 𝓤 (𝓣 .C #packer·opens) (Open-of 𝓤 H A mem run)) (known-lays : Triple 𝓤 (𝓣 .C #encoder·lays) (Tables-of 𝓤 H A mem run)) (known-optimize : Triple 𝓤 (𝓣 .C #merging·optimize) (Optimize-of 𝓤 H A mem run)) (known-close : Triple 𝓤 (𝓣 .C #packer·close) (Close-of 𝓤 H A mem run)) (known-pairs-used : Triple 𝓤 (𝓣 .C #packer·pairs-used) (PairsUsed-of 𝓤 H A mem run)) (known-clear-pairs : Triple 𝓤 (𝓣 .C #pairs·clear-pairs) (ClearPairs-of 𝓤 H A mem run)) (sized : Room u8 ν) (sized₂ : Room u32 ν₂) (sized₃ : Room T.the-row ν₃) (sized₄ : Room u8 ν₄) (sized₅ : Room u32 ν₅) (sized₆ : Room u32 ν₆) (sized₇ : Room u32 ν₇) where
+  module _ (𝓣 : AllCalls 𝓤 H) (known-opens : Triple 𝓤 (𝓣 .C #opening·opens) (Open-of 𝓤 H A mem run)) (known-lays : Triple 𝓤 (𝓣 .C #encoder·lays) (Tables-of 𝓤 H A mem run)) (known-optimize : Triple 𝓤 (𝓣 .C #merging·optimize) (Optimize-of 𝓤 H A mem run)) (known-close : Triple 𝓤 (𝓣 .C #closing·close) (Close-of 𝓤 H A mem run)) (known-pairs-used : Triple 𝓤 (𝓣 .C #arranging·pairs-used) (PairsUsed-of 𝓤 H A mem run)) (known-clear-pairs : Triple 𝓤 (𝓣 .C #pairs·clear-pairs) (ClearPairs-of 𝓤 H A mem run)) (sized : Room u8 ν) (sized₂ : Room u32 ν₂) (sized₃ : Room T.the-row ν₃) (sized₄ : Room u8 ν₄) (sized₅ : Room u32 ν₅) (sized₆ : Room u32 ν₆) (sized₇ : Room u32 ν₇) where
     abbrev C : Calls 𝓤 H
     C = 𝓣 .C
 
@@ -216,7 +216,7 @@ module _ {M : Type 1} (𝓤 : URA M) (H : Heap 𝓤) (A : Atoms 𝓤) (W : Given
           assigns ! (agg ! (and-then ! (load ! (from ! (stop !)) (look ! 49 refl)) (and-then ! (load ! (from ! (fld ! refl (stop !))) (look-in ! 67 (sub ! 1 refl (whole !)))) (no-more !)))) (from ! (stop !)) (init ! 47 refl (tt, (tt, (record { fits = sized₂ .0 }, tt)))) $
           assigns ! (of-opd ! (load ! (from ! (fld ! refl (stop !))) (look-in ! 65 (sub ! 1 refl (whole !))))) (from ! (stop !)) (init ! 45 refl (tt, record { fits = (sized₃ .0) })) $
           join ! $
-          use1 W (later (raw (C #packer·opens (vint w32 axes ∷ vint w32 mode ∷ σ ∷ σ₂ ∷ vint w64 ν₃ ∷ []) (λ w. mean 𝓤 H A (After-opens-see-mut 𝓤 H A W mem run C fm known-opens κ θ γ β ι ν job κ₂ θ₂ γ₂ β₂ ι₂ ν₂ work axes mode ν₃ w))))) (opens-see-mut 𝓤 H A W mem run C fm known-opens κ θ γ β ι ν job κ₂ θ₂ γ₂ β₂ ι₂ ν₂ work axes mode ν₃ refl sized₂ g-axes g-mode (sized₃ .0)) $ await ! tt $
+          use1 W (later (raw (C #opening·opens (vint w32 axes ∷ vint w32 mode ∷ σ ∷ σ₂ ∷ vint w64 ν₃ ∷ []) (λ w. mean 𝓤 H A (After-opens-see-mut 𝓤 H A W mem run C fm known-opens κ θ γ β ι ν job κ₂ θ₂ γ₂ β₂ ι₂ ν₂ work axes mode ν₃ w))))) (opens-see-mut 𝓤 H A W mem run C fm known-opens κ θ γ β ι ν job κ₂ θ₂ γ₂ β₂ ι₂ ν₂ work axes mode ν₃ refl sized₂ g-axes g-mode (sized₃ .0)) $ await ! tt $
           calls ! fm (After-opens-see-mut 𝓤 H A W mem run C fm known-opens κ θ γ β ι ν job κ₂ θ₂ γ₂ β₂ ι₂ ν₂ work axes mode ν₃) (and-then ! (load ! (from ! (stop !)) (look ! 72 refl)) (and-then ! (load ! (from ! (stop !)) (look ! 70 refl)) (and-then ! (load ! (from ! (stop !)) (look ! 68 refl)) (and-then ! (load ! (from ! (stop !)) (look ! 46 refl)) (and-then ! (load ! (from ! (stop !)) (look ! 44 refl)) (no-more !)))))) (λ r-s. await ! tt $ pick ! (λ s. pick ! (λ x-s. learn ! (λ e-s. split ! $ move ! (1 ∷ []) $ facts ! S.the-row (Is S.the-row) (shows 𝓤 H A S.the-row) s (r-s ∷ []) (λ g-s.
           land ! (from ! (stop !)) (init ! 54 refl (LL.lawful S.the-type S′.the-laws 𝓤 H A W .typed s _ g-s .0)) $
           rewrite ! 54 (λ (u : Val). ‵ (fat fullShare (S′.mir) l₁₀ 0 u)) (spelt-S s r-s g-s) refl $
@@ -256,7 +256,7 @@ module _ {M : Type 1} (𝓤 : URA M) (H : Heap 𝓤) (A : Atoms 𝓤) (W : Given
           join ! $
           move ! (2 ∷ 0 ∷ []) $
           join ! $
-          use1 W (later (raw (C #packer·close (σ ∷ σ₂ ∷ stage-mach s ∷ mach-merged m ∷ σ₄ ∷ σ₅ ∷ σ₆ ∷ σ₇ ∷ []) (λ w. mean 𝓤 H A (After-close-see-mut-mut-mut-mut-mut 𝓤 H A W mem run C fm known-close κ θ γ β ι ν job κ₂ θ₂ γ₂ β₂ ι₂ ν₂ (x-m .1) κ₄ θ₄ γ₄ β₄ ι₄ ν₄ out κ₅ θ₅ γ₅ β₅ ι₅ ν₅ ids κ₆ θ₆ γ₆ β₆ ι₆ ν₆ map κ₇ θ₇ γ₇ β₇ ι₇ ν₇ log s m w))))) (close-see-mut-mut-mut-mut-mut 𝓤 H A W mem run C fm known-close κ θ γ β ι ν job κ₂ θ₂ γ₂ β₂ ι₂ ν₂ (x-m .1) κ₄ θ₄ γ₄ β₄ ι₄ ν₄ out κ₅ θ₅ γ₅ β₅ ι₅ ν₅ ids κ₆ θ₆ γ₆ β₆ ι₆ ν₆ map κ₇ θ₇ γ₇ β₇ ι₇ ν₇ log s m (e-m .0 .1) refl refl refl refl sized₂ sized₄ sized₅ sized₆ sized₇ (at-S s r-s g-s) (at-D m r-m g-m) (record { axes = axes; mode = mode; old = work; pairs = length pairs; mid = x-s .1; opened = e-s .1; joined = joined-at tb s e-tb (e-m .1 .0) })) $ await ! tt $
+          use1 W (later (raw (C #closing·close (σ ∷ σ₂ ∷ stage-mach s ∷ mach-merged m ∷ σ₄ ∷ σ₅ ∷ σ₆ ∷ σ₇ ∷ []) (λ w. mean 𝓤 H A (After-close-see-mut-mut-mut-mut-mut 𝓤 H A W mem run C fm known-close κ θ γ β ι ν job κ₂ θ₂ γ₂ β₂ ι₂ ν₂ (x-m .1) κ₄ θ₄ γ₄ β₄ ι₄ ν₄ out κ₅ θ₅ γ₅ β₅ ι₅ ν₅ ids κ₆ θ₆ γ₆ β₆ ι₆ ν₆ map κ₇ θ₇ γ₇ β₇ ι₇ ν₇ log s m w))))) (close-see-mut-mut-mut-mut-mut 𝓤 H A W mem run C fm known-close κ θ γ β ι ν job κ₂ θ₂ γ₂ β₂ ι₂ ν₂ (x-m .1) κ₄ θ₄ γ₄ β₄ ι₄ ν₄ out κ₅ θ₅ γ₅ β₅ ι₅ ν₅ ids κ₆ θ₆ γ₆ β₆ ι₆ ν₆ map κ₇ θ₇ γ₇ β₇ ι₇ ν₇ log s m (e-m .0 .1) refl refl refl refl sized₂ sized₄ sized₅ sized₆ sized₇ (at-S s r-s g-s) (at-D m r-m g-m) (record { axes = axes; mode = mode; old = work; pairs = length pairs; mid = x-s .1; opened = e-s .1; joined = joined-at tb s e-tb (e-m .1 .0) })) $ await ! tt $
           calls ! fm (After-close-see-mut-mut-mut-mut-mut 𝓤 H A W mem run C fm known-close κ θ γ β ι ν job κ₂ θ₂ γ₂ β₂ ι₂ ν₂ (x-m .1) κ₄ θ₄ γ₄ β₄ ι₄ ν₄ out κ₅ θ₅ γ₅ β₅ ι₅ ν₅ ids κ₆ θ₆ γ₆ β₆ ι₆ ν₆ map κ₇ θ₇ γ₇ β₇ ι₇ ν₇ log s m) (and-then ! (load ! (from ! (stop !)) (look ! 64 refl)) (and-then ! (load ! (from ! (stop !)) (look ! 26 refl)) (and-then ! (load ! (from ! (stop !)) (look ! 50 refl)) (and-then ! (load ! (from ! (stop !)) (look ! 48 refl)) (and-then ! (load ! (from ! (stop !)) (look ! 22 refl)) (and-then ! (load ! (from ! (stop !)) (look ! 18 refl)) (and-then ! (load ! (from ! (stop !)) (look ! 14 refl)) (and-then ! (load ! (from ! (stop !)) (look ! 10 refl)) (no-more !))))))))) (λ r-b. await ! tt $ pick ! (λ b. pick ! (λ x-b. learn ! (λ e-b. split ! $ move ! (1 ∷ []) $ facts ! B.the-row (Is B.the-row) (shows 𝓤 H A B.the-row) b (r-b ∷ []) (λ g-b.
           land ! (from ! (stop !)) (init ! 46 refl (EL.lawful B.the-type B′.the-laws 𝓤 H A W tt .typed b _ g-b .0)) $
           rewrite ! 46 (λ (u : Val). ‵ (fat fullShare (B′.mir) l₁₂ 0 u)) (spelt-B b r-b g-b) refl $
@@ -272,7 +272,7 @@ module _ {M : Type 1} (𝓤 : URA M) (H : Heap 𝓤) (A : Atoms 𝓤) (W : Given
           assigns ! (addr ! (from ! (fld ! refl (hop ! (look-in ! 65 (sub ! 0 refl (whole !))) (stop !))))) (from ! (stop !)) (init ! 11 refl (tt, tt)) $
           assigns ! (agg ! (and-then ! (load ! (from ! (stop !)) (look ! 11 refl)) (and-then ! (load ! (from ! (fld ! refl (stop !))) (look-in ! 65 (sub ! 1 refl (whole !)))) (no-more !)))) (from ! (stop !)) (init ! 9 refl (tt, (tt, (record { fits = sized₃ .0 }, tt)))) $
           assigns ! (of-opd ! (load ! (from ! (fld ! refl (stop !))) (look-in ! 65 (sub ! 1 refl (whole !))))) (from ! (stop !)) (init ! 7 refl (tt, record { fits = (sized₃ .0) })) $
-          use0 W (raw (C #packer·pairs-used (stage-mach s ∷ vint w64 ν₃ ∷ []) (λ w. mean 𝓤 H A (After-pairs-used-call 𝓤 H A W mem run C fm known-pairs-used s ν₃ w)))) (pairs-used-call 𝓤 H A W mem run C fm known-pairs-used s ν₃ (at-S s r-s g-s) (sized₃ .0)) $
+          use0 W (raw (C #arranging·pairs-used (stage-mach s ∷ vint w64 ν₃ ∷ []) (λ w. mean 𝓤 H A (After-pairs-used-call 𝓤 H A W mem run C fm known-pairs-used s ν₃ w)))) (pairs-used-call 𝓤 H A W mem run C fm known-pairs-used s ν₃ (at-S s r-s g-s) (sized₃ .0)) $
           calls ! fm (After-pairs-used-call 𝓤 H A W mem run C fm known-pairs-used s ν₃) (and-then ! (load ! (from ! (stop !)) (look ! 56 refl)) (and-then ! (load ! (from ! (stop !)) (look ! 8 refl)) (no-more !))) (λ r-n. await ! tt $ pick ! (λ n. learn ! (λ e-n. facts ! usize (Is usize) (shows 𝓤 H A usize) n (r-n ∷ []) (λ g-n.
           land ! (from ! (stop !)) (store ! 45 refl (uint-lawful 𝓤 H A W w64 .typed n _ g-n .0)) $
           rewrite ! 45 (λ (u : Val). ‵ (fat fullShare (tyInt w64) l₁₅ 0 u)) (ap only (g-n .0)) refl $
@@ -353,15 +353,15 @@ module _ {M : Type 1} (𝓤 : URA M) (H : Heap 𝓤) (A : Atoms 𝓤) (W : Given
   abbrev Entry : SProp 𝓤
   Entry = onEntry 𝓤 H A build.signature (κ, (κ₂, (κ₃, (κ₄, (κ₅, (κ₆, (κ₇, tt))))))) (θ, (θ₂, (θ₃, (θ₄, (θ₅, (θ₆, (θ₇, tt))))))) (bound .0 .3) (bound .0 .4)
 
-  starts : (𝓣 : AllCalls 𝓤 H) → Triple 𝓤 (𝓣 .C #packer·opens) (Open-of 𝓤 H A mem run) → Triple 𝓤 (𝓣 .C #encoder·lays) (Tables-of 𝓤 H A mem run) → Triple 𝓤 (𝓣 .C #merging·optimize) (Optimize-of 𝓤 H A mem run) → Triple 𝓤 (𝓣 .C #packer·close) (Close-of 𝓤 H A mem run) → Triple 𝓤 (𝓣 .C #packer·pairs-used) (PairsUsed-of 𝓤 H A mem run) → Triple 𝓤 (𝓣 .C #pairs·clear-pairs) (ClearPairs-of 𝓤 H A mem run) → Room u8 ν → Room u32 ν₂ → Room T.the-row ν₃ → Room u8 ν₄ → Room u32 ν₅ → Room u32 ν₆ → Room u32 ν₇ → ent 𝓤 (sep 𝓤 Entry (emp 𝓤)) (WpFn 𝓤 H (𝓣 .C) (𝓣 .Λ) code.function (vint w32 axes ∷ vint w32 mode ∷ σ ∷ σ₂ ∷ σ₃ ∷ σ₄ ∷ σ₅ ∷ σ₆ ∷ σ₇ ∷ []) Post)
+  starts : (𝓣 : AllCalls 𝓤 H) → Triple 𝓤 (𝓣 .C #opening·opens) (Open-of 𝓤 H A mem run) → Triple 𝓤 (𝓣 .C #encoder·lays) (Tables-of 𝓤 H A mem run) → Triple 𝓤 (𝓣 .C #merging·optimize) (Optimize-of 𝓤 H A mem run) → Triple 𝓤 (𝓣 .C #closing·close) (Close-of 𝓤 H A mem run) → Triple 𝓤 (𝓣 .C #arranging·pairs-used) (PairsUsed-of 𝓤 H A mem run) → Triple 𝓤 (𝓣 .C #pairs·clear-pairs) (ClearPairs-of 𝓤 H A mem run) → Room u8 ν → Room u32 ν₂ → Room T.the-row ν₃ → Room u8 ν₄ → Room u32 ν₅ → Room u32 ν₆ → Room u32 ν₇ → ent 𝓤 (sep 𝓤 Entry (emp 𝓤)) (WpFn 𝓤 H (𝓣 .C) (𝓣 .Λ) code.function (vint w32 axes ∷ vint w32 mode ∷ σ ∷ σ₂ ∷ σ₃ ∷ σ₄ ∷ σ₅ ∷ σ₆ ∷ σ₇ ∷ []) Post)
   starts 𝓣 k-opens k-lays k-optimize k-close k-pairs-used k-clear-pairs sized sized₂ sized₃ sized₄ sized₅ sized₆ sized₇ = needs-none 𝓤 Entry (emp 𝓤) (walk 𝓣 k-opens k-lays k-optimize k-close k-pairs-used k-clear-pairs sized sized₂ sized₃ sized₄ sized₅ sized₆ sized₇)
 
 module _ {M : Type 1} (𝓤 : URA M) (H : Heap 𝓤) (A : Atoms 𝓤) (W : Given 𝓤 H A) (mem : Memory → SProp 𝓤) (run : Routine → Fun 𝓤) (𝓣 : AllCalls 𝓤 H) where
-  build-walks : Triple 𝓤 (𝓣 .C #packer·opens) (Open-of 𝓤 H A mem run) → Triple 𝓤 (𝓣 .C #encoder·lays) (Tables-of 𝓤 H A mem run) → Triple 𝓤 (𝓣 .C #merging·optimize) (Optimize-of 𝓤 H A mem run) → Triple 𝓤 (𝓣 .C #packer·close) (Close-of 𝓤 H A mem run) → Triple 𝓤 (𝓣 .C #packer·pairs-used) (PairsUsed-of 𝓤 H A mem run) → Triple 𝓤 (𝓣 .C #pairs·clear-pairs) (ClearPairs-of 𝓤 H A mem run) → Walks 𝓤 H A build.ended stayed (WpFn 𝓤 H (𝓣 .C) (𝓣 .Λ) code.function) (build.clauses 𝓤 H A mem run)
+  build-walks : Triple 𝓤 (𝓣 .C #opening·opens) (Open-of 𝓤 H A mem run) → Triple 𝓤 (𝓣 .C #encoder·lays) (Tables-of 𝓤 H A mem run) → Triple 𝓤 (𝓣 .C #merging·optimize) (Optimize-of 𝓤 H A mem run) → Triple 𝓤 (𝓣 .C #closing·close) (Close-of 𝓤 H A mem run) → Triple 𝓤 (𝓣 .C #arranging·pairs-used) (PairsUsed-of 𝓤 H A mem run) → Triple 𝓤 (𝓣 .C #pairs·clear-pairs) (ClearPairs-of 𝓤 H A mem run) → Walks 𝓤 H A build.ended stayed (WpFn 𝓤 H (𝓣 .C) (𝓣 .Λ) code.function) (build.clauses 𝓤 H A mem run)
   build-walks k-opens k-lays k-optimize k-close k-pairs-used k-clear-pairs = walked 𝓤 H A build.ended stayed (build.clauses 𝓤 H A mem run) (WpFn 𝓤 H (𝓣 .C) (𝓣 .Λ) code.function) (λ κs. (uint-vals w32, (uint-vals w32, (slice-vals, (slice-vals, (slice-vals, (slice-vals, (slice-vals, (slice-vals, (slice-vals, tt)))))))))) (λ κs. (uint-tells w32, (uint-tells w32, (shr-slice-tells (named 0) (κs .0) u8, (mut-slice-tells (named 1) (κs .1 .0) u32, (mut-slice-tells (named 2) (κs .1 .1 .0) T.the-row, (mut-slice-tells (named 3) (κs .1 .1 .1 .0) u8, (mut-slice-tells (named 4) (κs .1 .1 .1 .1 .0) u32, (mut-slice-tells (named 5) (κs .1 .1 .1 .1 .1 .0) u32, (mut-slice-tells (named 6) (κs .1 .1 .1 .1 .1 .1 .0) u32, tt))))))))))
       (λ κs qs bounds a g are. starts 𝓤 H A W mem run (κs .0) (qs .0) (a .1 .1 .0 .name) (a .1 .1 .0 .ptr .0) (a .1 .1 .0 .ptr .1) (a .1 .1 .0 .now) (κs .1 .0) (qs .1 .0) (a .1 .1 .1 .0 .name) (a .1 .1 .1 .0 .ptr .0) (a .1 .1 .1 .0 .ptr .1) (a .1 .1 .1 .0 .now) (κs .1 .1 .0) (qs .1 .1 .0) (a .1 .1 .1 .1 .0 .name) (a .1 .1 .1 .1 .0 .ptr .0) (a .1 .1 .1 .1 .0 .ptr .1) (a .1 .1 .1 .1 .0 .now) (κs .1 .1 .1 .0) (qs .1 .1 .1 .0) (a .1 .1 .1 .1 .1 .0 .name) (a .1 .1 .1 .1 .1 .0 .ptr .0) (a .1 .1 .1 .1 .1 .0 .ptr .1) (a .1 .1 .1 .1 .1 .0 .now) (κs .1 .1 .1 .1 .0) (qs .1 .1 .1 .1 .0) (a .1 .1 .1 .1 .1 .1 .0 .name) (a .1 .1 .1 .1 .1 .1 .0 .ptr .0) (a .1 .1 .1 .1 .1 .1 .0 .ptr .1) (a .1 .1 .1 .1 .1 .1 .0 .now) (κs .1 .1 .1 .1 .1 .0) (qs .1 .1 .1 .1 .1 .0) (a .1 .1 .1 .1 .1 .1 .1 .0 .name) (a .1 .1 .1 .1 .1 .1 .1 .0 .ptr .0) (a .1 .1 .1 .1 .1 .1 .1 .0 .ptr .1) (a .1 .1 .1 .1 .1 .1 .1 .0 .now) (κs .1 .1 .1 .1 .1 .1 .0) (qs .1 .1 .1 .1 .1 .1 .0) (a .1 .1 .1 .1 .1 .1 .1 .1 .0 .name) (a .1 .1 .1 .1 .1 .1 .1 .1 .0 .ptr .0) (a .1 .1 .1 .1 .1 .1 .1 .1 .0 .ptr .1) (a .1 .1 .1 .1 .1 .1 .1 .1 .0 .now) (a .0) (a .1 .0) (are .0 .1) (are .1 .0 .1) 𝓣 k-opens k-lays k-optimize k-close k-pairs-used k-clear-pairs (are .1 .1 .0 .0 .1) (are .1 .1 .1 .0 .0 .1) (are .1 .1 .1 .1 .0 .0 .1) (are .1 .1 .1 .1 .1 .0 .0 .1) (are .1 .1 .1 .1 .1 .1 .0 .0 .1) (are .1 .1 .1 .1 .1 .1 .1 .0 .0 .1) (are .1 .1 .1 .1 .1 .1 .1 .1 .0 .0 .1))
 
-  build-meets : Triple 𝓤 (𝓣 .C #packer·opens) (Open-of 𝓤 H A mem run) → Triple 𝓤 (𝓣 .C #encoder·lays) (Tables-of 𝓤 H A mem run) → Triple 𝓤 (𝓣 .C #merging·optimize) (Optimize-of 𝓤 H A mem run) → Triple 𝓤 (𝓣 .C #packer·close) (Close-of 𝓤 H A mem run) → Triple 𝓤 (𝓣 .C #packer·pairs-used) (PairsUsed-of 𝓤 H A mem run) → Triple 𝓤 (𝓣 .C #pairs·clear-pairs) (ClearPairs-of 𝓤 H A mem run) → Meets 𝓤 H A build.signature (WpFn 𝓤 H (𝓣 .C) (𝓣 .Λ) code.function) (build.spec 𝓤 H A mem run)
+  build-meets : Triple 𝓤 (𝓣 .C #opening·opens) (Open-of 𝓤 H A mem run) → Triple 𝓤 (𝓣 .C #encoder·lays) (Tables-of 𝓤 H A mem run) → Triple 𝓤 (𝓣 .C #merging·optimize) (Optimize-of 𝓤 H A mem run) → Triple 𝓤 (𝓣 .C #closing·close) (Close-of 𝓤 H A mem run) → Triple 𝓤 (𝓣 .C #arranging·pairs-used) (PairsUsed-of 𝓤 H A mem run) → Triple 𝓤 (𝓣 .C #pairs·clear-pairs) (ClearPairs-of 𝓤 H A mem run) → Meets 𝓤 H A build.signature (WpFn 𝓤 H (𝓣 .C) (𝓣 .Λ) code.function) (build.spec 𝓤 H A mem run)
   build-meets k-opens k-lays k-optimize k-close k-pairs-used k-clear-pairs = walk-meets 𝓤 H A build.ended stayed W (goes-none 𝓤 H A W 7 (λ _. u32) yes (λ κs x f. refl), (goes-none 𝓤 H A W 7 (λ _. u32) yes (λ κs x f. refl), (goes-none-slice 𝓤 H A W 7 (0 ∷ []) tt (plain (λ _. u8)) yes, (goes-slice 𝓤 H A W 7 1 tt (plain (λ _. u32)), (goes-slice 𝓤 H A W 7 2 tt (plain (λ _. T.the-row)), (goes-slice 𝓤 H A W 7 3 tt (plain (λ _. u8)), (goes-slice 𝓤 H A W 7 4 tt (plain (λ _. u32)), (goes-slice 𝓤 H A W 7 5 tt (plain (λ _. u32)), (goes-slice 𝓤 H A W 7 6 tt (plain (λ _. u32)), tt))))))))) (build.clauses 𝓤 H A mem run) (WpFn 𝓤 H (𝓣 .C) (𝓣 .Λ) code.function) (WpFn-mono 𝓤 H (W .laws) 𝓣 code.function) (build-walks k-opens k-lays k-optimize k-close k-pairs-used k-clear-pairs)
 
 pub build-spec : {M : Type 1} → stated.statement M
@@ -370,9 +370,9 @@ build-spec 𝓤 H 𝓜 𝓖 𝓡 =
     entered 𝓤 H (tripleOf 𝓤 H (𝓖 .A) build.signature (build.spec 𝓤 H (𝓖 .A) (𝓜 .mem) (𝓡 .run)))
     (tables 𝓤 H 𝓜 𝓡 code.env .C) (tables 𝓤 H 𝓜 𝓡 code.env .Λ) #packer·build code.function (code.unfolded 𝓤 H 𝓜 𝓡)
     (build-meets 𝓤 H (𝓖 .A) (givenOf 𝓤 H 𝓜 𝓖) (𝓜 .mem) (𝓡 .run) (tablesOf 𝓤 H 𝓜 (tables 𝓤 H 𝓜 𝓡 code.env))
-    (cited 𝓤 H (Open-of 𝓤 H (𝓖 .A) (𝓜 .mem) (𝓡 .run)) 𝓜 𝓡 code.env #packer·opens opens-def.routine code.calls-packer·opening·open (opens-thm.met 𝓤 H 𝓜 𝓖 𝓡))
+    (cited 𝓤 H (Open-of 𝓤 H (𝓖 .A) (𝓜 .mem) (𝓡 .run)) 𝓜 𝓡 code.env #opening·opens opens-def.routine code.calls-opening·open (opens-thm.met 𝓤 H 𝓜 𝓖 𝓡))
     (cited 𝓤 H (Tables-of 𝓤 H (𝓖 .A) (𝓜 .mem) (𝓡 .run)) 𝓜 𝓡 code.env #encoder·lays lays-def.routine code.calls-encoder·tables (lays-thm.met 𝓤 H 𝓜 𝓖 𝓡))
     (cited 𝓤 H (Optimize-of 𝓤 H (𝓖 .A) (𝓜 .mem) (𝓡 .run)) 𝓜 𝓡 code.env #merging·optimize optimize-def.routine code.calls-merging·optimize (optimize-thm.met 𝓤 H 𝓜 𝓖 𝓡))
-    (cited 𝓤 H (Close-of 𝓤 H (𝓖 .A) (𝓜 .mem) (𝓡 .run)) 𝓜 𝓡 code.env #packer·close close-def.routine code.calls-packer·closing·close (close-thm.met 𝓤 H 𝓜 𝓖 𝓡))
-    (cited 𝓤 H (PairsUsed-of 𝓤 H (𝓖 .A) (𝓜 .mem) (𝓡 .run)) 𝓜 𝓡 code.env #packer·pairs-used pairs-used-def.routine code.calls-packer·closing·pairs-used (pairs-used-thm.met 𝓤 H 𝓜 𝓖 𝓡))
+    (cited 𝓤 H (Close-of 𝓤 H (𝓖 .A) (𝓜 .mem) (𝓡 .run)) 𝓜 𝓡 code.env #closing·close close-def.routine code.calls-closing·close (close-thm.met 𝓤 H 𝓜 𝓖 𝓡))
+    (cited 𝓤 H (PairsUsed-of 𝓤 H (𝓖 .A) (𝓜 .mem) (𝓡 .run)) 𝓜 𝓡 code.env #arranging·pairs-used pairs-used-def.routine code.calls-arranging·pairs-used (pairs-used-thm.met 𝓤 H 𝓜 𝓖 𝓡))
     (cited 𝓤 H (ClearPairs-of 𝓤 H (𝓖 .A) (𝓜 .mem) (𝓡 .run)) 𝓜 𝓡 code.env #pairs·clear-pairs clear-pairs-def.routine code.calls-pairs·clear-pairs (clear-pairs-thm.met 𝓤 H 𝓜 𝓖 𝓡)))

@@ -1,0 +1,12 @@
+pub mod Accepted
+pub mod ForetoldLaws
+pub mod ListBack
+pub mod ManyLaws
+pub mod PackedLaws
+pub mod PastLaws
+pub mod PlainBack
+pub mod ReadBack
+pub mod RowsBack
+pub mod RunSound
+pub mod ShortLaws
+pub mod WholeBack

@@ -1,0 +1,4 @@
+pub mod NoneLaws
+pub mod PackLaws
+pub mod StageLaws
+pub mod UsedLaws

@@ -1,0 +1,17 @@
+pub mod Buffers
+pub mod BytesBack
+pub mod CutForecast
+pub mod Demand1
+pub mod Demand2
+pub mod Demand3
+pub mod EarlyRows
+pub mod EndRow
+pub mod Examples
+pub mod ForetoldLaws
+pub mod JoinSteps
+pub mod LateRows
+pub mod OutcomeRows
+pub mod PastBack
+pub mod PlainRows
+pub mod RecordRows
+pub mod SizesBack

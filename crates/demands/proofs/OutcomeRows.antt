@@ -1,0 +1,158 @@
+-- Which part of a build answers: the tests before the records, a record, the end of the job, or the tests after it. Assumes nothing.
+use mathlib.Core.Path.{_≡_, refl, sym, ap, subst, _∙_}
+use mathlib.Core.Logic.{_⊎_, inl, inr, ⊎-elim}
+use Prim.Native.Nat.{ℕ, zero, suc, _/_, _≤_, _<_}
+use native.Mathlib.Omega.{arith}
+use lib.ListN.{length}
+use borrow.Author.Tests.{ne-eqb}
+use Rattle.laws.proofs.Cases.{lt-or-ge, same-or-not}
+use Rattle.said.specs.Refusals.{earlyNo}
+use Rattle.said.specs.Job.{Said, inAxes, Outcome, refused, fine, recordsFrom, outcome, outcomeFrom}
+use Rattle.finishing.specs.declared.answers.Built.the-variants.{Refused, Done}
+use Rattle.finishing.specs.Buffers.{Lengths, lengths}
+use Rattle.finishing.specs.Late.{lateNo, lateAnswer, reportOf}
+use Rattle.call.specs.Lending.{Lending}
+use Rattle.call.specs.Build.{coordsInUse, packedOf, answerFrom, outcomeOf, answerOf}
+use Rattle.refusing.proofs.FailedLaws.{among}
+use Rattle.refusing.proofs.WalkEnds.{walk-no}
+
+-- ---- the numbers of each part
+
+early-some : (axes mode bytes work pairs : ℕ) → (earlyNo axes mode bytes work pairs ≡ 0) ⊎ ((1 ≤ earlyNo axes mode bytes work pairs) × (earlyNo axes mode bytes work pairs ≤ 4))
+unfolding earlyNo
+early-some axes mode bytes work pairs =
+    among 1 4 _
+    ((omega arith, omega arith), ((omega arith, omega arith), ((omega arith, omega arith), ((omega arith, omega arith), ((omega arith, omega arith), tt)))))
+
+pub early-few : (axes mode bytes work pairs : ℕ) → earlyNo axes mode bytes work pairs ≤ 4
+early-few axes mode bytes work pairs =
+    ⊎-elim (λ (z : earlyNo axes mode bytes work pairs ≡ 0). omega arith) (λ (z : (1 ≤ earlyNo axes mode bytes work pairs) × (earlyNo axes mode bytes work pairs ≤ 4)). z .1)
+    (early-some axes mode bytes work pairs)
+
+pub late-many : (axes : ℕ) (s : Said) (mode : ℕ) (l : Lengths)
+    → (lateNo axes (coordsInUse s) (packedOf mode s) l ≡ 0) ⊎ ((10 ≤ lateNo axes (coordsInUse s) (packedOf mode s) l) × (lateNo axes (coordsInUse s) (packedOf mode s) l ≤ 14))
+unfolding lateNo
+late-many axes s mode l =
+    among 10 14 _ ((omega arith, omega arith), ((omega arith, omega arith), ((omega arith, omega arith), ((omega arith, omega arith), ((omega arith, omega arith), tt)))))
+
+-- ---- the outcome
+
+module _ (c : Lending) where
+  abbrev pub walked : Outcome
+  walked = recordsFrom (c .axes) (c .mode) (c .job) (c .job) (length (c .job) / 12) 0 inAxes
+
+  abbrev pub early : ℕ
+  early = earlyNo (c .axes) (c .mode) (length (c .job)) (length (c .work)) (length (c .pairs))
+
+  pub outcome-early : (n : ℕ) → early ≡ n → 0 < n → outcomeOf c ≡ refused n 0
+  unfolding outcome
+  outcome-early n e h = go early e
+    where
+      go : (k : ℕ) → k ≡ n → outcomeFrom k walked ≡ refused n 0
+      go zero f = absurd (omega arith)
+      go (suc k) f = unfold outcomeFrom in ap (λ (x : ℕ). refused x 0) f
+
+  pub outcome-walked : early ≡ 0 → outcomeOf c ≡ walked
+  unfolding outcome outcomeFrom
+  outcome-walked e = rw e
+
+  -- where none of 1 to 4 is given, records answer; else the number at place 0
+  pub outcome-by : (early ≡ 0) ⊎ ((0 < early) × (outcomeOf c ≡ refused early 0))
+  outcome-by = ⊎-elim inl (λ d. let h : 0 < early = omega arith in inr (h, outcome-early early refl h)) (same-or-not early 0)
+
+  pub early-only : (n p : ℕ) → n ≤ 4 → outcomeOf c ≡ refused n p → (early ≡ n) × (p ≡ 0)
+  early-only n p h e = ⊎-elim none some outcome-by
+    where
+      none : early ≡ 0 → (early ≡ n) × (p ≡ 0)
+      none z = let w = walk-no (c .axes) (c .mode) (c .job) (length (c .job) / 12) n p (sym (outcome-walked z) ∙ e) in let l = w .low in absurd (omega arith)
+
+      some : (0 < early) × (outcomeOf c ≡ refused early 0) → (early ≡ n) × (p ≡ 0)
+      some f = let g = f .1 in let a : early ≡ n = cc in let b : p ≡ 0 = cc in (a, b)
+
+  pub walked-only : (o : Outcome) → ((n p : ℕ) → o ≡ refused n p → 5 ≤ n) → outcomeOf c ≡ o → (early ≡ 0) × (walked ≡ o)
+  walked-only o d e = ⊎-elim none some outcome-by
+    where
+      none : early ≡ 0 → (early ≡ 0) × (walked ≡ o)
+      none z = (z, sym (outcome-walked z) ∙ e)
+
+      some : (0 < early) × (outcomeOf c ≡ refused early 0) → (early ≡ 0) × (walked ≡ o)
+      some f = let b = early-few (c .axes) (c .mode) (length (c .job)) (length (c .work)) (length (c .pairs)) in let a = d early 0 (sym e ∙ f .1) in absurd (omega arith)
+
+-- ---- the answer
+
+-- the numbers of a job's refusals
+pub record JobNo (n : ℕ) : Type 0 where
+  pub some : 0 < n
+  pub most : n ≤ 34
+  pub gap : 9 < n → 30 ≤ n
+  pub not-five : n ≡ 5 → ⊥
+
+module _ (c : Lending) where
+  -- the number of the tests after the records
+  abbrev pub late : Said → ℕ
+  late s = lateNo (c .axes) (coordsInUse s) (packedOf (c .mode) s) (lengths (c .lent))
+
+  pub answer-refused : (n p : ℕ) → outcomeOf c ≡ refused n p → answerOf c ≡ Refused n p
+  unfolding answerOf answerFrom
+  answer-refused n p e = rw e
+
+  pub answer-late : (s : Said) (n : ℕ) → outcomeOf c ≡ fine s → late s ≡ n → 0 < n → answerOf c ≡ Refused n 0
+  unfolding answerOf answerFrom lateAnswer
+  answer-late s n e f h = rw (e, f, ne-eqb n 0 (λ (z : n ≡ 0). omega arith))
+
+  pub answer-done : (s : Said) → outcomeOf c ≡ fine s → late s ≡ 0 → answerOf c ≡ Done (reportOf (c .axes) (coordsInUse s) (packedOf (c .mode) s))
+  unfolding answerOf answerFrom lateAnswer
+  answer-done s e f = rw (e, f)
+
+  -- who answers
+  pub data Answers : Type 0 where
+    by-job : (n p : ℕ) → outcomeOf c ≡ refused n p → answerOf c ≡ Refused n p → JobNo n → Answers
+    by-late : (s : Said) → outcomeOf c ≡ fine s → (10 ≤ late s) × (late s ≤ 14) → answerOf c ≡ Refused (late s) 0 → Answers
+    done : (s : Said) → outcomeOf c ≡ fine s → late s ≡ 0 → answerOf c ≡ Done (reportOf (c .axes) (coordsInUse s) (packedOf (c .mode) s)) → Answers
+
+  pub answers : Answers
+  answers = go (outcomeOf c) refl
+    where
+      few : (n p : ℕ) → outcomeOf c ≡ refused n p → JobNo n
+      few n p e =
+          ⊎-elim (λ z. let w = walk-no (c .axes) (c .mode) (c .job) (length (c .job) / 12) n p (sym (outcome-walked c z) ∙ e) in let l = w .low in record { some = omega arith; most = w .high; gap = w .gap; not-five = λ x. omega arith })
+          (λ f. let g = f .1 in let a : early c ≡ n = cc in let b = early-few (c .axes) (c .mode) (length (c .job)) (length (c .work)) (length (c .pairs)) in let h = f .0 in record { some = omega arith; most = omega arith; gap = λ x. omega arith; not-five = λ x. omega arith })
+          (outcome-by c)
+
+      go : (o : Outcome) → outcomeOf c ≡ o → Answers
+      go (refused n p) e = by-job n p e (answer-refused n p e) (few n p e)
+      go (fine s) e =
+          ⊎-elim (λ z. done s e z (answer-done s e z)) (λ h. by-late s e h (answer-late s (late s) e refl (omega arith)))
+          (late-many (c .axes) s (c .mode) (lengths (c .lent)))
+
+  pub job-only : (n p : ℕ) → (9 < n → 30 ≤ n) → answerOf c ≡ Refused n p → outcomeOf c ≡ refused n p
+  job-only n p h e = go answers
+    where
+      go : Answers → outcomeOf c ≡ refused n p
+      go (by-job m q f g b) = cc
+      go (by-late s f b g) = let z : late s ≡ n = cc in let l = b .0 in let m = b .1 in let k = h (omega arith) in absurd (omega arith)
+      go (done s f b g) = let z : _≡_ {A = ℕ} 0 1 = cc in absurd (omega arith)
+
+  pub late-only : (n p : ℕ) → 10 ≤ n → n ≤ 14 → answerOf c ≡ Refused n p → (p ≡ 0) × (s : Said) × (outcomeOf c ≡ fine s) × (late s ≡ n)
+  late-only n p low high e = go answers
+    where
+      go : Answers → (p ≡ 0) × (s : Said) × (outcomeOf c ≡ fine s) × (late s ≡ n)
+      go (by-job m q f g b) = let z : m ≡ n = cc in let k = b .gap (omega arith) in absurd (omega arith)
+      go (by-late s f b g) = let z : late s ≡ n = cc in let y : p ≡ 0 = cc in (y, s, f, z)
+      go (done s f b g) = let z : _≡_ {A = ℕ} 0 1 = cc in absurd (omega arith)
+
+  -- there are no numbers but those of the table
+  pub numbers : (n p : ℕ) → answerOf c ≡ Refused n p → (1 ≤ n) × (n ≡ 5 → ⊥) × ((n ≤ 14) ⊎ ((30 ≤ n) × (n ≤ 34)))
+  numbers n p e = go answers
+    where
+      go : Answers → (1 ≤ n) × (n ≡ 5 → ⊥) × ((n ≤ 14) ⊎ ((30 ≤ n) × (n ≤ 34)))
+      go (by-job m q f g b) =
+          let z : m ≡ n = cc in
+          let s = b .some in
+          let h = b .most in
+          (omega arith, λ x. b .not-five (z ∙ x), ⊎-elim (λ (l : 9 < n). inr (subst (λ (k : ℕ). 30 ≤ k) z (b .gap (omega arith)), omega arith)) (λ (l : n ≤ 9). inl (omega arith)) (lt-or-ge 9 n))
+      go (by-late s f b g) = let z : late s ≡ n = cc in let l = b .0 in let h = b .1 in (omega arith, λ x. omega arith, inl (omega arith))
+      go (done s f b g) = let z : _≡_ {A = ℕ} 0 1 = cc in absurd (omega arith)
+
+  pub numbers-most : (n p : ℕ) → answerOf c ≡ Refused n p → n ≤ 34
+  numbers-most n p e = ⊎-elim (λ (h : n ≤ 14). omega arith) (λ (h : (30 ≤ n) × (n ≤ 34)). h .1) (numbers n p e .2)

@@ -1,0 +1,11 @@
+pub mod Demand1
+pub mod Demand2
+pub mod Demand3
+pub mod Fits
+pub mod Foretold
+pub mod Past
+pub mod Plain
+pub mod Rooms
+pub mod Rows
+pub mod SetsRead
+pub mod Sized

@@ -1,0 +1,1 @@
+// Theorems alone: the three demands, of every build call. No function is here.

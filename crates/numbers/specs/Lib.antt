@@ -1,0 +1,3 @@
+pub mod GlyphWords
+pub mod ReadWords
+pub mod WidthWords

@@ -1,0 +1,4 @@
+pub mod KeptLaws
+pub mod OpenLaws
+pub mod RecordsLaws
+pub mod StartLaws

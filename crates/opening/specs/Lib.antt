@@ -1,0 +1,2 @@
+pub mod LentCollected
+pub mod LentOpened

@@ -1,0 +1,4 @@
+// A parting told in a report.
+mod part;
+
+pub use part::tell_parted;
