@@ -219,15 +219,17 @@ module _ (s words : List ℕ) (sets : ℕ) (t : Aims) (old : List ℕ) (f : (k :
         given = below-more _ _ (g .given) (given-back s words k t old new (f k h) (g .only) (r .given z));
       }
 
-      pub judging-bad : ok ≡ false → FirstFailing s words sets t old k
+      pub judging-bad : ok ≡ false → FirstFailing s words sets t old after k
       judging-bad z = record {
+        only = only-trans (g .only) (r .only);
         within = omega arith;
         before-it = g .given;
         fails = λ l x. r .not-given z (given-on s words k t old new (f k h) (g .only) x);
       }
 
-  pub judging-done : (new : List ℕ) (k : ℕ) → Judging s words sets t old new k → sets ≤ k → FirstFailing s words sets t old sets
+  pub judging-done : (new : List ℕ) (k : ℕ) → Judging s words sets t old new k → sets ≤ k → FirstFailing s words sets t old new sets
   judging-done new k g h = record {
+    only = g .only;
     within = omega arith;
     before-it = λ j l. g .given j (omega arith);
     fails = λ l. absurd (omega arith);

@@ -154,7 +154,8 @@ pub record SetJudged (s words : List ℕ) (k : ℕ) (t : Aims) (old new : List �
   pub not-given : r ≡ false → SetGiven s words old t k → ⊥
 
 -- set r is the first that is not given, and every set is where r is their number
-pub record FirstFailing (s words : List ℕ) (sets : ℕ) (t : Aims) (w : List ℕ) (r : ℕ) : Type 0 where
+pub record FirstFailing (s words : List ℕ) (sets : ℕ) (t : Aims) (old new : List ℕ) (r : ℕ) : Type 0 where
+  pub only : Only ((t .values, t .listed) ∷ []) old new
   pub within : r ≤ sets
-  pub before-it : (k : ℕ) → k < r → SetGiven s words w t k
-  pub fails : r < sets → SetGiven s words w t r → ⊥
+  pub before-it : (k : ℕ) → k < r → SetGiven s words old t k
+  pub fails : r < sets → SetGiven s words old t r → ⊥

@@ -64,7 +64,7 @@ fn set_gives(store: &[u8], words: &[u32], k: usize, work: &mut [u32], t: Aims) -
 // The first of so many sets whose row does not give it; their number where every row does.
 pub fn first_failing(store: &[u8], words: &[u32], sets: usize, work: &mut [u32], t: Aims) -> usize
     requires { ⌜ ((k : ℕ) → k < sets → SetsFit (now store) k (now work) t) ⌝ }
-    ensures { λ r. ⌜ FirstFailing (now (store .entry)) (now (words .entry)) sets t (now (work .entry)) r ⌝ }
+    ensures { λ r. ⌜ FirstFailing (now (store .entry)) (now (words .entry)) sets t (now (work .entry)) (now (work .exit)) r ⌝ }
 {
     let mut k = 0;
     while k < sets {
