@@ -40,10 +40,10 @@ unfolding sameBytes
 bytes-same [] = refl
 bytes-same (x ∷ l) = rw (eq-eqb x x refl, bytes-same l)
 
-bytes-is : (l m : List ℕ) → l ≡ m → sameBytes l m ≡ true
+pub bytes-is : (l m : List ℕ) → l ≡ m → sameBytes l m ≡ true
 bytes-is l m e = rw e (bytes-same m)
 
-bytes-not : (l m : List ℕ) → (l ≡ m → ⊥) → sameBytes l m ≡ false
+pub bytes-not : (l m : List ℕ) → (l ≡ m → ⊥) → sameBytes l m ≡ false
 bytes-not l m d = go (which (sameBytes l m))
   where
     go : Which (sameBytes l m) → sameBytes l m ≡ false
