@@ -1,0 +1,5 @@
+pub mod LayLaws
+pub mod PassLaws
+pub mod RowLaws
+pub mod WordLaws
+pub mod Unique

@@ -1,0 +1,12 @@
+pub mod NumberLaws
+pub mod EntryFacts
+pub mod WantedLaws
+pub mod ReadLaws
+pub mod GivenLaws
+pub mod FailLaws
+pub mod WorkLaws
+pub mod StoringLaws
+pub mod SideFacts
+pub mod StageLaws
+pub mod CallLaws
+pub mod Verdicts

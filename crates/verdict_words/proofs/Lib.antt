@@ -1,0 +1,2 @@
+pub mod VerdictTells
+pub mod FewLaws
