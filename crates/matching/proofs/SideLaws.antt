@@ -25,7 +25,7 @@ use Rattle.reader.specs.Store.{words}
 use Rattle.reader.proofs.StoreLaws.{words-length}
 use Rattle.job_scan.specs.Lent.{asSet, RegionAt}
 use Rattle.job_scan.proofs.WriteLaws.{set-ascending, set-proper}
-use Rattle.values.proofs.EntryLaws.{entries-kept}
+use Rattle.entries.proofs.EntryLaws.{entries-kept}
 use Rattle.matching.specs.declared.Sides.{Sides}
 use Rattle.matching.specs.Lent.{total, sideAt, bodyOf, firstsOf, scratch, SidesFit, Written, FirstSide, Matched}
 
