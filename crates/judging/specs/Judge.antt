@@ -1,5 +1,5 @@
--- Judging a store that was built elsewhere (#106): what is answered, for every job, store and list of words. The job is judged first, by document 01's checks 1
--- and 3 to 8. Then yes, where the store is well formed throughout, has the job's axis count, lists no region twice, and every set's row gives each region that
+-- Judging a store that was built elsewhere (#106): what is answered, for every job, store and list of words. The job is judged first, by R1, R3, R4
+-- and those of its records up to R8. Then yes, where the store is well formed throughout, has the job's axis count, lists no region twice, and every set's row gives each region that
 -- the set names its value and every other listed region zero; a named region that is not listed counts as zero. A no names the first set that fails, or none
 -- where the store itself is at fault.
 use mathlib.Core.Bool.{Bool, true, false, _&&_}
