@@ -1,0 +1,3 @@
+pub mod ModeLaws
+pub mod NamedLaws
+pub mod Own
