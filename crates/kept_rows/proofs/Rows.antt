@@ -97,7 +97,7 @@ module _ (s rows : List ℕ) (bytes : (k : ℕ) → getD s k 0 < 256) (p : Parse
       places-less p u (getD rows i 0) (getD rows j 0) (a .table) (b .table) (a .is) (a .below) (entry-used i l) (b .is) (b .below) (entry-used j m) less
 
 -- words put over the first ones
-place-at : (p : Parsed) (rows rest : List ℕ) (j : ℕ) → j < length rows → getD (map (newPlace p (used rows)) rows ++ rest) j 0 ≡ newPlace p (used rows) (getD rows j 0)
+pub place-at : (p : Parsed) (rows rest : List ℕ) (j : ℕ) → j < length rows → getD (map (newPlace p (used rows)) rows ++ rest) j 0 ≡ newPlace p (used rows) (getD rows j 0)
 place-at p rows rest j l =
     List·getD-append (map (newPlace p (used rows)) rows) rest 0 j (omega (arith, length-map rows (newPlace p (used rows))))
     ∙ getD-map-in (newPlace p (used rows)) rows j 0 0 l
