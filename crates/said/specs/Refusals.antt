@@ -5,7 +5,7 @@ use mathlib.Core.Path.{_≡_}
 use Prim.Native.Nat.{ℕ, zero, suc, _+_, _*_, _/_, _%_, _≤_, _<_, min}
 use lib.Dec.{eqb, ltb, leb}
 use Rattle.laws.specs.Pick.{pick}
-use Rattle.limits.specs.Limits.{maxShapes, maxItems}
+use Rattle.limits.specs.Limits.{maxRegions, maxShapes, maxItems}
 -- the pair records that are lent beside work: fewer is WORK_SHORT
 pub use Rattle.limits.specs.Limits.{pairRecords}
 use Rattle.said.specs.Records.{recordsIn, areRecords, mostRecords, mostAxes, isAxis, isKnown, regionOf, axisOf, wrongByte}
@@ -109,9 +109,9 @@ earlyNo axes mode bytes work pairs =
 
 -- ---- one record (T2)
 
--- an axis record is in turn where its numbers are the ones after so many axis records (J4)
+-- an axis record is in turn where its numbers are the ones after so many axis records (J4), and there may be such a region (J3)
 unfoldable pub inTurn : (axes before : ℕ) (bytes : List ℕ) → Bool
-inTurn axes before r = eqb (regionOf r) (before / axes) && eqb (axisOf r) (before % axes)
+inTurn axes before r = ltb (regionOf r) maxRegions && (eqb (regionOf r) (before / axes) && eqb (axisOf r) (before % axes))
 
 -- R30 to R34, of a record of any kind behind so many axis records; `late` where a value or an end stands before it
 unfoldable pub formNo : (axes before : ℕ) (late : Bool) (bytes : List ℕ) → ℕ

@@ -3,6 +3,7 @@ use mathlib.Core.Bool.{Bool, true, false}
 use mathlib.Core.List.{List, [], _∷_, _++_}
 use mathlib.Core.Path.{_≡_, refl}
 use Prim.Native.Nat.{ℕ, _+_}
+use lib.ListN.{set}
 use Rattle.laws.specs.Bytes.{be}
 use Rattle.laws.specs.Signed.{word, signed, zeroWord}
 use Rattle.sets.specs.Set.{Set}
@@ -58,6 +59,7 @@ answers =
     ∷ one (two (valueRecord 0 5 ++ axisRecord 3 0 64))
     ∷ one (axisRecord 1 0 64)
     ∷ one (two (valueRecord 2 5 ++ endRecord))
+    ∷ one (two (set (valueRecord 0 5) 3 1 ++ endRecord))
     ∷ one (two (valueRecord 0 5))
     ∷ outcome 2 0 (axisRecord 0 0 64) 4096 pairRecords
     ∷ outcome 2 0 (axisRecord 0 0 64 ++ endRecord) 4096 pairRecords
@@ -83,6 +85,7 @@ worked : answers ≡
     ∷ refused 33 3
     ∷ refused 32 3
     ∷ refused 32 0
+    ∷ refused 6 2
     ∷ refused 6 2
     ∷ refused 8 3
     ∷ refused 8 1
