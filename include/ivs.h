@@ -48,6 +48,7 @@ extern "C" {
     EACH(41, GLYPH_MAP_SHORT) \
     EACH(42, BAD_GLYPH_MAP) \
     EACH(43, BAD_WIDTHS) \
+    EACH(60, STORE_TOO_BIG) \
     EACH(61, ORIGINS_SHORT) \
     EACH(64, NO_SET) \
     EACH(70, LONG_VALUE) \
@@ -99,7 +100,8 @@ typedef struct {
  * answer is the refusal number, 0 for done; R1 to R61 say when each is given, T1 to T6 which one (1 BAD_AXES,
  * 2 BAD_MODE, 3 BAD_JOB_LENGTH, 4 WORK_SHORT, 6 UNKNOWN_REGION, 7 REGION_TWICE, 8 UNFINISHED, 9 SETS_FULL,
  * 10 SHAPES_FULL, 11 IDS_SHORT, 12 MAP_SHORT, 13 LOG_SHORT, 14 OUT_SHORT; of a record's form 30 UNKNOWN_KIND,
- * 31 NOT_ZERO, 32 AXIS_OUT_OF_TURN, 33 AXIS_TOO_LATE, 34 REGION_UNFINISHED; just behind 13, 61 ORIGINS_SHORT).
+ * 31 NOT_ZERO, 32 AXIS_OUT_OF_TURN, 33 AXIS_TOO_LATE, 34 REGION_UNFINISHED; just behind 13, 61 ORIGINS_SHORT, then
+ * 60 STORE_TOO_BIG: the store would have more than 4,294,967,295 bytes, which mode 0 never makes).
  *
  * Lent: work, as many words as ivs_work_words says; pairs, at least IVS_PAIRS records; out, for the store's bytes; ids,
  * a word for each set, its id; map, a word for each distinct id, outer x 65,536 + inner; log, 3 words for each shape
@@ -128,8 +130,8 @@ uint32_t ivs_build_panel(uint32_t axes, uint32_t mode, const uint8_t *job, size_
                          size_t origins_len, uint64_t *report);
 
 /* What ivs_build would say of a job, with nothing lent to write to (A4, H5): how many bytes the store takes, and how
- * much to lend for it. Answer and report are those of a build that is lent enough of all else: refusals 1 to 4, 6 to 10
- * and 30 to 34, or the ten counts. A build then needs report[2] bytes of out, a word of ids for each set (each end
+ * much to lend for it. Answer and report are those of a build that is lent enough of all else: refusals 1 to 4, 6 to 10,
+ * 30 to 34 and 60, or the ten counts. A build then needs report[2] bytes of out, a word of ids for each set (each end
  * record), report[5] words of map, 3 words of log for each shape but one (report[6]) and 2 words of origins for each.
  * Work and pairs are lent as for a build, and left as by it. */
 uint32_t ivs_forecast(uint32_t axes, uint32_t mode, const uint8_t *job, size_t job_len, uint32_t *work, size_t work_len,

@@ -183,6 +183,9 @@ pub fn build_for(
     if mode == 0 && (sizes.origins as u64) < 2 * counts.shapes {
         return Err(Refused::at(number::ORIGINS_SHORT, 0));
     }
+    if counts.store_bytes > 4_294_967_295 {
+        return Err(Refused::at(number::STORE_TOO_BIG, 0));
+    }
     if (sizes.out as u64) < counts.store_bytes {
         return Err(Refused::at(number::OUT_SHORT, 0));
     }
