@@ -31,7 +31,8 @@ use Rattle.stores.specs.Stores as stores
 use Rattle.store.specs.Placing as store
 use Rattle.store.specs.Placing.{stored}
 use Rattle.said.specs.Records.{mustBeZero, firstNotZero, wrongByte, valueWord}
-use Rattle.said.specs.Refusals.{firstFailed, publishedWork, pairRecords, earlyNo, inTurn, formNo, valueNo, endNo}
+use Rattle.said.specs.Refusals.{firstFailed, publishedWork, jobWork, pairRecords, earlyNo, inTurn, formNo, valueNo, endNo}
+use Rattle.said.specs.Work.{headRun, headRegions}
 use Rattle.said.specs.Sets as said
 use Rattle.said.specs.Job as job
 use Rattle.job.specs.Check.{workLeft}
@@ -133,7 +134,7 @@ builtWith mode bytes old work =
       map = new .map;
       log = new .log;
       origins = new .origins;
-      work = workLeft 1 mode (length bytes) pairRecords work;
+      work = workLeft 1 mode bytes pairRecords work;
     }
 
 -- so a call with that many pair records answers and leaves
@@ -148,7 +149,7 @@ built-as mode bytes old work pairs e = rw e (refl, refl, refl)
 abbrev built : Ask → Left
 built a =
     builtWith (a .mode) (jobOf (a .sets)) (buffers (full (a .out)) (full (a .ids)) (full (a .map)) (full (a .log)) (full (a .origins)))
-    (full (suc (publishedWork (length (jobOf (a .sets)) / 12))))
+    (full (suc (jobWork 1 (jobOf (a .sets)))))
 
 abbrev ask : ℕ → List Values → ℕ → ℕ → ℕ → ℕ → ℕ → Ask
 ask mode sets out ids map log origins = record { mode = mode; sets = sets; out = out; ids = ids; map = map; log = log; origins = origins }
@@ -299,5 +300,5 @@ pub examples : answers ≡
     ∷ x ∷ x ∷ [])
     (0 ∷ 1 ∷ x ∷ []) (0 ∷ 1 ∷ x ∷ []) (0 ∷ 1 ∷ 9 ∷ x ∷ []) (0 ∷ 0 ∷ 1 ∷ 0 ∷ x ∷ []) 106
     ∷ []
-unfolding answers setRecords setsRecords jobOf weigh allBelow tabulate be bytesOf compared thenBy isMost fits isZero signed twos word value insert sorted keep widthOf costOf rowCost columns overhead join shapes.widthsOrder shapes.order groupCost joined gain wordOf sameSet sets.byWords sets.partNone sets.partHead sets.parting sets.orderOf sets.order place withSet idsFrom distinctFrom groups.shapeOf groups.putShape groups.withShape groups.groupsFrom groups.groupsOf coverFrom rule.keepOut rule.outs rule.pairWith rule.keepPair rule.pairs rule.better rule.lead rule.best rule.worth rule.ifWorth rule.choice rule.entry rule.merge rule.follow rule.step rule.run rule.number rule.start rule.merged rule.total words addIf ofWidth columnsOf wordCount bytesFor wordIn cellsOf rowOf joinAll rows.runCount store.runsOf store.allRuns store.inRun store.idWords store.names store.slotOf store.madeOf stores.tableBytes stores.slotBytes stores.offsets stores.listBytes stores.place store.storeOf columnAt store.runBytes store.forecastOf stored mustBeZero firstNotZero wrongByte valueWord firstFailed publishedWork earlyNo inTurn formNo valueNo endNo said.coordinates said.regionList said.sameRegion said.like said.firstLike said.has said.withUse said.indexIn said.withEntry said.withValue job.unless job.afterValue job.afterEnd job.valueStep job.endStep job.regionsOnly job.saidAt job.axesBefore job.isLate job.kindStep job.step job.endedSets job.ended job.follow job.recordsFrom job.outcomeFrom job.outcome workLeft packed.noLater packed.dense packed.sameShape packed.numberOf packed.isAmong packed.belongs packed.finalOf packed.isAhead packed.homeOf packed.originsOf packed.finalsOf packed.shared packed.oneCost packed.own storeFor regionsKept originWords lateNo reportOf lateAnswer written buffersLeft regionBytes coordsInUse packedOf answerFrom leftFrom
+unfolding answers setRecords setsRecords jobOf weigh allBelow tabulate be bytesOf compared thenBy isMost fits isZero signed twos word value insert sorted keep widthOf costOf rowCost columns overhead join shapes.widthsOrder shapes.order groupCost joined gain wordOf sameSet sets.byWords sets.partNone sets.partHead sets.parting sets.orderOf sets.order place withSet idsFrom distinctFrom groups.shapeOf groups.putShape groups.withShape groups.groupsFrom groups.groupsOf coverFrom rule.keepOut rule.outs rule.pairWith rule.keepPair rule.pairs rule.better rule.lead rule.best rule.worth rule.ifWorth rule.choice rule.entry rule.merge rule.follow rule.step rule.run rule.number rule.start rule.merged rule.total words addIf ofWidth columnsOf wordCount bytesFor wordIn cellsOf rowOf joinAll rows.runCount store.runsOf store.allRuns store.inRun store.idWords store.names store.slotOf store.madeOf stores.tableBytes stores.slotBytes stores.offsets stores.listBytes stores.place store.storeOf columnAt store.runBytes store.forecastOf stored mustBeZero firstNotZero wrongByte valueWord firstFailed publishedWork headRegions headRun earlyNo inTurn formNo valueNo endNo said.coordinates said.regionList said.sameRegion said.like said.firstLike said.has said.withUse said.indexIn said.withEntry said.withValue job.unless job.afterValue job.afterEnd job.valueStep job.endStep job.regionsOnly job.saidAt job.axesBefore job.isLate job.kindStep job.step job.endedSets job.ended job.follow job.recordsFrom job.outcomeFrom job.outcome workLeft packed.noLater packed.dense packed.sameShape packed.numberOf packed.isAmong packed.belongs packed.finalOf packed.isAhead packed.homeOf packed.originsOf packed.finalsOf packed.shared packed.oneCost packed.own storeFor regionsKept originWords lateNo reportOf lateAnswer written buffersLeft regionBytes coordsInUse packedOf answerFrom leftFrom
 examples = refl

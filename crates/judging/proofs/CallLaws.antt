@@ -17,7 +17,7 @@ use Rattle.laws.proofs.RangeLaws.{getD-seg}
 use Rattle.sets.specs.Lent.{setsIn, Held}
 use Rattle.sets.proofs.HeldLaws.{Kept, kept-only, kept-trans, held-kept, sets-same}
 use Rattle.limits.specs.Limits.{mostRecords, pairRecords}
-use Rattle.said.specs.Records.{recordBytes, recordStart, recordsIn, recordCount, regionLong}
+use Rattle.said.specs.Records.{recordBytes, recordStart, recordCount, regionLong}
 use Rattle.said.specs.Refusals.{earlyNo}
 use Rattle.said.specs.LentOpen.{Open}
 use Rattle.said.specs.Job.{Said, Outcome, refused, fine, inAxes, recordsFrom, outcomeFrom}
@@ -197,7 +197,7 @@ module _ {axes records sets uses : ℕ} {job store w : List ℕ} (f : JudgeFit a
 
 -- ---- the call
 
-module _ (axes : ℕ) (job store words w : List ℕ) (n : ℕ) (e : n ≡ judgeNo axes (length job) (length store) (length w)) where
+module _ (axes : ℕ) (job store words w : List ℕ) (n : ℕ) (e : n ≡ judgeNo axes job (length store) (length w)) where
   pub refused-early : (n ≡ 0 → ⊥) → Refused n 0 ≡ judgeOf axes job store words (length w)
   unfolding judgeOf judgedOf
   refused-early h =
@@ -225,7 +225,7 @@ module _ (axes : ℕ) (job store words w : List ℕ) (n : ℕ) (e : n ≡ judgeN
     unfolding judgedOf
     refused-record h = answers (refused no at) (read .bad h)
 
-    module _ (bytes : (k : ℕ) → getD job k 0 < 256) (o : JudgeOpen axes (length job) (length store) (length w)) (g : no ≡ 0) where
+    module _ (bytes : (k : ℕ) → getD job k 0 < 256) (o : JudgeOpen axes job (length store) (length w)) (g : no ≡ 0) where
       abbrev pub stands : JudgeFit a job records sets uses (length store) new
       stands = record {
         some = omega (arith, q, o .passed .some);

@@ -97,7 +97,7 @@ pub fn judge(axes: u32, job: &[u8], store: &[u8], words: &[u32], work: &mut [u32
     ensures { λ r. ⌜ r ≡ judgeOf axes (now (job .entry)) (now (store .entry)) (now (words .entry)) (length (now (work .entry))) ⌝ }
     ensures { λ _. ⌜ now (work .exit) ≡ judgeLeft axes (length (now (job .entry))) (length (now (store .entry))) (now (work .entry)) ⌝ }
 {
-    let no = judge_no(axes, job.len(), store.len(), work.len());
+    let no = judge_no(axes, job, store.len(), work.len());
     if no != 0 {
         return Judged::Refused(no, 0);
     }
