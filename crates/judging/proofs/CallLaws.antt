@@ -204,11 +204,11 @@ module _ (axes : ℕ) (job store words w : List ℕ) (n : ℕ) (e : n ≡ judgeN
       let o : Outcome = recordsFrom axes 0 job job (recordCount job) 0 inAxes in
       sym (ap (judgedOf axes store words) (ap (λ (k : ℕ). outcomeFrom k o) (sym e) ∙ early-first n o h))
 
-  pub left-early : (n ≡ 0 → ⊥) → w ≡ judgeLeft axes (length job) (length store) w
+  pub left-early : (n ≡ 0 → ⊥) → w ≡ judgeLeft axes job (length store) w
   unfolding judgeLeft
   left-early h = rw (← e, ne-eqb n 0 h) refl
 
-  pub left-zeros : n ≡ 0 → (long : ℕ) (w′ : List ℕ) → long ≡ length w → w′ ≡ replicate long 0 → w′ ≡ judgeLeft axes (length job) (length store) w
+  pub left-zeros : n ≡ 0 → (long : ℕ) (w′ : List ℕ) → long ≡ length w → w′ ≡ replicate long 0 → w′ ≡ judgeLeft axes job (length store) w
   unfolding judgeLeft
   left-zeros z long w′ l c = c ∙ rw (← e, eq-eqb n 0 z, l) refl
 
