@@ -51,9 +51,13 @@ zeros : first (set (axisRecord 0 0) 10 1) ∷ first (set (axisRecord 0 0) 11 255
 unfolding told formNo byteOf inTurn firstFailed wrongByte firstNotZero mustBeZero
 zeros = refl
 
--- byte 3 is the region's high byte, of an axis record and of a value record
-high : first (set (axisRecord 0 0) 3 1) ∷ first (set valueRecord 3 1) ∷ first (set valueRecord 3 255) ∷ []
-    ≡ (32, 0) ∷ fine ∷ fine ∷ []
+-- Byte 3 is the region's high byte, of an axis record and of a value record. Regions 256 and 32,766, the last; behind it none is next
+high : first (set (axisRecord 0 0) 3 1) ∷ first (set valueRecord 3 1) ∷ first (set valueRecord 3 255)
+    ∷ told 512 false (set (axisRecord 0 0) 3 1) ∷ told 512 false (axisRecord 0 0)
+    ∷ told 65532 false (set (axisRecord 254 0) 3 127) ∷ told 65534 false (set (axisRecord 255 0) 3 127) ∷ []
+    ≡ (32, 0) ∷ fine ∷ fine
+    ∷ fine ∷ (32, 0)
+    ∷ fine ∷ (32, 0) ∷ []
 unfolding told formNo byteOf inTurn firstFailed wrongByte firstNotZero mustBeZero
 high = refl
 

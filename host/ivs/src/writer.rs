@@ -8,7 +8,7 @@ use std::fmt;
 
 /// The most axes, regions and records of a job (J3).
 const AXES: usize = 64;
-pub(crate) const REGIONS: usize = 256;
+pub(crate) const REGIONS: usize = 32_767;
 const RECORDS: usize = 1_048_576;
 
 /// Start, peak and end on one axis, as raw F2Dot14 numbers (0x4000 is 1).

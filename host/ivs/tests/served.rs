@@ -123,8 +123,10 @@ fn the_same_both_ways() {
     for round in 0..60 {
         let job = job(&mut numbers);
         let mode = numbers.below(2) as u32;
-        let words = ivs::work_words(job.len() / 12);
-        assert_eq!(emulated::work_words(job.len() / 12), words);
+        let regions = ivs::head_regions(1, &job);
+        assert_eq!(emulated::head_regions(1, &job), regions);
+        let words = ivs::work_words(job.len() / 12, regions);
+        assert_eq!(emulated::work_words(job.len() / 12, regions), words);
         let mut linked = Memory::of(&mut numbers, words);
         let mut served = linked.clone();
         for profile in [Profile::Panel, Profile::Plain] {

@@ -4,7 +4,7 @@
 pub const RECORD: usize = 12;
 
 /// The most regions of a job (J3).
-pub const REGIONS: usize = 256;
+pub const REGIONS: usize = 32_767;
 
 /// A region: start, peak, end of each axis.
 pub type Region = Vec<[i16; 3]>;

@@ -7,7 +7,7 @@ use crate::Profile;
 pub const RECORD: usize = 12;
 
 /// The most regions (J3).
-const REGIONS: usize = 256;
+const REGIONS: usize = 32_767;
 
 /// A region: start, peak, end of each axis, whatever they are (J5).
 pub type Region = Vec<[i16; 3]>;

@@ -22,7 +22,7 @@ byte-wide-requires-2 : tie.Need-byte-wide-requires-2
 byte-wide-requires-2 c κs = search needs
 
 add-result : tie.Need-add-result
-add-result c = let g = c .before .before .before .before .shared-slice-known .given in omega (arith, g 1, g 3)
+add-result c = let g = c .before .before .before .before .shared-slice-known .given in omega (arith, g 1, g 2, g 3)
 
 returns : tie.Need-returns
 returns c = search needs
