@@ -26,7 +26,7 @@ static void *room(size_t bytes) {
 uint32_t build(uint32_t axes, const uint8_t *job, size_t records, size_t sets, packed *p) {
     static uint32_t log[3 * 1023], origins[2 * 1024];
     static ivs_pair pairs[IVS_PAIRS]; /* 12 MiB, for every job */
-    size_t words = ivs_work_words(records), job_len = 12 * records;
+    size_t job_len = 12 * records, words = ivs_work_words(records, ivs_head_regions(axes, job, job_len));
     uint32_t *work = room(4 * words);
     uint32_t number = ivs_forecast(axes, 0, job, job_len, work, words, pairs, IVS_PAIRS, p->report);
     if (number == 0) {

@@ -20,7 +20,7 @@ static const uint8_t job[] = {
 
 int main(void) {
     static ivs_pair pairs[IVS_PAIRS]; /* 12 MiB, for every job */
-    size_t words = ivs_work_words(sizeof job / 12);
+    size_t words = ivs_work_words(sizeof job / 12, ivs_head_regions(1, job, sizeof job));
     uint32_t *work = malloc(4 * words), ids[2]; /* an id for each set */
     uint64_t report[16];
     if (!work) abort();

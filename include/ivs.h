@@ -90,9 +90,14 @@ enum ivs_mode {
     IVS_IMPLICIT = 1       /* a row for each set, in its order, in one subtable */
 };
 
-/* The 32-bit words of work that a job of r records needs (J7), 16 r + min(r, 1,024)^2; 0 above the record limit
- * (1,048,576). */
-size_t ivs_work_words(size_t records);
+/* The 32-bit words of work that a job of r records needs, with g regions at its head (J7):
+ * 16 r + min(r, 1,024) x (g + 16); 0 above the record limit (1,048,576), and no more for more regions than there may
+ * be. */
+size_t ivs_work_words(size_t records, size_t regions);
+
+/* The regions at a job's head: the records of kind 1 that it begins with over the axis count, rounded up, at most as
+ * many as there may be; 0 for no axes. */
+size_t ivs_head_regions(uint32_t axes, const uint8_t *job, size_t job_len);
 
 /* A record for a pair of groups that waits to be merged: room that is lent, with nothing in it for who lends it. */
 typedef struct {
@@ -109,7 +114,7 @@ typedef struct {
  * 31 NOT_ZERO, 32 AXIS_OUT_OF_TURN, 33 AXIS_TOO_LATE, 34 REGION_UNFINISHED; just behind 13, 61 ORIGINS_SHORT, then
  * 60 STORE_TOO_BIG: the store would have more than 4,294,967,295 bytes, which mode 0 never makes).
  *
- * Lent: work, as many words as ivs_work_words says; pairs, at least IVS_PAIRS records; out, for the store's bytes; ids,
+ * Lent: work, as many words as ivs_work_words says of the job; pairs, at least IVS_PAIRS records; out, for the store's bytes; ids,
  * a word for each set, its id; map, a word for each distinct id, outer x 65,536 + inner; log, 3 words for each shape
  * but one, of which each merge fills 3: first number, second number, gain; origins, 2 words for each shape: its number
  * and the place of the final group that it went into, from 0, before groups are cut into subtables (F6; mode 1 has no

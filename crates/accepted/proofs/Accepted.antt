@@ -170,7 +170,7 @@ storeIn c s = storeFor (c .axes) (coordsInUse s) (packedOf (c .mode) s)
 pub record Accepted (c : Lending) (r : Report) : Type 0 where
   pub said : Said
   pub said-is : outcomeOf c ≡ fine said
-  pub entered : Open (c .axes) (c .mode) (length (c .job)) (length (c .work)) (length (c .pairs))
+  pub entered : Open (c .axes) (c .mode) (c .job) (length (c .work)) (length (c .pairs))
   pub walked : recordsFrom (c .axes) (c .mode) (c .job) (c .job) (length (c .job) / recordBytes) 0 inAxes ≡ fine said
   pub none-late : lateNo (c .axes) (coordsInUse said) (packedIn c said) (lengths (c .lent)) ≡ 0
   pub room : Roomy (c .axes) (coordsInUse said) (packedIn c said) (lengths (c .lent))

@@ -41,8 +41,8 @@ leftFrom axes mode old (refused n i) = old
 leftFrom axes mode old (fine s) = buffersLeft axes (coordsInUse s) (packedOf mode s) old
 
 -- the pair records: as work is, untouched by 1 to 4 and zeros to the last after every other answer; `work` is how many words that has
-unfoldable pub pairsLeft : ℕ → ℕ → ℕ → ℕ → List Pair → List Pair
-pairsLeft axes mode bytes work pairs = pick (eqb (earlyNo axes mode bytes work (length pairs)) 0) (replicate (length pairs) noPair) pairs
+unfoldable pub pairsLeft : (axes mode : ℕ) (job : List ℕ) (work : ℕ) → List Pair → List Pair
+pairsLeft axes mode job work pairs = pick (eqb (earlyNo axes mode job work (length pairs)) 0) (replicate (length pairs) noPair) pairs
 
 -- ---- of a call
 
@@ -54,7 +54,7 @@ answerOf c = answerFrom (c .axes) (c .mode) (lengths (c .lent)) (outcomeOf c)
 
 abbrev pub after : Lending → Left
 after c = record {
-  work = workLeft (c .axes) (c .mode) (length (c .job)) (length (c .pairs)) (c .work);
-  pairs = pairsLeft (c .axes) (c .mode) (length (c .job)) (length (c .work)) (c .pairs);
+  work = workLeft (c .axes) (c .mode) (c .job) (length (c .pairs)) (c .work);
+  pairs = pairsLeft (c .axes) (c .mode) (c .job) (length (c .work)) (c .pairs);
   lent = leftFrom (c .axes) (c .mode) (c .lent) (outcomeOf c);
 }

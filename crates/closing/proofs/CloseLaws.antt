@@ -132,7 +132,7 @@ module _ {axes mode : ℕ} {job : List ℕ} {o : Outcome} {k : Packing} {w : Lis
 
 -- ---- the whole
 
-module _ (axes mode : ℕ) (job : List ℕ) (work pairs n : ℕ) (e : n ≡ earlyNo axes mode (length job) work pairs) where
+module _ (axes mode : ℕ) (job : List ℕ) (work pairs n : ℕ) (e : n ≡ earlyNo axes mode job work pairs) where
   pub outcome-early : (n ≡ 0 → ⊥) → outcome axes mode job work pairs ≡ refused n 0
   unfolding outcome
   outcome-early h =
@@ -140,7 +140,7 @@ module _ (axes mode : ℕ) (job : List ℕ) (work pairs n : ℕ) (e : n ≡ earl
 
   pub outcome-late : n ≡ 0 → outcome axes mode job work pairs ≡ recordsFrom axes mode job job (recordCount job) 0 inAxes
   unfolding outcome
-  outcome-late z = none-early (earlyNo axes mode (length job) work pairs) (recordsFrom axes mode job job (recordCount job) 0 inAxes) (sym e ∙ z)
+  outcome-late z = none-early (earlyNo axes mode job work pairs) (recordsFrom axes mode job job (recordCount job) 0 inAxes) (sym e ∙ z)
 
 module _ {h : Profile} {axes mode : ℕ} {job w : List ℕ} {s : Stage} {m : Merged} (old : List ℕ) (pairs : ℕ) (mid : List ℕ) (p : OpenedAt h axes mode job old pairs mid s) (j : Joined s m mid w) where
   abbrev records : Outcome
@@ -158,7 +158,7 @@ module _ {h : Profile} {axes mode : ℕ} {job w : List ℕ} {s : Stage} {m : Mer
   panelled-first : s .early ≡ true → panelled h job (outcome axes mode job (length old) pairs) ≡ refused (s .no) (s .at)
   panelled-first e = panelled-early h job whole (s .no) (s .at) (refused-early e) (p .at-once e .3)
 
-  work-early : s .early ≡ true → w ≡ workLeft axes mode (length job) pairs old
+  work-early : s .early ≡ true → w ≡ workLeft axes mode job pairs old
   work-early e =
       let a = p .at-once e in
       idle (s .places) (s .groups) j (a .4) ∙ a .0 ∙ left-early axes mode job old pairs (s .no) (a .1) (a .2)
@@ -172,7 +172,7 @@ module _ {h : Profile} {axes mode : ℕ} {job w : List ℕ} {s : Stage} {m : Mer
   outcome-is : s .early ≡ false → outcome axes mode job (length old) pairs ≡ recordsFrom axes mode job job (recordCount job) 0 inAxes
   outcome-is e = outcome-late axes mode job (length old) pairs 0 (sym (p .after e .0)) refl
 
-  work-late : s .early ≡ false → (long : ℕ) → long ≡ length w → (w′ : List ℕ) → w′ ≡ replicate long 0 → w′ ≡ workLeft axes mode (length job) pairs old
+  work-late : s .early ≡ false → (long : ℕ) → long ≡ length w → (w′ : List ℕ) → w′ ≡ replicate long 0 → w′ ≡ workLeft axes mode job pairs old
   work-late e long l w′ c = left-zeros axes mode job old pairs 0 (sym (p .after e .0)) refl long w′ (l ∙ j .only .long ∙ p .long) c
 
   pub close-late : s .early ≡ false → (b : Built) (lent lent′ : Buffers)

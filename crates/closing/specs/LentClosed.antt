@@ -46,8 +46,8 @@ pub record ForeseeFit (s : Stage) (m : Merged) (w : List ℕ) : Type 0 where
 
 pub record Closed (p : Profile) (axes mode : ℕ) (job work : List ℕ) (pairs : ℕ) (r : Built) (old new : Buffers) (work′ : List ℕ) : Type 0 where
   pub built : RecordsBuilt p axes mode (panelled p job (outcome axes mode job (length work) pairs)) r old new
-  pub work-is : work′ ≡ workLeft axes mode (length job) pairs work
+  pub work-is : work′ ≡ workLeft axes mode job pairs work
 
 pub record Foreseen (axes mode : ℕ) (job work : List ℕ) (pairs : ℕ) (r : Built) (work′ : List ℕ) : Type 0 where
   pub answer : r ≡ foretoldFrom axes mode (outcome axes mode job (length work) pairs)
-  pub work-is : work′ ≡ workLeft axes mode (length job) pairs work
+  pub work-is : work′ ≡ workLeft axes mode job pairs work

@@ -58,7 +58,7 @@ module _ (c : Lending) where
     where
       some : (0 < early c) × (outcomeOf c ≡ refused (early c) 0) → early c ≡ 0
       some f =
-          let few = early-few (c .axes) (c .mode) (length (c .job)) (length (c .work)) (length (c .pairs)) in
+          let few = early-few (c .axes) (c .mode) (c .job) (length (c .work)) (length (c .pairs)) in
           absurd (go few (answers c))
         where
           go : early c ≤ 4 → Answers c → ⊥

@@ -9,7 +9,7 @@ use lib.ListN.{length}
 use lib.Dec.{eqb, ltb, leb}
 use borrow.Author.Tests.{ltb-true, ltb-false, leb-true, leb-false, eqb-true, eqb-false, lt-ltb, le-ltb, le-leb, lt-leb, eq-eqb, ne-eqb}
 use Rattle.laws.proofs.Cases.{and-true}
-use Rattle.said.specs.Refusals.{firstFailed, publishedWork, pairRecords, earlyNo}
+use Rattle.said.specs.Refusals.{firstFailed, jobWork, pairRecords, earlyNo}
 use Rattle.said.specs.Job.{outcome, refused}
 use Rattle.finishing.specs.declared.answers.Built.{Built}
 use Rattle.finishing.specs.declared.answers.Built.the-variants.{Refused}
@@ -67,9 +67,9 @@ module _ (bytes : ℕ) where
 
 -- ---- their numbers
 
-module _ (axes mode bytes work pairs : ℕ) where
+module _ (axes mode : ℕ) (job : List ℕ) (work pairs : ℕ) where
   abbrev workOk : Bool
-  workOk = leb (publishedWork (bytes / 12)) work
+  workOk = leb (jobWork axes job) work
 
   abbrev pairsOk : Bool
   pairsOk = leb pairRecords pairs
@@ -81,7 +81,7 @@ module _ (axes mode bytes work pairs : ℕ) where
   fourth = (workOk, 4) ∷ fifth
 
   abbrev third : Tests
-  third = (lengthOk bytes, 3) ∷ fourth
+  third = (lengthOk (length job), 3) ∷ fourth
 
   abbrev second : Tests
   second = (leb mode 1, 2) ∷ third
@@ -89,12 +89,12 @@ module _ (axes mode bytes work pairs : ℕ) where
   abbrev first : Tests
   first = (axesOk axes, 1) ∷ second
 
-  early-is : earlyNo axes mode bytes work pairs ≡ firstFailed first
+  early-is : earlyNo axes mode job work pairs ≡ firstFailed first
   unfolding earlyNo
   early-is = refl
 
   -- what passes before a number above 1, above 2, above 3
-  module _ (n : ℕ) (e : earlyNo axes mode bytes work pairs ≡ n) where
+  module _ (n : ℕ) (e : earlyNo axes mode job work pairs ≡ n) where
     past-axes : (1 ≡ n → ⊥) → AxesFit axes × (firstFailed second ≡ n)
     past-axes d = let f = sym early-is ∙ e in (axes-fit axes (other 1 second n (axesOk axes) d f), later 1 second n (axesOk axes) d f)
 
@@ -103,28 +103,28 @@ module _ (axes mode bytes work pairs : ℕ) where
         let a = past-axes d in
         (record { axes-fit = a .0; known = leb-true mode 1 (other 2 third n (leb mode 1) c (a .1)) }, later 2 third n (leb mode 1) c (a .1))
 
-    past-length : (1 ≡ n → ⊥) → (2 ≡ n → ⊥) → (3 ≡ n → ⊥) → LengthFit axes mode bytes × (firstFailed fourth ≡ n)
+    past-length : (1 ≡ n → ⊥) → (2 ≡ n → ⊥) → (3 ≡ n → ⊥) → LengthFit axes mode (length job) × (firstFailed fourth ≡ n)
     past-length d c b =
         let a = past-mode d c in
-        let t = other 3 fourth n (lengthOk bytes) b (a .1) in
-        (record { mode-fit = a .0; whole = length-whole bytes t; few = length-few bytes t }, later 3 fourth n (lengthOk bytes) b (a .1))
+        let t = other 3 fourth n (lengthOk (length job)) b (a .1) in
+        (record { mode-fit = a .0; whole = length-whole (length job) t; few = length-few (length job) t }, later 3 fourth n (lengthOk (length job)) b (a .1))
 
-  to-axes : (n : ℕ) → AxesFit axes → firstFailed second ≡ n → earlyNo axes mode bytes work pairs ≡ n
+  to-axes : (n : ℕ) → AxesFit axes → firstFailed second ≡ n → earlyNo axes mode job work pairs ≡ n
   to-axes n a e = early-is ∙ passed 1 second n (axesOk axes) (fit-axes axes a) e
 
-  to-mode : (n : ℕ) → ModeFit axes mode → firstFailed third ≡ n → earlyNo axes mode bytes work pairs ≡ n
+  to-mode : (n : ℕ) → ModeFit axes mode → firstFailed third ≡ n → earlyNo axes mode job work pairs ≡ n
   to-mode n a e = to-axes n (a .axes-fit) (passed 2 third n (leb mode 1) (le-leb mode 1 (a .known)) e)
 
-  to-length : (n : ℕ) → LengthFit axes mode bytes → firstFailed fourth ≡ n → earlyNo axes mode bytes work pairs ≡ n
-  to-length n a e = to-mode n (a .mode-fit) (passed 3 fourth n (lengthOk bytes) (fit-length bytes (a .whole) (a .few)) e)
+  to-length : (n : ℕ) → LengthFit axes mode (length job) → firstFailed fourth ≡ n → earlyNo axes mode job work pairs ≡ n
+  to-length n a e = to-mode n (a .mode-fit) (passed 3 fourth n (lengthOk (length job)) (fit-length (length job) (a .whole) (a .few)) e)
 
-  pub early-axes : Exactly (earlyNo axes mode bytes work pairs ≡ 1) ((axes ≡ 0) ⊎ (64 < axes))
+  pub early-axes : Exactly (earlyNo axes mode job work pairs ≡ 1) ((axes ≡ 0) ⊎ (64 < axes))
   early-axes = record {
     given = λ b. early-is ∙ failed 1 second (axesOk axes) (bad-axes-ok axes b);
     only = λ e. axes-bad axes (this 1 second (axesOk axes) (omega arith) (omega arith, (omega arith, (omega arith, (omega arith, tt)))) (sym early-is ∙ e));
   }
 
-  pub early-mode : Exactly (earlyNo axes mode bytes work pairs ≡ 2) (AxesFit axes × (1 < mode))
+  pub early-mode : Exactly (earlyNo axes mode job work pairs ≡ 2) (AxesFit axes × (1 < mode))
   early-mode = record {
     given = λ b. to-axes 2 (b .0) (failed 2 third (leb mode 1) (lt-leb mode 1 (b .1)));
     only = λ e.
@@ -132,40 +132,40 @@ module _ (axes mode bytes work pairs : ℕ) where
         (a .0, leb-false mode 1 (this 2 third (leb mode 1) (omega arith) (omega arith, (omega arith, (omega arith, tt))) (a .1)));
   }
 
-  pub early-length : Exactly (earlyNo axes mode bytes work pairs ≡ 3) (ModeFit axes mode × ((bytes % 12 ≡ 0 → ⊥) ⊎ (1048576 < bytes / 12)))
+  pub early-length : Exactly (earlyNo axes mode job work pairs ≡ 3) (ModeFit axes mode × ((length job % 12 ≡ 0 → ⊥) ⊎ (1048576 < length job / 12)))
   early-length = record {
-    given = λ b. to-mode 3 (b .0) (failed 3 fourth (lengthOk bytes) (bad-length-ok bytes (b .1)));
+    given = λ b. to-mode 3 (b .0) (failed 3 fourth (lengthOk (length job)) (bad-length-ok (length job) (b .1)));
     only = λ e.
         let a = past-mode 3 e (λ z. omega arith) (λ z. omega arith) in
-        (a .0, length-bad bytes (this 3 fourth (lengthOk bytes) (omega arith) (omega arith, (omega arith, tt)) (a .1)));
+        (a .0, length-bad (length job) (this 3 fourth (lengthOk (length job)) (omega arith) (omega arith, (omega arith, tt)) (a .1)));
   }
 
-  pub early-work : Exactly (earlyNo axes mode bytes work pairs ≡ 4) (LengthFit axes mode bytes × ((work < publishedWork (bytes / 12)) ⊎ (pairs < pairRecords)))
+  pub early-work : Exactly (earlyNo axes mode job work pairs ≡ 4) (LengthFit axes mode (length job) × ((work < jobWork axes job) ⊎ (pairs < pairRecords)))
   early-work = record {
     given = λ b.
         to-length 4 (b .0)
-        (⊎-elim (λ (h : work < publishedWork (bytes / 12)). failed 4 fifth workOk (lt-leb (publishedWork (bytes / 12)) work h))
+        (⊎-elim (λ (h : work < jobWork axes job). failed 4 fifth workOk (lt-leb (jobWork axes job) work h))
         (λ (h : pairs < pairRecords). second-failed 4 workOk pairsOk (lt-leb pairRecords pairs h)) (b .1));
     only = λ e.
         let a = past-length 4 e (λ z. omega arith) (λ z. omega arith) (λ z. omega arith) in (
           a .0,
-          ⊎-elim (λ (h : workOk ≡ false). inl (leb-false (publishedWork (bytes / 12)) work h)) (λ (h : pairsOk ≡ false). inr (leb-false pairRecords pairs h))
+          ⊎-elim (λ (h : workOk ≡ false). inl (leb-false (jobWork axes job) work h)) (λ (h : pairsOk ≡ false). inr (leb-false pairRecords pairs h))
               (one-of-two 4 workOk pairsOk (omega arith) (a .1)),
         );
   }
 
   -- none of them
-  pub early-none : Exactly (earlyNo axes mode bytes work pairs ≡ 0) (WorkFit axes mode bytes work pairs)
+  pub early-none : Exactly (earlyNo axes mode job work pairs ≡ 0) (WorkFit axes mode job work pairs)
   early-none = record {
     given = λ b.
         to-length 0 (b .length-fit)
-        (passed 4 fifth 0 workOk (le-leb (publishedWork (bytes / 12)) work (b .enough)) (passed 4 [] 0 pairsOk (le-leb pairRecords pairs (b .paired)) none-failed));
+        (passed 4 fifth 0 workOk (le-leb (jobWork axes job) work (b .enough)) (passed 4 [] 0 pairsOk (le-leb pairRecords pairs (b .paired)) none-failed));
     only = λ e.
         let a = past-length 0 e (λ z. omega arith) (λ z. omega arith) (λ z. omega arith) in
         let f = later 4 fifth 0 workOk (λ z. omega arith) (a .1) in
         record {
           length-fit = a .0;
-          enough = leb-true (publishedWork (bytes / 12)) work (other 4 fifth 0 workOk (λ z. omega arith) (a .1));
+          enough = leb-true (jobWork axes job) work (other 4 fifth 0 workOk (λ z. omega arith) (a .1));
           paired = leb-true pairRecords pairs (other 4 [] 0 pairsOk (λ z. omega arith) f);
         };
   }
@@ -173,7 +173,7 @@ module _ (axes mode bytes work pairs : ℕ) where
 -- ---- the rows
 
 module _ (c : Lending) (p : ℕ) where
-  row : (n : ℕ) (Why : Type 0) → 0 < n → n ≤ 4 → Exactly (earlyNo (c .axes) (c .mode) (length (c .job)) (length (c .work)) (length (c .pairs)) ≡ n) Why → Exactly (answerOf c ≡ Refused n p) ((p ≡ 0) × Why)
+  row : (n : ℕ) (Why : Type 0) → 0 < n → n ≤ 4 → Exactly (earlyNo (c .axes) (c .mode) (c .job) (length (c .work)) (length (c .pairs)) ≡ n) Why → Exactly (answerOf c ≡ Refused n p) ((p ≡ 0) × Why)
   row n Why low high x = record {
     given = λ b. answer-refused c n p (rw (b .0) (outcome-early c n (x .given (b .1)) low));
     only = λ e. let a = early-only c n p high (job-only c n p (λ z. absurd (omega arith)) e) in (a .1, x .only (a .0));
@@ -181,16 +181,16 @@ module _ (c : Lending) (p : ℕ) where
 
   -- R1 BAD_AXES
   pub bad-axes : Exactly (answerOf c ≡ Refused 1 p) ((p ≡ 0) × (((c .axes) ≡ 0) ⊎ (64 < (c .axes))))
-  bad-axes = row 1 (((c .axes) ≡ 0) ⊎ (64 < (c .axes))) (omega arith) (omega arith) (early-axes (c .axes) (c .mode) (length (c .job)) (length (c .work)) (length (c .pairs)))
+  bad-axes = row 1 (((c .axes) ≡ 0) ⊎ (64 < (c .axes))) (omega arith) (omega arith) (early-axes (c .axes) (c .mode) (c .job) (length (c .work)) (length (c .pairs)))
 
   -- R2 BAD_MODE
   pub bad-mode : Exactly (answerOf c ≡ Refused 2 p) ((p ≡ 0) × (AxesFit (c .axes) × (1 < (c .mode))))
-  bad-mode = row 2 (AxesFit (c .axes) × (1 < (c .mode))) (omega arith) (omega arith) (early-mode (c .axes) (c .mode) (length (c .job)) (length (c .work)) (length (c .pairs)))
+  bad-mode = row 2 (AxesFit (c .axes) × (1 < (c .mode))) (omega arith) (omega arith) (early-mode (c .axes) (c .mode) (c .job) (length (c .work)) (length (c .pairs)))
 
   -- R3 BAD_JOB_LENGTH
   pub bad-job-length : Exactly (answerOf c ≡ Refused 3 p) ((p ≡ 0) × (ModeFit (c .axes) (c .mode) × ((length (c .job) % 12 ≡ 0 → ⊥) ⊎ (1048576 < length (c .job) / 12))))
-  bad-job-length = row 3 (ModeFit (c .axes) (c .mode) × ((length (c .job) % 12 ≡ 0 → ⊥) ⊎ (1048576 < length (c .job) / 12))) (omega arith) (omega arith) (early-length (c .axes) (c .mode) (length (c .job)) (length (c .work)) (length (c .pairs)))
+  bad-job-length = row 3 (ModeFit (c .axes) (c .mode) × ((length (c .job) % 12 ≡ 0 → ⊥) ⊎ (1048576 < length (c .job) / 12))) (omega arith) (omega arith) (early-length (c .axes) (c .mode) (c .job) (length (c .work)) (length (c .pairs)))
 
   -- R4 WORK_SHORT
-  pub work-short : Exactly (answerOf c ≡ Refused 4 p) ((p ≡ 0) × (LengthFit (c .axes) (c .mode) (length (c .job)) × (((length (c .work)) < publishedWork (length (c .job) / 12)) ⊎ ((length (c .pairs)) < pairRecords))))
-  work-short = row 4 (LengthFit (c .axes) (c .mode) (length (c .job)) × (((length (c .work)) < publishedWork (length (c .job) / 12)) ⊎ ((length (c .pairs)) < pairRecords))) (omega arith) (omega arith) (early-work (c .axes) (c .mode) (length (c .job)) (length (c .work)) (length (c .pairs)))
+  pub work-short : Exactly (answerOf c ≡ Refused 4 p) ((p ≡ 0) × (LengthFit (c .axes) (c .mode) (length (c .job)) × (((length (c .work)) < jobWork (c .axes) (c .job)) ⊎ ((length (c .pairs)) < pairRecords))))
+  work-short = row 4 (LengthFit (c .axes) (c .mode) (length (c .job)) × (((length (c .work)) < jobWork (c .axes) (c .job)) ⊎ ((length (c .pairs)) < pairRecords))) (omega arith) (omega arith) (early-work (c .axes) (c .mode) (c .job) (length (c .work)) (length (c .pairs)))

@@ -27,8 +27,8 @@ module _ (c : Lending) where
   abbrev records : ℕ
   records = length (c .job) / 12
 
-  abbrev early-fits : Exactly (earlyNo (c .axes) (c .mode) (length (c .job)) (length (c .work)) (length (c .pairs)) ≡ 0) (Fits c)
-  early-fits = early-none (c .axes) (c .mode) (length (c .job)) (length (c .work)) (length (c .pairs))
+  abbrev early-fits : Exactly (earlyNo (c .axes) (c .mode) (c .job) (length (c .work)) (length (c .pairs)) ≡ 0) (Fits c)
+  early-fits = early-none (c .axes) (c .mode) (c .job) (length (c .work)) (length (c .pairs))
 
   -- all records pass, and the end answers
   ended-is : (o : Outcome) → ((n q : ℕ) → o ≡ refused n q → n ≡ 8) → outcomeOf c ≡ o → Fits c × EndsAs (c .axes) (c .mode) (c .job) records o

@@ -1,5 +1,6 @@
 -- Which part of a build answers: the tests before the records, a record, the end of the job, or the tests after it. Assumes nothing.
 use mathlib.Core.Path.{_≡_, refl, sym, ap, subst, _∙_}
+use mathlib.Core.List.{List}
 use mathlib.Core.Logic.{_⊎_, inl, inr, ⊎-elim}
 use Prim.Native.Nat.{ℕ, zero, suc, _/_, _≤_, _<_}
 use native.Mathlib.Omega.{arith}
@@ -18,16 +19,16 @@ use Rattle.refusing.proofs.WalkEnds.{walk-no}
 
 -- ---- the numbers of each part
 
-early-some : (axes mode bytes work pairs : ℕ) → (earlyNo axes mode bytes work pairs ≡ 0) ⊎ ((1 ≤ earlyNo axes mode bytes work pairs) × (earlyNo axes mode bytes work pairs ≤ 4))
+early-some : (axes mode : ℕ) (job : List ℕ) (work pairs : ℕ) → (earlyNo axes mode job work pairs ≡ 0) ⊎ ((1 ≤ earlyNo axes mode job work pairs) × (earlyNo axes mode job work pairs ≤ 4))
 unfolding earlyNo
-early-some axes mode bytes work pairs =
+early-some axes mode job work pairs =
     among 1 4 _
     ((omega arith, omega arith), ((omega arith, omega arith), ((omega arith, omega arith), ((omega arith, omega arith), ((omega arith, omega arith), tt)))))
 
-pub early-few : (axes mode bytes work pairs : ℕ) → earlyNo axes mode bytes work pairs ≤ 4
-early-few axes mode bytes work pairs =
-    ⊎-elim (λ (z : earlyNo axes mode bytes work pairs ≡ 0). omega arith) (λ (z : (1 ≤ earlyNo axes mode bytes work pairs) × (earlyNo axes mode bytes work pairs ≤ 4)). z .1)
-    (early-some axes mode bytes work pairs)
+pub early-few : (axes mode : ℕ) (job : List ℕ) (work pairs : ℕ) → earlyNo axes mode job work pairs ≤ 4
+early-few axes mode job work pairs =
+    ⊎-elim (λ (z : earlyNo axes mode job work pairs ≡ 0). omega arith) (λ (z : (1 ≤ earlyNo axes mode job work pairs) × (earlyNo axes mode job work pairs ≤ 4)). z .1)
+    (early-some axes mode job work pairs)
 
 -- those of the tests after the records: 10 to 14, 60 and 61
 pub record LateNo (n : ℕ) : Type 0 where
@@ -54,7 +55,7 @@ module _ (c : Lending) where
   walked = recordsFrom (c .axes) (c .mode) (c .job) (c .job) (length (c .job) / 12) 0 inAxes
 
   abbrev pub early : ℕ
-  early = earlyNo (c .axes) (c .mode) (length (c .job)) (length (c .work)) (length (c .pairs))
+  early = earlyNo (c .axes) (c .mode) (c .job) (length (c .work)) (length (c .pairs))
 
   pub outcome-early : (n : ℕ) → early ≡ n → 0 < n → outcomeOf c ≡ refused n 0
   unfolding outcome
@@ -88,7 +89,7 @@ module _ (c : Lending) where
       none z = (z, sym (outcome-walked z) ∙ e)
 
       some : (0 < early) × (outcomeOf c ≡ refused early 0) → (early ≡ 0) × (walked ≡ o)
-      some f = let b = early-few (c .axes) (c .mode) (length (c .job)) (length (c .work)) (length (c .pairs)) in let a = d early 0 (sym e ∙ f .1) in absurd (omega arith)
+      some f = let b = early-few (c .axes) (c .mode) (c .job) (length (c .work)) (length (c .pairs)) in let a = d early 0 (sym e ∙ f .1) in absurd (omega arith)
 
 -- ---- the answer
 
@@ -125,7 +126,7 @@ module _ (c : Lending) where
   job-no : (n p : ℕ) → outcomeOf c ≡ refused n p → JobNo n
   job-no n p e =
       ⊎-elim (λ z. let w = walk-no (c .axes) (c .mode) (c .job) (length (c .job) / 12) n p (sym (outcome-walked c z) ∙ e) in let l = w .low in record { some = omega arith; most = w .high; gap = w .gap; not-five = λ x. omega arith })
-      (λ f. let g = f .1 in let a : early c ≡ n = cc in let b = early-few (c .axes) (c .mode) (length (c .job)) (length (c .work)) (length (c .pairs)) in let h = f .0 in record { some = omega arith; most = omega arith; gap = λ x. omega arith; not-five = λ x. omega arith })
+      (λ f. let g = f .1 in let a : early c ≡ n = cc in let b = early-few (c .axes) (c .mode) (c .job) (length (c .work)) (length (c .pairs)) in let h = f .0 in record { some = omega arith; most = omega arith; gap = λ x. omega arith; not-five = λ x. omega arith })
       (outcome-by c)
 
   pub job-numbers : (n p : ℕ) → outcomeOf c ≡ refused n p → n ≤ 34

@@ -41,7 +41,7 @@ module _ (c : Lending) (i : ℕ) where
   refused-at : (n : ℕ) → Fits c → i < records → (s : State) → Passed (c .axes) (c .mode) (c .job) i s
       → step (c .axes) (c .mode) (c .job) (recordAt (c .job) i) i s ≡ stop n → answerOf c ≡ Refused n i
   refused-at n f l s p e =
-      answer-refused c n i (outcome-walked c (early-none (c .axes) (c .mode) (length (c .job)) (length (c .work)) (length (c .pairs)) .given f)
+      answer-refused c n i (outcome-walked c (early-none (c .axes) (c .mode) (c .job) (length (c .work)) (length (c .pairs)) .given f)
       ∙ stops-given (c .axes) (c .mode) (c .job) records n i (record { state = s; within = l; before-pass = p; stops = e }))
 
   at-refused : (n : ℕ) → RecordNo n → answerOf c ≡ Refused n i → Fits c × StopsAt (c .axes) (c .mode) (c .job) records n i
@@ -50,7 +50,7 @@ module _ (c : Lending) (i : ℕ) where
       let low = x .low in
       let o = job-only c n i (λ h. (x .gap h, x .high)) e in
       let w = walked-only c (refused n i) (λ m p f. let z : n ≡ m = cc in omega arith) o in (
-        early-none (c .axes) (c .mode) (length (c .job)) (length (c .work)) (length (c .pairs)) .only (w .0),
+        early-none (c .axes) (c .mode) (c .job) (length (c .work)) (length (c .pairs)) .only (w .0),
         stops-only (c .axes) (c .mode) (c .job) records n i (not-eight n k) (w .1),
       )
 

@@ -7,7 +7,7 @@ use lib.ListN.{length, replicate}
 use Rattle.said.specs.Records.{recordAt, recordCount, spareBytes}
 use Rattle.limits.specs.Limits.{mostRecords, mostAxes, maxShapes}
 use Rattle.said.specs.Refusals as refusals
-use Rattle.said.specs.Refusals.{publishedWork, pairRecords, mostBytes, badAxes, badMode, badJobLength, workShort, unknownRegion, regionTwice, setsFull, shapesFull, idsShort, mapShort, logShort, originsShort, storeTooBig, outShort, unknownKind, notZero, axisOutOfTurn, axisTooLate, regionUnfinished}
+use Rattle.said.specs.Refusals.{jobWork, pairRecords, mostBytes, badAxes, badMode, badJobLength, workShort, unknownRegion, regionTwice, setsFull, shapesFull, idsShort, mapShort, logShort, originsShort, storeTooBig, outShort, unknownKind, notZero, axisOutOfTurn, axisTooLate, regionUnfinished}
 use Rattle.said.specs.Job.{Said, fine}
 use Rattle.finishing.specs.declared.answers.Report.{Report}
 use Rattle.finishing.specs.declared.answers.Built.{Built}
@@ -40,7 +40,7 @@ pub record Table (c : Lending) : Type 0 where
   pub bad-mode : (p : ℕ) → Row c badMode p ((p ≡ 0) × (AxesFit (c .axes) × (1 < c .mode)))
   pub bad-job-length : (p : ℕ) → Row c badJobLength p ((p ≡ 0) × (ModeFit (c .axes) (c .mode) × ((spareBytes (length (c .job)) ≡ 0 → ⊥) ⊎ (mostRecords < recordCount (c .job)))))
   pub work-short : (p : ℕ) → Row c workShort p
-      ((p ≡ 0) × (LengthFit (c .axes) (c .mode) (length (c .job)) × ((length (c .work) < publishedWork (recordCount (c .job))) ⊎ (length (c .pairs) < pairRecords))))
+      ((p ≡ 0) × (LengthFit (c .axes) (c .mode) (length (c .job)) × ((length (c .work) < jobWork (c .axes) (c .job)) ⊎ (length (c .pairs) < pairRecords))))
   pub unknown-kind : (i : ℕ) → Row c unknownKind i (EarliestBad c i (UnknownKind (recordAt (c .job) i)))
   -- with the byte within the record
   pub not-zero : (i b : ℕ) → Exactly ((answerOf c ≡ Refused notZero i) × (byteTold (c .job) (answerOf c) ≡ b)) (EarliestBad c i (NotZeroAt (recordAt (c .job) i) b))

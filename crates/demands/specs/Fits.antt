@@ -1,9 +1,10 @@
 -- R1 to R4 in plain numbers, in the order T1. Each record says what holds where the numbers up to its own
 -- are not given. Assumes nothing.
+use mathlib.Core.List.{List}
 use mathlib.Core.Path.{_≡_}
 use Prim.Native.Nat.{ℕ, _/_, _%_, _≤_, _<_}
 use lib.ListN.{length}
-use Rattle.said.specs.Refusals.{publishedWork, pairRecords}
+use Rattle.said.specs.Refusals.{jobWork, pairRecords}
 use Rattle.call.specs.Lending.{Lending}
 use Rattle.said.specs.Records.{spareBytes, recordsIn}
 use Rattle.limits.specs.Limits.{mostRecords, mostAxes}
@@ -25,11 +26,11 @@ pub record LengthFit (axes mode bytes : ℕ) : Type 0 where
   pub few : recordsIn bytes ≤ mostRecords
 
 -- R4
-pub record WorkFit (axes mode bytes work pairs : ℕ) : Type 0 where
-  pub length-fit : LengthFit axes mode bytes
-  pub enough : publishedWork (recordsIn bytes) ≤ work
+pub record WorkFit (axes mode : ℕ) (job : List ℕ) (work pairs : ℕ) : Type 0 where
+  pub length-fit : LengthFit axes mode (length job)
+  pub enough : jobWork axes job ≤ work
   pub paired : pairRecords ≤ pairs
 
 -- of a call
 abbrev pub Fits : Lending → Type 0
-Fits c = WorkFit (c .axes) (c .mode) (length (c .job)) (length (c .work)) (length (c .pairs))
+Fits c = WorkFit (c .axes) (c .mode) (c .job) (length (c .work)) (length (c .pairs))

@@ -25,7 +25,7 @@ use Rattle.demands.proofs.OutcomeRows.{early-few}
 module _ (axes : ℕ) (job : List ℕ) (work : ℕ) where
   outcome-few : (n i : ℕ) → outcome axes 0 job work pairRecords ≡ refused n i → n < 4294967296
   unfolding outcome
-  outcome-few n i e = go (earlyNo axes 0 (length job) work pairRecords) (early-few axes 0 (length job) work pairRecords) e
+  outcome-few n i e = go (earlyNo axes 0 job work pairRecords) (early-few axes 0 job work pairRecords) e
     where
       go : (k : ℕ) → k ≤ 4 → outcomeFrom k (recordsFrom axes 0 job job (recordCount job) 0 inAxes) ≡ refused n i → n < 4294967296
       go zero h f = unfold outcomeFrom in omega (arith, walk-no axes 0 job (recordCount job) n i f .high)
@@ -34,7 +34,7 @@ module _ (axes : ℕ) (job : List ℕ) (work : ℕ) where
   -- the byte that a refusal names is one of the job's
   outcome-within : (n i : ℕ) → outcome axes 0 job work pairRecords ≡ refused n i → n ≡ notZero → recordStart (i + 1) ≤ length job
   unfolding outcome
-  outcome-within n i e z = go (earlyNo axes 0 (length job) work pairRecords) (early-few axes 0 (length job) work pairRecords) e
+  outcome-within n i e z = go (earlyNo axes 0 job work pairRecords) (early-few axes 0 job work pairRecords) e
     where
       go : (k : ℕ) → k ≤ 4 → outcomeFrom k (recordsFrom axes 0 job job (recordCount job) 0 inAxes) ≡ refused n i → recordStart (i + 1) ≤ length job
       go zero h f =

@@ -25,19 +25,27 @@ use packer::Profile;
 use pairs::Pair;
 use reporting::tell;
 ghost use mathlib.Core.Path.{_≡_};
-ghost use Rattle.said.specs.Refusals.{workWords};
+ghost use Rattle.said.specs.Work.{headRegions, workWords};
 ghost use Rattle.reader.specs.Store.{readStore};
 ghost use Rattle.finishing.specs.Buffers.{buffers};
 ghost use Rattle.call.specs.Lending.{lending, leaves};
 ghost use Rattle.numbers.specs.ReadWords.{readWord};
 ghost use Rattle.ivs.specs.Answered.{Answered};
 
-// The words of work that a job of so many records needs; 0 above the record limit.
+// The words of work that a job of so many records needs, with so many regions at its head; 0 above the record limit.
 #[no_mangle]
-pub extern "C" fn ivs_work_words(records: usize) -> usize
-    ensures { λ r. ⌜ r ≡ workWords records ⌝ }
+pub extern "C" fn ivs_work_words(records: usize, regions: usize) -> usize
+    ensures { λ r. ⌜ r ≡ workWords records regions ⌝ }
 {
-    job::work_words(records)
+    job::work_words(records, regions)
+}
+
+// The regions at a job's head.
+#[no_mangle]
+pub extern "C" fn ivs_head_regions(axes: u32, job: &[u8]) -> usize
+    ensures { λ r. ⌜ r ≡ headRegions axes (now (job .entry)) ⌝ }
+{
+    job::head_regions(axes, job)
 }
 
 // The value of a region in a row of a store, as a number.

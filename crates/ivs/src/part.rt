@@ -19,7 +19,7 @@ pub extern "C" fn ivs_part(
     report: &mut [u64; 16],
 ) -> u32
     ensures { λ r. ⌜ r ≡ partNumber (partOf axes (now (job .entry)) first second (length (now (work .entry)))) ⌝ }
-    ensures { λ _. ⌜ now (work .exit) ≡ workLeft axes 0 (length (now (job .entry))) pairRecords (now (work .entry)) ⌝ }
+    ensures { λ _. ⌜ now (work .exit) ≡ workLeft axes 0 (now (job .entry)) pairRecords (now (work .entry)) ⌝ }
     ensures { λ _. ⌜ now (report .exit) ≡ filled 0 (partWords (now (job .entry)) (partOf axes (now (job .entry)) first second (length (now (work .entry))))) (now (report .entry)) ⌝ }
 {
     let answer = parting::part(axes, job, first, second, work);

@@ -6,8 +6,10 @@ use native.Mathlib.Omega.{arith}
 use lib.ListN.{length, replicate}
 use borrow.Author.Tests.{eq-eqb, ne-eqb}
 use Rattle.sets.proofs.HeldLaws.{sets-length}
-use Rattle.said.specs.Records.{recordsIn, recordCount}
-use Rattle.said.specs.Refusals.{publishedWork, earlyNo}
+use Rattle.said.specs.Records.{recordCount}
+use Rattle.said.specs.Work.{headRegions}
+use Rattle.said.specs.Refusals.{earlyNo}
+use Rattle.said.proofs.WorkLaws.{work-records}
 use Rattle.said.specs.Job.{Outcome, inAxes, recordsFrom, outcomeFrom, outcome}
 use Rattle.said.specs.Job.{refused, fine}
 use Rattle.job.specs.Lent.{JobRead}
@@ -27,22 +29,21 @@ none-early zero o h = refl
 none-early (suc n) o h = absurd (omega arith)
 
 -- the published work has the words of the tables
-pub room : (axes mode bytes work pairs : ℕ) → Open axes mode bytes work pairs → 16 * recordsIn bytes ≤ work
-unfolding publishedWork
-room axes mode bytes work pairs o = omega (arith, o .enough)
+pub room : (axes mode : ℕ) (job : List ℕ) (work pairs : ℕ) → Open axes mode job work pairs → 16 * recordCount job ≤ work
+room axes mode job work pairs o = omega (arith, o .enough, work-records (recordCount job) (headRegions axes job))
 
-module _ (axes mode : ℕ) (job w : List ℕ) (pairs n : ℕ) (e : n ≡ earlyNo axes mode (length job) (length w) pairs) where
+module _ (axes mode : ℕ) (job w : List ℕ) (pairs n : ℕ) (e : n ≡ earlyNo axes mode job (length w) pairs) where
   pub refused-early : (n ≡ 0 → ⊥) → Refused n 0 ≡ checkedOf (outcome axes mode job (length w) pairs)
   unfolding outcome checkedOf
   refused-early h =
       let o : Outcome = recordsFrom axes mode job job (recordCount job) 0 inAxes in
       sym (ap checkedOf (ap (λ k. outcomeFrom k o) (sym e) ∙ early-first n o h))
 
-  pub left-early : (n ≡ 0 → ⊥) → w ≡ workLeft axes mode (length job) pairs w
+  pub left-early : (n ≡ 0 → ⊥) → w ≡ workLeft axes mode job pairs w
   unfolding workLeft
   left-early h = rw (← e, ne-eqb n 0 h) refl
 
-  pub left-zeros : n ≡ 0 → (long : ℕ) (w′ : List ℕ) → long ≡ length w → w′ ≡ replicate long 0 → w′ ≡ workLeft axes mode (length job) pairs w
+  pub left-zeros : n ≡ 0 → (long : ℕ) (w′ : List ℕ) → long ≡ length w → w′ ≡ replicate long 0 → w′ ≡ workLeft axes mode job pairs w
   unfolding workLeft
   left-zeros z long w′ l c = c ∙ rw (← e, eq-eqb n 0 z, l) refl
 

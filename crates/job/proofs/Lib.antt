@@ -1,2 +1,4 @@
 pub mod WholeLaws
 pub mod CheckLaws
+pub mod HeadLaws
+pub mod EarlyLaws

@@ -21,6 +21,7 @@ use Rattle.job_scan.specs.Lent.{FirstsOf, Room, SetsHeld, SetsRead}
 use Rattle.limits.specs.Limits.{mostRecords}
 use Rattle.job.specs.Lent.{tablesAt, Prepared, JobHeld, JobRead}
 use Rattle.said.specs.Refusals.{publishedWork}
+use Rattle.said.proofs.WorkLaws.{work-records}
 use Rattle.said.proofs.RegionLaws.{regions-length, like-below}
 use Rattle.values.proofs.HoldLaws.{stamps-none}
 use Rattle.entries.proofs.OrderLaws.{in-order-none}
@@ -164,6 +165,5 @@ job-read-by t axes mode job records nr at old mid new e a p nr′ at′ sets val
     (omega (arith, span at axes 6, a .within)) (regions-fit at axes records (a .within))
 
 -- the published work has the words of the tables
-pub work-enough : (n work : ℕ) → publishedWork n ≤ work → 16 * n ≤ work
-unfolding publishedWork
-work-enough n work h = omega arith
+pub work-enough : (n r work : ℕ) → publishedWork n r ≤ work → 16 * n ≤ work
+work-enough n r work h = omega (arith, work-records n r)

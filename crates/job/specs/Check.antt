@@ -14,5 +14,5 @@ checkedOf (refused n i) = Refused n i
 checkedOf (fine s) = Sound (length (s .regions)) (length (s .sets)) (s .values)
 
 -- work is left by R1 to R4, and all zeros after any other answer (L2)
-unfoldable pub workLeft : ℕ → ℕ → ℕ → ℕ → List ℕ → List ℕ
-workLeft axes mode bytes pairs w = pick (eqb (earlyNo axes mode bytes (length w) pairs) 0) (replicate (length w) 0) w
+unfoldable pub workLeft : (axes mode : ℕ) (job : List ℕ) (pairs : ℕ) (work : List ℕ) → List ℕ
+workLeft axes mode job pairs w = pick (eqb (earlyNo axes mode job (length w) pairs) 0) (replicate (length w) 0) w

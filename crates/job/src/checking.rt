@@ -18,9 +18,9 @@ pub enum Checked {
 // Looks at every job, sound or not, where so many pair records are lent; work is as it was after refusals 1 to 4, else all zeros.
 pub fn check(axes: u32, mode: u32, job: &[u8], work: &mut [u32], pairs: usize) -> Checked
     ensures { λ r. ⌜ r ≡ checkedOf (outcome axes mode (now (job .entry)) (length (now (work .entry))) pairs) ⌝ }
-    ensures { λ _. ⌜ now (work .exit) ≡ workLeft axes mode (length (now (job .entry))) pairs (now (work .entry)) ⌝ }
+    ensures { λ _. ⌜ now (work .exit) ≡ workLeft axes mode (now (job .entry)) pairs (now (work .entry)) ⌝ }
 {
-    let no = early_no(axes, mode, job.len(), work.len(), pairs);
+    let no = early_no(axes, mode, job, work.len(), pairs);
     if no != 0 {
         return Checked::Refused(no, 0);
     }

@@ -1,4 +1,5 @@
 // What is tested before the first record, the published number of words of work, and the clearing of work.
+use crate::head::head_regions;
 use limits::Limits;
 use records::are_records;
 use records::records_in;
@@ -9,33 +10,36 @@ ghost use Prim.Native.Nat.{ℕ, _<_, _≤_};
 ghost use lib.ListN.{length, replicate};
 ghost use Rattle.said.specs.Refusals.{publishedWork, workWords, earlyNo};
 ghost use Rattle.said.specs.LentOpen.{Open};
-ghost use Rattle.limits.specs.Limits.{mostRecords};
+ghost use Rattle.limits.specs.Limits.{mostRecords, maxRegions};
 
-// The words of work that a job of so many records needs.
-fn needed(records: usize) -> usize
-    requires { ⌜ records ≤ mostRecords ⌝ }
-    ensures { λ r. ⌜ r ≡ publishedWork records ⌝ }
+// The words of work that a job of so many records and regions needs.
+fn needed(records: usize, regions: usize) -> usize
+    requires { ⌜ (records ≤ mostRecords) × (regions ≤ maxRegions) ⌝ }
+    ensures { λ r. ⌜ r ≡ publishedWork records regions ⌝ }
 {
     if records < Limits::SHAPES {
-        return 16 * records + records * records;
+        return 16 * records + records * (regions + 16);
     }
-    16 * records + Limits::SHAPES * Limits::SHAPES
+    16 * records + Limits::SHAPES * (regions + 16)
 }
 
-// The published number for so many records; 0 above the record limit.
-pub fn work_words(records: usize) -> usize
-    ensures { λ r. ⌜ r ≡ workWords records ⌝ }
+// The published number for so many records and regions; 0 above the record limit, and no more for more regions than there may be.
+pub fn work_words(records: usize, regions: usize) -> usize
+    ensures { λ r. ⌜ r ≡ workWords records regions ⌝ }
 {
     if Limits::RECORDS < records {
         return 0;
     }
-    needed(records)
+    if Limits::REGIONS < regions {
+        return needed(records, Limits::REGIONS);
+    }
+    needed(records, regions)
 }
 
-// Refusals 1 to 4 in that order, or 0, of so many bytes, words and pair records.
-pub fn early_no(axes: u32, mode: u32, bytes: usize, work: usize, pairs: usize) -> usize
-    ensures { λ r. ⌜ r ≡ earlyNo axes mode bytes work pairs ⌝ }
-    ensures { λ r. ⌜ (r ≡ 0 → Open axes mode bytes work pairs) ⌝ }
+// Refusals 1 to 4 in that order, or 0, of a job, so many words and so many pair records.
+pub fn early_no(axes: u32, mode: u32, job: &[u8], work: usize, pairs: usize) -> usize
+    ensures { λ r. ⌜ r ≡ earlyNo axes mode (now (job .entry)) work pairs ⌝ }
+    ensures { λ r. ⌜ (r ≡ 0 → Open axes mode (now (job .entry)) work pairs) ⌝ }
 {
     if axes == 0 {
         return Refusal::BAD_AXES;
@@ -46,14 +50,14 @@ pub fn early_no(axes: u32, mode: u32, bytes: usize, work: usize, pairs: usize) -
     if 1 < mode {
         return Refusal::BAD_MODE;
     }
-    if !are_records(bytes) {
+    if !are_records(job.len()) {
         return Refusal::BAD_JOB_LENGTH;
     }
-    let records = records_in(bytes);
+    let records = records_in(job.len());
     if Limits::RECORDS < records {
         return Refusal::BAD_JOB_LENGTH;
     }
-    if work < needed(records) {
+    if work < needed(records, head_regions(axes, job)) {
         return Refusal::WORK_SHORT;
     }
     if pairs < Limits::PAIRS {

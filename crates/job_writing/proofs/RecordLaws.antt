@@ -16,7 +16,7 @@ use Rattle.laws.specs.Signed.{signed, twos}
 use Rattle.laws.proofs.BytesLaws.{bytes-length, pow-top}
 use Rattle.rows.specs.Lent.{Put}
 use Rattle.rows.proofs.PutLaws.{put-start, put-more, put-last}
-use Rattle.recovering.specs.Recovering.{axisRecord, valueBytes, endRecord}
+use Rattle.recovering.specs.Recovering.{lowByte, highByte, axisRecord, valueBytes, endRecord}
 use Rattle.job_writing.specs.LentWrite.{threeWords}
 
 pub three-long : (a b c : ℕ) → length (threeWords a b c) ≡ 12
@@ -39,16 +39,23 @@ pub four : (x a b c d : ℕ) → x / 256 / 256 / 256 % 256 ≡ a → x / 256 / 2
 unfolding bytesOf
 four x a b c d e f g h = rw (e, f, g, h)
 
-pub head-is : (kind q a : ℕ) → kind < 4 → q < 256 → a < 256 → bytesOf 4 (kind * 16777216 + q * 65536 + a * 256) ≡ kind ∷ q ∷ a ∷ 0 ∷ []
-head-is kind q a k h l = four (kind * 16777216 + q * 65536 + a * 256) kind q a 0 (omega arith) (omega arith) (omega arith) (omega arith)
+four-bytes : (a b c d : ℕ) → a < 256 → b < 256 → c < 256 → d < 256 → bytesOf 4 (a * 16777216 + b * 65536 + c * 256 + d) ≡ a ∷ b ∷ c ∷ d ∷ []
+four-bytes a b c d h k l m = four (a * 16777216 + b * 65536 + c * 256 + d) a b c d (omega arith) (omega arith) (omega arith) (omega arith)
+
+-- the number of the first four bytes of a record
+abbrev headOf : ℕ → ℕ → ℕ → ℕ
+headOf kind q a = kind * 16777216 + lowByte q * 65536 + a * 256 + highByte q
+
+head-is : (kind q a : ℕ) → kind < 4 → q < 65536 → a < 256 → bytesOf 4 (headOf kind q a) ≡ kind ∷ lowByte q ∷ a ∷ highByte q ∷ []
+head-is kind q a k h l = four-bytes kind (lowByte q) a (highByte q) (omega arith) (omega arith) l (omega arith)
 
 zero-four : bytesOf 4 0 ≡ 0 ∷ 0 ∷ 0 ∷ 0 ∷ []
 zero-four = four 0 0 0 0 0 (omega arith) (omega arith) (omega arith) (omega arith)
 
-pub value-is : (q x h : ℕ) → q < 256 → h ≡ 2 * 16777216 + q * 65536 + 0 * 256 → threeWords h x 0 ≡ valueBytes q x
+pub value-is : (q x h : ℕ) → q < 65536 → h ≡ headOf 2 q 0 → threeWords h x 0 ≡ valueBytes q x
 value-is q x h l e = rw (e, head-is 2 q 0 (omega arith) l (omega arith), four x _ _ _ _ refl refl refl refl, zero-four)
 
-pub end-is : (h : ℕ) → h ≡ 3 * 16777216 + 0 * 65536 + 0 * 256 → threeWords h 0 0 ≡ endRecord
+pub end-is : (h : ℕ) → h ≡ headOf 3 0 0 → threeWords h 0 0 ≡ endRecord
 end-is h e = rw (e, head-is 3 0 0 (omega arith) (omega arith) (omega arith), zero-four)
 
 -- a number of two bytes, and two that are zero
@@ -74,7 +81,7 @@ module _ (s : List ℕ) (bytes : (k : ℕ) → getD s k 0 < 256) (from : ℕ) wh
   unfolding be
   two-is = two-four (getD s (from + 4 + 0) 0) (getD s (from + 4 + 1) 0) (be 2 s (from + 4)) (bytes (from + 4 + 0)) (bytes (from + 4 + 1)) (omega arith)
 
-  pub axis-is : (q a h x y : ℕ) → q < 256 → a < 256 → h ≡ 1 * 16777216 + q * 65536 + a * 256 → x ≡ be 4 s from → y ≡ be 2 s (from + 4) * 65536
+  pub axis-is : (q a h x y : ℕ) → q < 65536 → a < 256 → h ≡ headOf 1 q a → x ≡ be 4 s from → y ≡ be 2 s (from + 4) * 65536
       → threeWords h x y ≡ axisRecord q a (drop from s)
   axis-is q a h x y l m e f g =
       let u : from + 4 + 0 ≡ from + 4 = omega arith in

@@ -135,6 +135,3 @@ module _ (s : List ℕ) (ok : headerOk s ≡ true) (place axes n : ℕ) (h : Hea
 
   pub axes-low : axisCount s < 256 → axes < 256
   axes-low l = rw (h .axes-is) l
-
-  pub count-low : regionCount s ≤ 256 → n ≤ 256
-  count-low l = rw (h .count-is) l

@@ -10,11 +10,8 @@ use borrow.Author.Tests.{eq-eqb, ne-eqb}
 use Rattle.laws.specs.Bytes.{be}
 use Rattle.laws.specs.Bounded.{tabulate}
 use Rattle.laws.specs.Signed.{signed, twos}
-use Rattle.reader.specs.Store.{columnBytes, columnAt, wordAt, columnCount, itemCount, regionCount, regionsAt}
-use Rattle.reader.proofs.StoreLaws.{words-at, words-length, ok-below}
-use Rattle.stores.specs.Stores.{Table, Parsed, tableCount, offsetAt, rowsAt, rowLong, tableAt, slotAt, storeAt, wholeOk}
-use Rattle.stores.proofs.WholeLaws.{Slot, Whole, whole-is, subtable-named}
-use Rattle.stores.proofs.WholeLaws.Slot.{null, good}
+use Rattle.reader.specs.Store.{columnBytes, columnAt, wordAt, columnCount, itemCount}
+use Rattle.stores.specs.Stores.{Table, Parsed, tableCount, offsetAt, rowsAt, rowLong, tableAt, slotAt, storeAt}
 use Rattle.recovering.specs.Recovering.{Row, valueBytes, endRecord, entriesOf, rowsOf, setBytes, setsBytes}
 use Rattle.tallying.specs.LentTally.{entriesIn, rowsIn, RowIn}
 use Rattle.rows.specs.Lent.{Put}
@@ -22,7 +19,6 @@ use Rattle.rows.proofs.PutLaws.{Putting, put-start}
 use Rattle.job_writing.proofs.PieceLaws.{piece-room, put-nothing}
 use Rattle.tallying.proofs.RowLaws.{leftFrom, entries-are, left-zero, left-more, left-none}
 use Rattle.tallying.proofs.TableLaws.{rowsFrom, rows-are, rows-step, rows-end, rows-all}
-use Rattle.job_writing.specs.LentWrite.{LowNamed, LowSlot}
 
 -- ---- one row
 
@@ -46,9 +42,6 @@ set-end s row word n names j h = ap setBytes (left-none s row word n names j h) 
 pub set-put : (s : List ℕ) (table row : ℕ) → RowIn s table row → (word n : ℕ) → word ≡ wordAt s table → n ≡ columnCount s table → (at : ℕ) (old : List ℕ)
     → Putting at (setBytes (entriesIn s table row)) old old at (setBytes (leftFrom s row word n (table + 6) 0))
 set-put s table row r word n a b at old = rw (entries-are s table row r word n a b) (put-start at (setBytes (entriesIn s table row)) old)
-
-pub low-here : (s : List ℕ) (at j n q : ℕ) → LowNamed s at → n ≡ columnCount s at → j < n → q ≡ be 2 s (at + 6 + 2 * j) → q < 256
-low-here s at j n q l e h f = rw f (l .low j (omega arith))
 
 -- ---- a subtable
 
@@ -128,18 +121,3 @@ slots-all s n e = let z : n - 0 ≡ tableCount s = omega arith in rw z
 
 pub slots-put : (s : List ℕ) (n : ℕ) → n ≡ tableCount s → (at : ℕ) (old : List ℕ) → Putting at (setsBytes (rowsOf (storeAt s .tables))) old old at (slotsLeft s n 0)
 slots-put s n e at old = rw (slots-all s n e) (put-start at (setsBytes (rowsOf (storeAt s .tables))) old)
-
--- the columns of a good subtable are low where there are few regions
-pub low-slot : (s : List ℕ) → wholeOk s ≡ true → regionCount s ≤ 256 → (n o at : ℕ) → n ≡ tableCount s → o < n → at ≡ offsetAt s o → LowSlot s at
-low-slot s ok few n o at e h a = rw a (go (whole-is s ok .slots o (omega arith)))
-  where
-    go : Slot s (offsetAt s o) → LowSlot s (offsetAt s o)
-    go (null z) = record { there = λ d. absurd (d z) }
-    go (good d g) = record {
-      there = λ d. record {
-        low = λ j l.
-            let t = offsetAt s o in
-            let b = ok-below (regionCount s) (regionsAt s t) (subtable-named s t (regionCount s) g) j (omega (arith, words-length s (t + 6) (columnCount s t))) in
-            omega (arith, words-at s (t + 6) (columnCount s t) j l);
-      };
-    }

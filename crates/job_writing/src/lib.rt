@@ -9,14 +9,15 @@ ghost use mathlib.Core.Path.{_≡_};
 ghost use mathlib.Core.Bool.{true};
 ghost use Prim.Native.Nat.{_≤_};
 ghost use lib.ListN.{length};
-ghost use Rattle.reader.specs.Store.{axisCount, regionCount};
+ghost use Rattle.limits.specs.Limits.{mostAxes};
+ghost use Rattle.reader.specs.Store.{axisCount};
 ghost use Rattle.rows.specs.Lent.{Put};
 ghost use Rattle.stores.specs.Stores.{storeAt, wholeOk};
 ghost use Rattle.recovering.specs.Recovering.{jobOf};
 
 // The job of a store that can be recovered.
 pub fn write_job(out: &mut [u8], s: &[u8])
-    requires { ⌜ (wholeOk (now s) ≡ true) × (regionCount (now s) ≤ 256) × (axisCount (now s) ≤ 64) ⌝ }
+    requires { ⌜ (wholeOk (now s) ≡ true) × (axisCount (now s) ≤ mostAxes) ⌝ }
     requires { ⌜ length (jobOf (storeAt (now s))) ≤ length (now out) ⌝ }
     ensures { λ _. ⌜ Put 0 (jobOf (storeAt (now (s .entry)))) (now (out .entry)) (now (out .exit)) (length (jobOf (storeAt (now (s .entry))))) ⌝ }
 {

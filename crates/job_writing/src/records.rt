@@ -6,7 +6,7 @@ ghost use Prim.Native.Nat.{_+_, _*_, _≤_, _<_, _^_};
 ghost use lib.ListN.{length, drop};
 ghost use Rattle.laws.specs.Signed.{signed, twos};
 ghost use Rattle.rows.specs.Lent.{Put};
-ghost use Rattle.recovering.specs.Recovering.{axisRecord, valueBytes, endRecord};
+ghost use Rattle.recovering.specs.Recovering.{lowByte, highByte, axisRecord, valueBytes, endRecord};
 ghost use Rattle.job_writing.specs.LentWrite.{threeWords};
 
 fn put_record(out: &mut [u8], at: usize, a: u32, b: u32, c: u32)
@@ -18,18 +18,18 @@ fn put_record(out: &mut [u8], at: usize, a: u32, b: u32, c: u32)
     put(out, at + 8, 4, c);
 }
 
-// The first four bytes: the kind, a region number and an axis.
+// The first four bytes: the kind, a region number's low byte, an axis, and its high byte.
 fn head(kind: usize, q: usize, a: usize) -> u32
-    requires { ⌜ (kind < 4) × (q < 256) × (a < 256) ⌝ }
-    ensures { λ r. ⌜ r ≡ kind * 16777216 + q * 65536 + a * 256 ⌝ }
+    requires { ⌜ (kind < 4) × (q < 65536) × (a < 256) ⌝ }
+    ensures { λ r. ⌜ r ≡ kind * 16777216 + lowByte q * 65536 + a * 256 + highByte q ⌝ }
 {
-    (kind * 16777216 + q * 65536 + a * 256) as u32
+    (kind * 16777216 + q % 256 * 65536 + a * 256 + q / 256) as u32
 }
 
 // Axis a of region q, whose six bytes stand in the store from `from` on.
 pub fn put_axis(out: &mut [u8], at: usize, q: usize, a: usize, s: &[u8], from: usize)
     requires { ⌜ at + 12 ≤ length (now out) ⌝ }
-    requires { ⌜ (q < 256) × (a < 256) × (from + 6 ≤ length (now s)) ⌝ }
+    requires { ⌜ (q < 65536) × (a < 256) × (from + 6 ≤ length (now s)) ⌝ }
     ensures { λ _. ⌜ Put at (axisRecord q a (drop from (now (s .entry)))) (now (out .entry)) (now (out .exit)) (at + 12) ⌝ }
 {
     let first = be(s, from, 4) as u32;
@@ -38,7 +38,7 @@ pub fn put_axis(out: &mut [u8], at: usize, q: usize, a: usize, s: &[u8], from: u
 }
 
 pub fn put_value(out: &mut [u8], at: usize, q: usize, x: u32)
-    requires { ⌜ (at + 12 ≤ length (now out)) × (q < 256) ⌝ }
+    requires { ⌜ (at + 12 ≤ length (now out)) × (q < 65536) ⌝ }
     ensures { λ _. ⌜ Put at (valueBytes q x) (now (out .entry)) (now (out .exit)) (at + 12) ⌝ }
 {
     put_record(out, at, head(2, q, 0), x, 0);

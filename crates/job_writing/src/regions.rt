@@ -5,14 +5,14 @@ ghost use mathlib.Core.Path.{_≡_};
 ghost use mathlib.Core.Bool.{true};
 ghost use Prim.Native.Nat.{_+_, _*_, _≤_, _<_};
 ghost use lib.ListN.{length, drop};
-ghost use Rattle.reader.specs.Store.{headerOk, axisCount, regionCount};
+ghost use Rattle.reader.specs.Store.{headerOk, axisCount};
 ghost use Rattle.rows.specs.Lent.{Put};
 ghost use Rattle.stores.specs.Stores.{storeAt};
 ghost use Rattle.recovering.specs.Recovering.{axesFrom, regionsFrom};
 
 // Those of region q, whose coordinates stand from `from` on.
 fn write_axes(out: &mut [u8], at: usize, q: usize, s: &[u8], from: usize, axes: usize) -> usize
-    requires { ⌜ (q < 256) × (axes < 256) × (from + 6 * axes ≤ length (now s)) ⌝ }
+    requires { ⌜ (q < 65536) × (axes < 256) × (from + 6 * axes ≤ length (now s)) ⌝ }
     requires { ⌜ at + length (axesFrom q 0 axes (drop from (now s))) ≤ length (now out) ⌝ }
     ensures { λ r. ⌜ Put at (axesFrom q 0 axes (drop from (now (s .entry)))) (now (out .entry)) (now (out .exit)) r ⌝ }
 {
@@ -27,7 +27,7 @@ fn write_axes(out: &mut [u8], at: usize, q: usize, s: &[u8], from: usize, axes: 
 }
 
 pub fn write_regions(out: &mut [u8], s: &[u8]) -> usize
-    requires { ⌜ (headerOk (now s) ≡ true) × (axisCount (now s) < 256) × (regionCount (now s) ≤ 256) ⌝ }
+    requires { ⌜ (headerOk (now s) ≡ true) × (axisCount (now s) < 256) ⌝ }
     requires { ⌜ length (regionsFrom (storeAt (now s) .axes) 0 (storeAt (now s) .regions)) ≤ length (now out) ⌝ }
     ensures { λ r. ⌜ Put 0 (regionsFrom (storeAt (now (s .entry)) .axes) 0 (storeAt (now (s .entry)) .regions)) (now (out .entry)) (now (out .exit)) r ⌝ }
 {

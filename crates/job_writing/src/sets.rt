@@ -12,15 +12,13 @@ ghost use mathlib.Core.List.{[], _∷_};
 ghost use Prim.Native.Nat.{_+_, _≤_};
 ghost use lib.ListN.{length};
 ghost use Rattle.rows.specs.Lent.{Put};
-ghost use Rattle.reader.specs.Store.{regionCount};
 ghost use Rattle.stores.specs.Stores.{slotAt, storeAt, wholeOk};
 ghost use Rattle.recovering.specs.Recovering.{rowsOf, setBytes, setsBytes};
 ghost use Rattle.tallying.specs.LentTally.{entriesIn, rowsIn, RowIn, TableIn, SlotIn};
-ghost use Rattle.job_writing.specs.LentWrite.{LowNamed, LowSlot};
 
 // The set of the row that begins at `row`, of the subtable at `table`.
 fn write_set(out: &mut [u8], at: usize, s: &[u8], table: usize, row: usize) -> usize
-    requires { ⌜ RowIn (now s) table row × LowNamed (now s) table ⌝ }
+    requires { ⌜ RowIn (now s) table row ⌝ }
     requires { ⌜ at + length (setBytes (entriesIn (now s) table row)) ≤ length (now out) ⌝ }
     ensures { λ r. ⌜ Put at (setBytes (entriesIn (now (s .entry)) table row)) (now (out .entry)) (now (out .exit)) r ⌝ }
 {
@@ -45,7 +43,7 @@ fn write_set(out: &mut [u8], at: usize, s: &[u8], table: usize, row: usize) -> u
 
 // Those of a subtable.
 fn write_table(out: &mut [u8], at: usize, s: &[u8], table: usize) -> usize
-    requires { ⌜ TableIn (now s) table × LowNamed (now s) table ⌝ }
+    requires { ⌜ TableIn (now s) table ⌝ }
     requires { ⌜ at + length (setsBytes (rowsIn (now s) table)) ≤ length (now out) ⌝ }
     ensures { λ r. ⌜ Put at (setsBytes (rowsIn (now (s .entry)) table)) (now (out .entry)) (now (out .exit)) r ⌝ }
 {
@@ -66,7 +64,7 @@ fn write_table(out: &mut [u8], at: usize, s: &[u8], table: usize) -> usize
 
 // Those of a subtable that may be null, at 0.
 fn write_slot(out: &mut [u8], at: usize, s: &[u8], table: usize) -> usize
-    requires { ⌜ SlotIn (now s) table × LowSlot (now s) table ⌝ }
+    requires { ⌜ SlotIn (now s) table ⌝ }
     requires { ⌜ at + length (setsBytes (rowsOf (slotAt (now s) table ∷ []))) ≤ length (now out) ⌝ }
     ensures { λ r. ⌜ Put at (setsBytes (rowsOf (slotAt (now (s .entry)) table ∷ []))) (now (out .entry)) (now (out .exit)) r ⌝ }
 {
@@ -77,7 +75,7 @@ fn write_slot(out: &mut [u8], at: usize, s: &[u8], table: usize) -> usize
 }
 
 pub fn write_sets(out: &mut [u8], at: usize, s: &[u8]) -> usize
-    requires { ⌜ (wholeOk (now s) ≡ true) × (regionCount (now s) ≤ 256) ⌝ }
+    requires { ⌜ wholeOk (now s) ≡ true ⌝ }
     requires { ⌜ at + length (setsBytes (rowsOf (storeAt (now s) .tables))) ≤ length (now out) ⌝ }
     ensures { λ r. ⌜ Put at (setsBytes (rowsOf (storeAt (now (s .entry)) .tables))) (now (out .entry)) (now (out .exit)) r ⌝ }
 {

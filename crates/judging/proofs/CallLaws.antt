@@ -17,7 +17,7 @@ use Rattle.laws.proofs.RangeLaws.{getD-seg}
 use Rattle.sets.specs.Lent.{setsIn, Held}
 use Rattle.sets.proofs.HeldLaws.{Kept, kept-only, kept-trans, held-kept, sets-same}
 use Rattle.limits.specs.Limits.{mostRecords, pairRecords}
-use Rattle.said.specs.Records.{recordBytes, recordStart, recordsIn, recordCount, regionLong}
+use Rattle.said.specs.Records.{recordBytes, recordStart, recordCount, regionLong}
 use Rattle.said.specs.Refusals.{earlyNo}
 use Rattle.said.specs.LentOpen.{Open}
 use Rattle.said.specs.Job.{Said, Outcome, refused, fine, inAxes, recordsFrom, outcomeFrom}
@@ -197,18 +197,18 @@ module _ {axes records sets uses : ℕ} {job store w : List ℕ} (f : JudgeFit a
 
 -- ---- the call
 
-module _ (axes : ℕ) (job store words w : List ℕ) (n : ℕ) (e : n ≡ judgeNo axes (length job) (length store) (length w)) where
+module _ (axes : ℕ) (job store words w : List ℕ) (n : ℕ) (e : n ≡ judgeNo axes job (length store) (length w)) where
   pub refused-early : (n ≡ 0 → ⊥) → Refused n 0 ≡ judgeOf axes job store words (length w)
   unfolding judgeOf judgedOf
   refused-early h =
       let o : Outcome = recordsFrom axes 0 job job (recordCount job) 0 inAxes in
       sym (ap (judgedOf axes store words) (ap (λ (k : ℕ). outcomeFrom k o) (sym e) ∙ early-first n o h))
 
-  pub left-early : (n ≡ 0 → ⊥) → w ≡ judgeLeft axes (length job) (length store) w
+  pub left-early : (n ≡ 0 → ⊥) → w ≡ judgeLeft axes job (length store) w
   unfolding judgeLeft
   left-early h = rw (← e, ne-eqb n 0 h) refl
 
-  pub left-zeros : n ≡ 0 → (long : ℕ) (w′ : List ℕ) → long ≡ length w → w′ ≡ replicate long 0 → w′ ≡ judgeLeft axes (length job) (length store) w
+  pub left-zeros : n ≡ 0 → (long : ℕ) (w′ : List ℕ) → long ≡ length w → w′ ≡ replicate long 0 → w′ ≡ judgeLeft axes job (length store) w
   unfolding judgeLeft
   left-zeros z long w′ l c = c ∙ rw (← e, eq-eqb n 0 z, l) refl
 
@@ -225,7 +225,7 @@ module _ (axes : ℕ) (job store words w : List ℕ) (n : ℕ) (e : n ≡ judgeN
     unfolding judgedOf
     refused-record h = answers (refused no at) (read .bad h)
 
-    module _ (bytes : (k : ℕ) → getD job k 0 < 256) (o : JudgeOpen axes (length job) (length store) (length w)) (g : no ≡ 0) where
+    module _ (bytes : (k : ℕ) → getD job k 0 < 256) (o : JudgeOpen axes job (length store) (length w)) (g : no ≡ 0) where
       abbrev pub stands : JudgeFit a job records sets uses (length store) new
       stands = record {
         some = omega (arith, q, o .passed .some);

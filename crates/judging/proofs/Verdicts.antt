@@ -132,7 +132,7 @@ module _ (axes : ℕ) (job store words : List ℕ) (work : ℕ) where
     pub parsed-to : Parsed
     pub sound : Sound axes job store work s parsed-to
 
-  sound-from : (s : Said) (r : Judged) → judgeNo axes (length job) (length store) work ≡ 0 → recordsFrom axes 0 job job (recordCount job) 0 inAxes ≡ fine s
+  sound-from : (s : Said) (r : Judged) → judgeNo axes job (length store) work ≡ 0 → recordsFrom axes 0 job job (recordCount job) 0 inAxes ≡ fine s
       → judgedIn axes words s (parse store) ≡ r → (r ≡ WrongStore → ⊥) → Stands s
   unfolding judgedIn
   sound-from s r z f e d = go (parse store) refl e
@@ -153,19 +153,19 @@ module _ (axes : ℕ) (job store words : List ℕ) (work : ℕ) where
   -- an answer that is no refusal: the checks of the job pass, and it is that of the store
   record Taken (r : Judged) : Type 0 where
     said : Said
-    passed : judgeNo axes (length job) (length store) work ≡ 0
+    passed : judgeNo axes job (length store) work ≡ 0
     said-is : recordsFrom axes 0 job job (recordCount job) 0 inAxes ≡ fine said
     answer : judgedIn axes words said (parse store) ≡ r
 
   taken : (r : Judged) → ((n i : ℕ) → r ≡ Refused n i → ⊥) → judgeOf axes job store words work ≡ r → Taken r
   unfolding judgeOf judgedOf outcomeFrom
-  taken r d e = go (judgeNo axes (length job) (length store) work) refl e
+  taken r d e = go (judgeNo axes job (length store) work) refl e
     where
-      records : (o : Outcome) → judgeNo axes (length job) (length store) work ≡ 0 → recordsFrom axes 0 job job (recordCount job) 0 inAxes ≡ o → judgedOf axes store words o ≡ r → Taken r
+      records : (o : Outcome) → judgeNo axes job (length store) work ≡ 0 → recordsFrom axes 0 job job (recordCount job) 0 inAxes ≡ o → judgedOf axes store words o ≡ r → Taken r
       records (refused n i) z f h = absurd (d n i (sym h))
       records (fine s) z f h = record { said = s; passed = z; said-is = f; answer = h }
 
-      go : (n : ℕ) → judgeNo axes (length job) (length store) work ≡ n
+      go : (n : ℕ) → judgeNo axes job (length store) work ≡ n
           → judgedOf axes store words (outcomeFrom n (recordsFrom axes 0 job job (recordCount job) 0 inAxes)) ≡ r → Taken r
       go zero z h = records (recordsFrom axes 0 job job (recordCount job) 0 inAxes) z refl h
       go (suc n) z h = absurd (d (suc n) 0 (sym h))
@@ -187,7 +187,7 @@ module _ (axes : ℕ) (job store words : List ℕ) (work : ℕ) where
   -- the job is sound and the store is not
   pub record NoByStore : Type 0 where
     pub said : Said
-    pub passed : judgeNo axes (length job) (length store) work ≡ 0
+    pub passed : judgeNo axes job (length store) work ≡ 0
     pub said-is : recordsFrom axes 0 job job (recordCount job) 0 inAxes ≡ fine said
     pub at-fault : (p : Parsed) → Sound axes job store work said p → ⊥
 

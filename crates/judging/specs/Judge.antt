@@ -5,14 +5,16 @@
 use mathlib.Core.Bool.{Bool, true, false, _&&_}
 use mathlib.Core.List.{List, [], _∷_, map}
 use mathlib.Core.Option.{Option, none, some}
-use Prim.Native.Nat.{ℕ, zero, suc, _+_, _*_, _/_, _%_}
+use Prim.Native.Nat.{ℕ, zero, suc, _+_, _*_, _/_, _%_, min}
 use lib.Dec.{eqb, ltb, leb}
 use lib.IntN.{ℤ}
 use lib.ListN.{length, getD, replicate}
 use Rattle.laws.specs.Pick.{pick}
 use Rattle.laws.specs.Signed.{value}
 use Rattle.sets.specs.Set.{Set}
-use Rattle.said.specs.Records.{recordsIn, recordCount, areRecords, mostRecords, mostAxes}
+use Rattle.said.specs.Records.{recordCount, areRecords, mostRecords, mostAxes}
+use Rattle.limits.specs.Limits.{maxRegions}
+use Rattle.said.specs.Work.{headRegions}
 use Rattle.said.specs.Refusals.{firstFailed, publishedWork, badAxes, badJobLength, workShort}
 use Rattle.said.specs.Job.{Said, Outcome, refused, fine, inAxes, recordsFrom, outcomeFrom}
 use Rattle.stores.specs.Stores.{Parsed, parse}
@@ -51,29 +53,29 @@ judgedOf axes store words (fine s) = judgedIn axes words s (parse store)
 
 -- ---- a call
 
--- the words of work for so many records and a store of so many bytes: the job's number, and two words a byte
-abbrev pub judgeWork : ℕ → ℕ → ℕ
-judgeWork n bytes = publishedWork n + 2 * bytes
+-- the words of work for so many records and regions, and a store of so many bytes: the job's number, and two words a byte
+abbrev pub judgeWork : (records regions bytes : ℕ) → ℕ
+judgeWork n r bytes = publishedWork n r + 2 * bytes
 
--- as it is asked for: 0 above the record limit, and for more bytes than any slice has
-unfoldable pub judgeWords : ℕ → ℕ → ℕ
-judgeWords n bytes = pick (leb n mostRecords && leb bytes 0x4000_0000_0000_0000) (judgeWork n bytes) 0
+-- as it is asked for: 0 above the record limit, and for more bytes than any slice has; more regions than there may be count as so many
+unfoldable pub judgeWords : (records regions bytes : ℕ) → ℕ
+judgeWords n r bytes = pick (leb n mostRecords && leb bytes 0x4000_0000_0000_0000) (judgeWork n (min r maxRegions) bytes) 0
 
--- R1, R3, R4
-unfoldable pub judgeNo : (axes job store work : ℕ) → ℕ
+-- R1, R3, R4, of a job, a store of so many bytes and so many words of work
+unfoldable pub judgeNo : (axes : ℕ) (job : List ℕ) (store work : ℕ) → ℕ
 judgeNo axes job store work =
     firstFailed
     ((ltb 0 axes && leb axes mostAxes, badAxes)
-    ∷ (areRecords job && leb (recordsIn job) mostRecords, badJobLength)
-    ∷ (leb (judgeWork (recordsIn job) store) work, workShort)
+    ∷ (areRecords (length job) && leb (recordCount job) mostRecords, badJobLength)
+    ∷ (leb (judgeWork (recordCount job) (headRegions axes job) store) work, workShort)
     ∷ [])
 
 -- of a call that is lent so many words of work; the records are read as in mode 0, so that 9 is not asked
 unfoldable pub judgeOf : (axes : ℕ) (job store words : List ℕ) (work : ℕ) → Judged
 judgeOf axes job store words work =
     judgedOf axes store words
-    (outcomeFrom (judgeNo axes (length job) (length store) work) (recordsFrom axes 0 job job (recordCount job) 0 inAxes))
+    (outcomeFrom (judgeNo axes job (length store) work) (recordsFrom axes 0 job job (recordCount job) 0 inAxes))
 
 -- work is left by R1, R3 and R4, and all zeros after any other answer (L2)
-unfoldable pub judgeLeft : (axes job store : ℕ) → List ℕ → List ℕ
+unfoldable pub judgeLeft : (axes : ℕ) (job : List ℕ) (store : ℕ) → List ℕ → List ℕ
 judgeLeft axes job store w = pick (eqb (judgeNo axes job store (length w)) 0) (replicate (length w) 0) w

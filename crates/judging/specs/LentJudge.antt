@@ -8,7 +8,7 @@ use Rattle.laws.specs.LentRange.{Only}
 use Rattle.laws.specs.Signed.{zeroWord}
 use Rattle.limits.specs.Limits.{mostRecords, mostAxes, pairRecords}
 use Rattle.sets.specs.Lent.{setsIn, Held}
-use Rattle.said.specs.Records.{recordStart, recordsIn, recordCount}
+use Rattle.said.specs.Records.{recordStart, recordCount}
 use Rattle.said.specs.LentOpen.{Open}
 use Rattle.said.specs.Job.{Said, inAxes, recordsFrom, fine}
 use Rattle.job.specs.Lent.{JobHeld}
@@ -20,9 +20,9 @@ use Rattle.matching.specs.Lent.{total, scratch, firstsOf, FirstSide, SidesFit}
 -- ---- numbers
 
 -- what refusals 1, 3 and 4 leave
-pub record JudgeOpen (axes job store work : ℕ) : Type 0 where
+pub record JudgeOpen (axes : ℕ) (job : List ℕ) (store work : ℕ) : Type 0 where
   pub passed : Open axes 0 job work pairRecords
-  pub room : 16 * recordsIn job + 2 * store ≤ work
+  pub room : 16 * recordCount job + 2 * store ≤ work
 
 -- ---- the store by itself
 

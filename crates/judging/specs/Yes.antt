@@ -26,7 +26,7 @@ pub record SetRight (store words : List ℕ) (p : Parsed) (s : Said) (k : ℕ) :
 
 -- the job is sound, and the store is well formed throughout, has its axis count and lists no region twice
 pub record Sound (axes : ℕ) (job store : List ℕ) (work : ℕ) (s : Said) (p : Parsed) : Type 0 where
-  pub passed : judgeNo axes (length job) (length store) work ≡ 0
+  pub passed : judgeNo axes job (length store) work ≡ 0
   pub said-is : recordsFrom axes 0 job job (recordCount job) 0 inAxes ≡ fine s
   pub parsed : parse store ≡ some p
   pub axes-are : p .axes ≡ axes

@@ -95,9 +95,9 @@ fn by_store(
 // Looks at every job, store and list of words. Work is as it was after refusals 1, 3 and 4, else all zeros.
 pub fn judge(axes: u32, job: &[u8], store: &[u8], words: &[u32], work: &mut [u32]) -> Judged
     ensures { λ r. ⌜ r ≡ judgeOf axes (now (job .entry)) (now (store .entry)) (now (words .entry)) (length (now (work .entry))) ⌝ }
-    ensures { λ _. ⌜ now (work .exit) ≡ judgeLeft axes (length (now (job .entry))) (length (now (store .entry))) (now (work .entry)) ⌝ }
+    ensures { λ _. ⌜ now (work .exit) ≡ judgeLeft axes (now (job .entry)) (length (now (store .entry))) (now (work .entry)) ⌝ }
 {
-    let no = judge_no(axes, job.len(), store.len(), work.len());
+    let no = judge_no(axes, job, store.len(), work.len());
     if no != 0 {
         return Judged::Refused(no, 0);
     }

@@ -9,9 +9,9 @@ mostRecords = 1048576
 abbrev pub mostAxes : ℕ
 mostAxes = 64
 
--- regions of a job: a record has one byte for a region's number
+-- regions of a job
 abbrev pub maxRegions : ℕ
-maxRegions = 256
+maxRegions = 32767
 
 -- distinct shapes of a job's sets, in mode 0
 abbrev pub maxShapes : ℕ

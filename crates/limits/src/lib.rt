@@ -10,7 +10,7 @@ impl Limits {
     pub const AXES: u32 = 64;
 
     // Regions of a job.
-    pub const REGIONS: usize = 256;
+    pub const REGIONS: usize = 32767;
 
     // Distinct shapes of a job's sets, in mode 0.
     pub const SHAPES: usize = 1024;

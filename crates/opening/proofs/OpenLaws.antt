@@ -87,7 +87,7 @@ module _ {axes mode starts : ℕ} {job w : List ℕ} {p : Places} {x : Said} (c 
 
 -- ---- the whole of it
 
-module _ (h : Profile) (axes mode : ℕ) (job w : List ℕ) (pairs n : ℕ) (e : n ≡ earlyNo axes mode (length job) (length w) pairs) where
+module _ (h : Profile) (axes mode : ℕ) (job w : List ℕ) (pairs n : ℕ) (e : n ≡ earlyNo axes mode job (length w) pairs) where
   pub opened-early : (n ≡ 0 → ⊥) → (s : Stage) → s ≡ refusedAt h true n 0 → OpenedAt h axes mode job w pairs w s
   opened-early some s q =
       subst (λ (y : Stage). OpenedAt h axes mode job w pairs w y) (sym q)

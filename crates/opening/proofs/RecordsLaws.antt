@@ -11,11 +11,12 @@ use Rattle.sets.specs.Lent.{Held, setsIn}
 use Rattle.sets.proofs.HeldLaws.{Kept, kept-only, held-kept, sets-same, sets-length}
 use Rattle.store.specs.Lent as store
 use Rattle.said.specs.Records.{recordStart, regionLong, coordsStart, axisCoords, coordsLong}
-use Rattle.said.specs.Refusals.{publishedWork}
+use Rattle.said.specs.Work.{headRegions, publishedWork}
 use Rattle.said.specs.Sets.{Region}
 use Rattle.said.specs.Job.{Said}
 use Rattle.job.specs.Lent.{JobHeld, JobRead}
 use Rattle.said.proofs.SaidLaws.{Counts, counts, room-of, no-use}
+use Rattle.said.proofs.WorkLaws.{head-enough}
 use Rattle.encoder.specs.declared.places.Places.{Places}
 use Rattle.encoder.specs.LentPlaces.{PlacesAt}
 use Rattle.encoder.proofs.PlacesLaws.{laid}
@@ -45,7 +46,7 @@ in-job axes n x records a h k m =
     omega arith
 
 module _ {axes mode records : ℕ} {job w w₁ : List ℕ} (some : 0 < axes) (few : axes ≤ mostAxes) (bytes : (k : ℕ) → getD job k 0 < 256)
-    (room : recordStart records ≤ length job) (most : records ≤ mostRecords) (work : publishedWork records ≤ length w)
+    (room : recordStart records ≤ length job) (most : records ≤ mostRecords) (work : publishedWork records (headRegions axes job) ≤ length w)
     {nr at regions sets values uses : ℕ} (r : JobRead axes mode job records w w₁ nr at regions sets values uses) (z : nr ≡ 0) where
   abbrev held : JobHeld axes mode job records w₁ regions sets values uses
   held = r .good z
@@ -65,10 +66,11 @@ module _ {axes mode records : ℕ} {job w w₁ : List ℕ} (some : 0 < axes) (fe
   pub uses-few : uses ≤ maxRegions
   uses-few = omega (arith, room-of axes job records says some cs .2, held .uses-are)
 
-  one-more : 0 < uses → sets + uses + 1 ≤ records
-  one-more h = omega (arith, room-of axes job records says some cs .1 (omega (arith, held .uses-are)), sets-long, held .uses-are)
+  -- no more than the regions at the job's head
+  head : uses ≤ headRegions axes job
+  head = omega (arith, head-enough axes mode job records says some bytes room (held .is), cs .used-few, held .uses-are)
 
-  published : 16 * records + min records maxShapes * min records maxShapes ≤ length w₁
+  published : 16 * records + min records maxShapes * (headRegions axes job + 16) ≤ length w₁
   unfolding publishedWork
   published = omega (arith, r .only .long)
 
@@ -118,7 +120,7 @@ module _ {axes mode records : ℕ} {job w w₁ : List ℕ} (some : 0 < axes) (fe
     pub collected : Collected axes (4 * records) job p (r .good z .said) w₂
     collected = record {
       fit = record {
-        laid = laid (4 * records + uses) sets uses records (length w₂) p q (omega arith) most uses-few sum-few one-more (omega (arith, published, t .only .long));
+        laid = laid (4 * records + uses) sets uses records (headRegions axes job) (length w₂) p q (omega arith) most uses-few sum-few head (omega (arith, published, t .only .long));
         held = held₂;
       };
       axes-few = few;

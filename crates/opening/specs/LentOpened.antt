@@ -47,6 +47,6 @@ pub record ReadAt (p : Profile) (axes mode : ℕ) (job : List ℕ) (o : Outcome)
 pub record OpenedAt (p : Profile) (axes mode : ℕ) (job old : List ℕ) (pairs : ℕ) (new : List ℕ) (s : Stage) : Type 0 where
   pub profile-is : s .profile ≡ p
   pub long : length new ≡ length old
-  pub at-once : s .early ≡ true → (new ≡ old) × (s .no ≡ earlyNo axes mode (length job) (length old) pairs) × (s .no ≡ 0 → ⊥) × (s .at ≡ 0) × (s .groups ≡ 0)
-  pub after : s .early ≡ false → (earlyNo axes mode (length job) (length old) pairs ≡ 0) × Read axes mode job (panelled p job (recordsFrom axes mode job job (recordCount job) 0 inAxes)) s new
+  pub at-once : s .early ≡ true → (new ≡ old) × (s .no ≡ earlyNo axes mode job (length old) pairs) × (s .no ≡ 0 → ⊥) × (s .at ≡ 0) × (s .groups ≡ 0)
+  pub after : s .early ≡ false → (earlyNo axes mode job (length old) pairs ≡ 0) × Read axes mode job (panelled p job (recordsFrom axes mode job job (recordCount job) 0 inAxes)) s new
   pub ready : Ready (tablesOf (s .places) (s .groups)) new

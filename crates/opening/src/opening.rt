@@ -15,7 +15,7 @@ ghost use mathlib.Core.Bool.{true, false};
 ghost use Prim.Native.Nat.{ℕ, _+_, _*_, _<_, _≤_};
 ghost use lib.ListN.{length, getD};
 ghost use Rattle.said.specs.Records.{recordStart, recordCount};
-ghost use Rattle.said.specs.Refusals.{publishedWork};
+ghost use Rattle.said.specs.Work.{headRegions, publishedWork};
 ghost use Rattle.said.specs.Job.{recordsFrom, inAxes};
 ghost use Rattle.panel.specs.Panelled.{panelled};
 ghost use Rattle.limits.specs.Limits.{mostRecords, mostAxes, maxRegions};
@@ -108,7 +108,7 @@ fn open_records(
     work: &mut [u32],
 ) -> Stage
     requires { ⌜ records ≡ recordCount (now job) ⌝ }
-    requires { ⌜ (recordStart records ≤ length (now job)) × (0 < axes) × (axes ≤ mostAxes) × (records ≤ mostRecords) × (publishedWork records ≤ length (now work)) ⌝ }
+    requires { ⌜ (recordStart records ≤ length (now job)) × (0 < axes) × (axes ≤ mostAxes) × (records ≤ mostRecords) × (publishedWork records (headRegions axes (now job)) ≤ length (now work)) ⌝ }
     ensures { λ r. ⌜ ReadAt profile axes mode (now (job .entry)) (panelled profile (now (job .entry)) (recordsFrom axes mode (now (job .entry)) (now (job .entry)) records 0 inAxes)) r (now (work .exit)) ⌝ }
 {
     let r = take_job(profile, job, axes, mode, records, work);
@@ -160,7 +160,7 @@ pub fn open(
 ) -> Stage
     ensures { λ r. ⌜ OpenedAt profile axes mode (now (job .entry)) (now (work .entry)) pairs (now (work .exit)) r ⌝ }
 {
-    let no = early_no(axes, mode, job.len(), work.len(), pairs);
+    let no = early_no(axes, mode, job, work.len(), pairs);
     if no != 0 {
         return refuse(profile, true, no, 0);
     }

@@ -31,7 +31,8 @@ use Rattle.store.specs.Placing.{Final, allRuns, idWords, names, newIndex, slotO
 use Rattle.readback.proofs.MapBack.{empty, map-at, words-apart}
 use Rattle.readback.proofs.Parsing.{regions-are}
 use Rattle.readback.proofs.StoreBack.{run-sound}
-use Rattle.said.specs.Records.{recordsIn, recordCount, recordBytes}
+use Rattle.said.specs.Records.{recordCount, recordBytes}
+use Rattle.said.specs.Work.{headRegions}
 use Rattle.said.specs.LentOpen.{Open}
 use Rattle.said.specs.Job.{Said, fine, inAxes, recordsFrom}
 use Rattle.said.proofs.SoundLaws.{Bytes}
@@ -257,7 +258,7 @@ module _ (c : Lending) (r : Report) (bytes : Bytes (c .job)) (done : answerOf c 
 
   -- the words of work do, and each set's word is the map's word of its id
   pub record Asked (words : List ℕ) (work : ℕ) : Type 0 where
-    pub enough : judgeWork (recordsIn (length (c .job))) (r .bytes) ≤ work
+    pub enough : judgeWork (recordCount (c .job)) (headRegions (c .axes) (c .job)) (r .bytes) ≤ work
     pub word-of : (n : ℕ) → n < length (s .sets) → n < length words
     pub word-is : (n : ℕ) → n < length (s .sets) → getD words n 0 ≡ getD (after c .lent .map) (getD (after c .lent .ids) n 0) 0
 
@@ -265,7 +266,7 @@ module _ (c : Lending) (r : Report) (bytes : Bytes (c .job)) (done : answerOf c 
     store-long : length (take (r .bytes) (after c .lent .out)) ≡ r .bytes
     store-long = ap length (store-front c r (accepted c r done)) ∙ sym (bytes-are c r (accepted c r done))
 
-    entered : Open (c .axes) 0 (length (c .job)) work pairRecords
+    entered : Open (c .axes) 0 (c .job) work pairRecords
     entered =
         let o = accepted c r done .entered in
         record {
@@ -280,7 +281,7 @@ module _ (c : Lending) (r : Report) (bytes : Bytes (c .job)) (done : answerOf c 
 
     sound : Sound (c .axes) (c .job) store work s p
     sound = record {
-      passed = sym (judge-passed (c .axes) (length (c .job)) (length store) work entered (rw store-long (q .enough)));
+      passed = sym (judge-passed (c .axes) (c .job) (length store) work entered (rw store-long (q .enough)));
       said-is = in-mode-zero (c .axes) (c .mode) (c .job) (recordCount (c .job)) s (accepted c r done .entered .mode-known) (accepted c r done .walked);
       parsed = parsed;
       axes-are = made-axes c r (accepted c r done);

@@ -33,7 +33,7 @@ joined-at t s {m} {w} {w′} e o = subst (λ (x : MergeTables). Optimized x (m .
 -- ---- the promise
 
 pub obeys : (h : Profile) (axes mode : ℕ) (job work : List ℕ) (pairs : List Pair) (r : Built) (old new : Buffers) (work′ : List ℕ) (pairs′ : List Pair)
-    → Closed h axes mode job work (length pairs) r old new work′ → pairs′ ≡ pairsLeft axes mode (length job) (length work) pairs
+    → Closed h axes mode job work (length pairs) r old new work′ → pairs′ ≡ pairsLeft axes mode job (length work) pairs
     → ObeysBy h (lending axes mode job work pairs old) r (leaves work′ pairs′ new)
 unfolding answerBy
 obeys h axes mode job work pairs r old new work′ pairs′ c e =
@@ -44,7 +44,7 @@ pub plain-obeys : (c : Lending) (r : Built) (l : Left) → ObeysBy Plain c r l �
 plain-obeys c r l o = record { answer = o .answer ∙ answer-plain c; left = o .left ∙ after-plain c }
 
 pub foretells : (axes mode : ℕ) (job work : List ℕ) (pairs : List Pair) (r : Built) (work′ : List ℕ) (pairs′ : List Pair)
-    → Foreseen axes mode job work (length pairs) r work′ → pairs′ ≡ pairsLeft axes mode (length job) (length work) pairs
+    → Foreseen axes mode job work (length pairs) r work′ → pairs′ ≡ pairsLeft axes mode job (length work) pairs
     → Foretells (lending axes mode job work pairs noBuffers) r work′ pairs′
 unfolding foretold
 foretells axes mode job work pairs r work′ pairs′ c e = record { answer = c .answer; work-is = c .work-is; pairs-is = e }

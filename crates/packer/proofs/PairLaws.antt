@@ -35,12 +35,12 @@ unfolding cleared
 cleared-all w = ap (λ (r : List Pair). replicate (length w) none ++ r) (drop-length w) ∙ append-nil (replicate (length w) none)
 
 -- a refusal by the numbers leaves them; else they are zeros
-module _ (axes mode bytes work : ℕ) (pairs : List Pair) where
-  left-early : (n : ℕ) → n ≡ earlyNo axes mode bytes work (length pairs) → (n ≡ 0 → ⊥) → pairs ≡ pairsLeft axes mode bytes work pairs
+module _ (axes mode : ℕ) (job : List ℕ) (work : ℕ) (pairs : List Pair) where
+  left-early : (n : ℕ) → n ≡ earlyNo axes mode job work (length pairs) → (n ≡ 0 → ⊥) → pairs ≡ pairsLeft axes mode job work pairs
   unfolding pairsLeft
   left-early n e h = rw (← e, ne-eqb n 0 h) refl
 
-  left-zeros : earlyNo axes mode bytes work (length pairs) ≡ 0 → replicate (length pairs) none ≡ pairsLeft axes mode bytes work pairs
+  left-zeros : earlyNo axes mode job work (length pairs) ≡ 0 → replicate (length pairs) none ≡ pairsLeft axes mode job work pairs
   unfolding pairsLeft
   left-zeros z = rw z refl
 
@@ -54,7 +54,7 @@ pairs-enough {h} {axes} {mode} {pairs} {job} {old} {mid} t {s} q p = go (s .earl
     go : (b : Bool) → s .early ≡ b → room (t .groups) ≤ pairs
     go true e = let z = room-none (t .groups) (same ∙ p .at-once e .4) in omega arith
     go false e =
-        let o = open-if axes mode (length job) (length old) pairs (p .after e .0) in
+        let o = open-if axes mode job (length old) pairs (p .after e .0) in
         let f = p .ready .shaped .laid .groups-few in
         omega (arith, o .paired, room-most (t .groups) (omega (arith, same)))
 
@@ -68,13 +68,13 @@ pairs-idle t {s} {pairs} {kept} q p long same e =
 
 -- Merging, which has no groups after an early refusal, left `kept`; then so many were cleared.
 pub pairs-left : {h : Profile} {axes mode n : ℕ} {job old mid : List ℕ} {s : Stage} (pairs kept left : List Pair) → OpenedAt h axes mode job old (length pairs) mid s → PairsUsed s (length pairs) n
-    → length kept ≡ length pairs → (s .early ≡ true → kept ≡ pairs) → left ≡ cleared n kept → left ≡ pairsLeft axes mode (length job) (length old) pairs
+    → length kept ≡ length pairs → (s .early ≡ true → kept ≡ pairs) → left ≡ cleared n kept → left ≡ pairsLeft axes mode job (length old) pairs
 pairs-left {h} {axes} {mode} {n} {job} {old} {mid} {s} pairs kept left p u long same e = go (s .early) refl
   where
-    go : (b : Bool) → s .early ≡ b → left ≡ pairsLeft axes mode (length job) (length old) pairs
+    go : (b : Bool) → s .early ≡ b → left ≡ pairsLeft axes mode job (length old) pairs
     go true q =
         let a = p .at-once q in
-        e ∙ ap (λ (k : ℕ). cleared k kept) (u .0 q) ∙ sym (cleared-none kept) ∙ same q ∙ left-early axes mode (length job) (length old) pairs (s .no) (a .1) (a .2)
+        e ∙ ap (λ (k : ℕ). cleared k kept) (u .0 q) ∙ sym (cleared-none kept) ∙ same q ∙ left-early axes mode job (length old) pairs (s .no) (a .1) (a .2)
     go false q =
         e ∙ ap (λ (k : ℕ). cleared k kept) (u .1 q ∙ sym long) ∙ cleared-all kept ∙ ap (λ (k : ℕ). replicate k none) long
-        ∙ left-zeros axes mode (length job) (length old) pairs (p .after q .0)
+        ∙ left-zeros axes mode job (length old) pairs (p .after q .0)

@@ -96,7 +96,7 @@ module _ {axes records regions sets : ℕ} {job w : List ℕ} (f : JobStands axe
 
 -- ---- of a whole call
 
-module _ (axes x y : ℕ) (job w : List ℕ) (n : ℕ) (e : n ≡ earlyNo axes 0 (length job) (length w) pairRecords) where
+module _ (axes x y : ℕ) (job w : List ℕ) (n : ℕ) (e : n ≡ earlyNo axes 0 job (length w) pairRecords) where
   pub refused-early : (n ≡ 0 → ⊥) → Refused n 0 ≡ partOf axes job x y (length w)
   unfolding outcome partedOf
   refused-early h =
@@ -116,7 +116,7 @@ module _ (axes x y : ℕ) (job w : List ℕ) (n : ℕ) (e : n ≡ earlyNo axes 0
     unfolding partedOf
     refused-record h = sym (ap (partedOf job x y) (outcome-walk z ∙ sym walk-is ∙ read .bad h))
 
-    module _ (bytes : (k : ℕ) → getD job k 0 < 256) (o : Open axes 0 (length job) (length w) pairRecords) (g : no ≡ 0) where
+    module _ (bytes : (k : ℕ) → getD job k 0 < 256) (o : Open axes 0 job (length w) pairRecords) (g : no ≡ 0) where
       abbrev pub stands : JobStands a job records regions sets new
       stands = record {
         passed = record {
@@ -126,7 +126,7 @@ module _ (axes x y : ℕ) (job w : List ℕ) (n : ℕ) (e : n ≡ earlyNo axes 0
           few = omega (arith, r, o .few);
           records-are = r;
           whole = omega (arith, r, o .whole);
-          room = omega (arith, r, room axes 0 (length job) (length w) pairRecords o, read .only .long);
+          room = omega (arith, r, room axes 0 job (length w) pairRecords o, read .only .long);
         };
         values = values;
         uses = uses;

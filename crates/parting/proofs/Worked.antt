@@ -8,6 +8,7 @@ use Rattle.laws.specs.Signed.{word, signed, zeroWord}
 use Rattle.sets.specs.Order.{byWords, partNone, partHead, parting}
 use Rattle.said.specs.Records.{mustBeZero, firstNotZero, wrongByte, valueWord}
 use Rattle.said.specs.Refusals.{firstFailed, publishedWork, earlyNo, inTurn, formNo, valueNo, endNo}
+use Rattle.said.specs.Work.{headRun, headRegions}
 use Rattle.said.specs.Sets.{coordinates, regionList, sameRegion, like, firstLike, has, withUse, indexIn, withEntry, withValue}
 use Rattle.said.specs.Job.{unless, afterValue, afterEnd, valueStep, endStep, regionsOnly, saidAt, axesBefore, isLate, kindStep, step, ended, endedSets, follow, recordsFrom, outcomeFrom, outcome}
 use Rattle.parting.specs.declared.answering.Parted.{Parted}
@@ -52,5 +53,5 @@ worked : answers ≡
     ∷ Refused 8 13
     ∷ Refused 4 0
     ∷ []
-unfolding answers partedOf partedIn named userOf firstNamed parting partHead partNone byWords outcome outcomeFrom recordsFrom follow ended endedSets step kindStep isLate axesBefore saidAt regionsOnly endStep valueStep afterEnd afterValue unless withValue withEntry indexIn withUse has firstLike like sameRegion regionList coordinates endNo valueNo formNo inTurn earlyNo publishedWork firstFailed valueWord wrongByte firstNotZero mustBeZero word signed be allBelow
+unfolding answers partedOf partedIn named userOf firstNamed parting partHead partNone byWords outcome outcomeFrom recordsFrom follow ended endedSets step kindStep isLate axesBefore saidAt regionsOnly endStep valueStep afterEnd afterValue unless withValue withEntry indexIn withUse has firstLike like sameRegion regionList coordinates endNo valueNo formNo inTurn earlyNo publishedWork headRegions headRun firstFailed valueWord wrongByte firstNotZero mustBeZero word signed be allBelow
 worked = refl

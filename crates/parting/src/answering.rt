@@ -62,9 +62,9 @@ fn between(
 // Looks at every job, sound or not; no pair records are asked for. Work is as it was after refusals 1 to 4, else all zeros.
 pub fn part(axes: u32, job: &[u8], first: u32, second: u32, work: &mut [u32]) -> Parted
     ensures { λ r. ⌜ r ≡ partOf axes (now (job .entry)) first second (length (now (work .entry))) ⌝ }
-    ensures { λ _. ⌜ now (work .exit) ≡ workLeft axes 0 (length (now (job .entry))) pairRecords (now (work .entry)) ⌝ }
+    ensures { λ _. ⌜ now (work .exit) ≡ workLeft axes 0 (now (job .entry)) pairRecords (now (work .entry)) ⌝ }
 {
-    let no = early_no(axes, 0, job.len(), work.len(), Limits::PAIRS);
+    let no = early_no(axes, 0, job, work.len(), Limits::PAIRS);
     if no != 0 {
         return Parted::Refused(no, 0);
     }

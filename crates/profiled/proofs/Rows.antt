@@ -93,7 +93,7 @@ module _ (c : Lending) where
       some f =
           let g : refused (early c) 0 ≡ refused n i = sym (panelled-early Panel (c .job) (outcomeOf c) (early c) 0 (f .1) refl) ∙ e in
           let q : early c ≡ n = cc in
-          let h = early-few (c .axes) (c .mode) (length (c .job)) (length (c .work)) (length (c .pairs)) in
+          let h = early-few (c .axes) (c .mode) (c .job) (length (c .work)) (length (c .pairs)) in
           absurd (omega arith)
 
   odd-row : (n i : ℕ) (Why : Type 0) → longValue ≤ n → (n ≡ wideSubtable → ⊥)

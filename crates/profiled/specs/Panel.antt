@@ -22,7 +22,7 @@ use Rattle.profiled.specs.Readable.{Readable}
 
 -- none of R1 to R4
 abbrev pub Entered : Lending → Type 0
-Entered c = earlyNo (c .axes) (c .mode) (length (c .job)) (length (c .work)) (length (c .pairs)) ≡ 0
+Entered c = earlyNo (c .axes) (c .mode) (c .job) (length (c .work)) (length (c .pairs)) ≡ 0
 
 -- R72: the job is sound, the profile takes every record, there are not too many shapes, and some final group has more than 32 columns
 pub record Wide (c : Lending) : Type 0 where

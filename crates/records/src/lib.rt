@@ -59,10 +59,10 @@ fn value_word(rec: &[u8]) -> u32
     x - 0x8000_0000
 }
 
-// The region that an axis record or a value record names.
+// The region that an axis record or a value record names: its low byte is byte 1, its high byte is byte 3.
 fn region_of(rec: &[u8]) -> usize
     requires { ⌜ recordBytes ≤ length (now rec) ⌝ }
     ensures { λ r. ⌜ r ≡ regionOf (now (rec .entry)) ⌝ }
 {
-    byte_wide(rec[1])
+    byte_wide(rec[3]) * 256 + byte_wide(rec[1])
 }

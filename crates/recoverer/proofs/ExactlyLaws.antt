@@ -14,7 +14,7 @@ use Rattle.laws.proofs.Cases.{lt-or-ge, and-true, true-false, Which, which}
 use Rattle.laws.proofs.Cases.Which.{holds, fails}
 use Rattle.limits.specs.Limits.{mostRecords, mostAxes, maxRegions}
 use Rattle.said.specs.Records.{recordBytes}
-use Rattle.said.specs.Refusals.{firstFailed, publishedWork, pairRecords}
+use Rattle.said.specs.Refusals.{firstFailed, jobWork, pairRecords}
 use Rattle.said.specs.Job.{fine, outcome}
 use Rattle.stores.specs.Stores.{Parsed, storeAt, wholeOk, parse, parses}
 use Rattle.stores.specs.Coordinates.{once, Distinct}
@@ -207,6 +207,6 @@ module _ (s : List ℕ) (work out : ℕ) where
           few-records = x .4;
         }
 
-    pub recovered-sound : (lent pairs : ℕ) → publishedWork (recordsOf (storeAt s)) ≤ lent → pairRecords ≤ pairs
+    pub recovered-sound : (lent pairs : ℕ) → jobWork (storeAt s .axes) (jobOf (storeAt s)) ≤ lent → pairRecords ≤ pairs
         → (outcome (storeAt s .axes) 0 (jobOf (storeAt s)) lent pairs ≡ fine (saidOf (storeAt s))) × Says (storeAt s) (saidOf (storeAt s))
     recovered-sound lent pairs w q = job-sound (storeAt s) recovered-takes lent pairs w q

@@ -270,8 +270,8 @@ module _ (s : List ℕ) (place axes regions : ℕ) (h : Head s place axes region
       pub job-room : 12 * records ≤ out → length (jobOf (storeAt s)) ≤ out
       job-room l = omega (arith, job-long (storeAt s), records-are)
 
-      pub job-bounds : (regionCount s ≤ 256) × (axisCount s ≤ 64)
-      job-bounds = let w = within regions axes (sym e ∙ z) in (omega (arith, w .0, h .count-is), omega (arith, w .2, h .axes-is))
+      pub job-axes : axisCount s ≤ mostAxes
+      job-axes = omega (arith, within regions axes (sym e ∙ z) .2, h .axes-is)
 
       pub done-answer : 12 * records ≤ out → Done (12 * records) axes regions sets ≡ answerFor (storeAt s) (lateNo (storeAt s) out)
       done-answer l = rw (late-fine l) (done-is (storeAt s) (12 * records) axes regions sets (ap (λ (x : ℕ). 12 * x) (sym records-are)) (sym p-axes) (sym p-regions) (sym (t .exact few .1)))

@@ -10,6 +10,7 @@ use lib.ListN.{getD}
 use lib.Dec.{eqb}
 use borrow.Author.Tests.{eq-eqb, ne-eqb, eqb-true}
 use Rattle.laws.proofs.Cases.{lt-or-ge, same-or-not, or-left, or-right, or-cases, true-false}
+use Rattle.limits.specs.Limits.{maxRegions}
 use Rattle.said.specs.Records.{kind, mustBeZero, wrongByte, regionOf, axisOf, recordAt}
 use Rattle.said.specs.Refusals.{notZero, byteOf}
 use Rattle.said.specs.Sets.{has}
@@ -18,7 +19,7 @@ use Rattle.told.proofs.WordLaws.{count-most}
 use Rattle.refusing.specs.Exactly.{Exactly}
 use Rattle.refusing.specs.Counts.{axisRecords, MustBeZero, AllZero, InTurn, OutOfTurn}
 use Rattle.refusing.specs.BadRecord.{NotZero, BadRecord, OneOfFive, FineBefore}
-use Rattle.refusing.specs.BadRecord.BadRecord.{unknown-kind, axis-zero, value-zero, end-zero, axis-order, axis-late, in-region}
+use Rattle.refusing.specs.BadRecord.BadRecord.{unknown-kind, axis-zero, value-zero, end-zero, axis-order, axis-past, axis-late, in-region}
 use Rattle.refusing.specs.BadRecord.OneOfFive.{by-kind, by-byte, by-turn, by-late, by-region}
 use Rattle.refusing.specs.Fine.{Fine}
 use Rattle.refusing.proofs.StateLaws.{Means}
@@ -72,11 +73,11 @@ has-either b (x ∷ k) l h =
 -- ---- the bytes that must be 0, as they stand in a row
 
 module _ (r : List ℕ) where
-  axis-must : kind r ≡ 1 → mustBeZero (kind r) ≡ run 3 1 ++ run 10 2
+  axis-must : kind r ≡ 1 → mustBeZero (kind r) ≡ run 10 2
   unfolding mustBeZero run
   axis-must k = rw (eq-eqb (kind r) 1 k)
 
-  value-must : kind r ≡ 2 → mustBeZero (kind r) ≡ run 2 2 ++ run 8 4
+  value-must : kind r ≡ 2 → mustBeZero (kind r) ≡ run 2 1 ++ run 8 4
   unfolding mustBeZero run
   value-must k = rw (ne-eqb (kind r) 1 (λ (e : kind r ≡ 1). omega arith), eq-eqb (kind r) 2 k)
 
@@ -141,12 +142,16 @@ module _ (axes : ℕ) (job : List ℕ) (i : ℕ) (r : List ℕ) where
   -- an axis record with its zeros that is not in turn, or too late
   axis-five : kind r ≡ 1 → AllZero r → (InTurn axes job i r → axisRecords job i < i) → Five
   axis-five k a f =
+      ⊎-elim (λ (w : regionOf r < maxRegions).
       ⊎-elim (λ (e : regionOf r ≡ axisRecords job i / axes).
-      ⊎-elim (λ (g : axisOf r ≡ axisRecords job i % axes). let t : InTurn axes job i r = record { region-next = e; axis-next = g } in by-late (record { is-axis = k; all-zero = a; in-turn = t; late = f t }))
+      ⊎-elim (λ (g : axisOf r ≡ axisRecords job i % axes).
+      let t : InTurn axes job i r = record { region-few = w; region-next = e; axis-next = g } in by-late (record { is-axis = k; all-zero = a; in-turn = t; late = f t }))
       (λ d. by-turn (record { is-axis = k; all-zero = a; other = λ t. d (t .axis-next) }))
       (same-or-not (axisOf r) (axisRecords job i % axes)))
       (λ d. by-turn (record { is-axis = k; all-zero = a; other = λ t. d (t .region-next) }))
-      (same-or-not (regionOf r) (axisRecords job i / axes))
+      (same-or-not (regionOf r) (axisRecords job i / axes)))
+      (λ (h : maxRegions ≤ regionOf r). by-turn (record { is-axis = k; all-zero = a; other = λ t. let l = t .region-few in omega arith }))
+      (lt-or-ge (regionOf r) maxRegions)
 
   -- not late: the axis records before it are all records before it
   all-or-late : (axisRecords job i ≡ i) ⊎ (axisRecords job i < i)
@@ -161,18 +166,19 @@ module _ (axes : ℕ) (job : List ℕ) (i : ℕ) (r : List ℕ) where
 
   bad-five : Bad → Five
   bad-five (unknown-kind a b c) = by-kind (record { no-axis = a; no-value = b; no-end = c })
-  bad-five (axis-zero k z) = two-byte 3 1 10 2 (axis-must r k) z
-  bad-five (value-zero k z) = two-byte 2 2 8 4 (value-must r k) z
+  bad-five (axis-zero k z) = run-byte 10 2 (λ b h. subst (λ (l : List ℕ). has b l ≡ true) (sym (axis-must r k)) h) z
+  bad-five (value-zero k z) = two-byte 2 1 8 4 (value-must r k) z
   bad-five (end-zero k z) = run-byte 1 11 (λ b h. subst (λ (l : List ℕ). has b l ≡ true) (sym (end-must r k)) h) z
   bad-five (axis-order k o) = byte-or (λ a. axis-five k a (not-next o))
+  bad-five (axis-past k h) = byte-or (λ a. axis-five k a (λ t. let l = t .region-few in absurd (omega arith)))
   bad-five (axis-late k l) = byte-or (λ a. axis-five k a (λ t. l))
   bad-five (in-region v d) = byte-or (λ a. by-region (record { value-or-end = v; all-zero = a; in-region = d }))
 
   byte-bad : (b : ℕ) → MustBeZero r b → (getD r b 0 ≡ 0 → ⊥) → Bad
   unfolding has
   byte-bad b h d =
-      ⊎-elim (λ (k : kind r ≡ 1). axis-zero k (in-two r 3 1 10 2 b d (subst (λ (l : List ℕ). has b l ≡ true) (axis-must r k) h)))
-      (λ x. ⊎-elim (λ (k : kind r ≡ 2). value-zero k (in-two r 2 2 8 4 b d (subst (λ (l : List ℕ). has b l ≡ true) (value-must r k) h)))
+      ⊎-elim (λ (k : kind r ≡ 1). axis-zero k (in-run r 10 2 b d (subst (λ (l : List ℕ). has b l ≡ true) (axis-must r k) h)))
+      (λ x. ⊎-elim (λ (k : kind r ≡ 2). value-zero k (in-two r 2 1 8 4 b d (subst (λ (l : List ℕ). has b l ≡ true) (value-must r k) h)))
       (λ y. ⊎-elim (λ (k : kind r ≡ 3). end-zero k (in-run r 1 11 b d (subst (λ (l : List ℕ). has b l ≡ true) (end-must r k) h)))
       (λ z. absurd (true-false (subst (λ (l : List ℕ). has b l ≡ true) (none-must r x y z) h) refl))
       (same-or-not (kind r) 3))
@@ -181,11 +187,15 @@ module _ (axes : ℕ) (job : List ℕ) (i : ℕ) (r : List ℕ) where
 
   turn-bad : OutOfTurn axes job i r → Bad
   turn-bad o =
+      ⊎-elim (λ (w : regionOf r < maxRegions).
       ⊎-elim (λ (e : axisRecords job i ≡ i).
-      ⊎-elim (λ (g : regionOf r ≡ i / axes). axis-order (o .is-axis) (inr (λ h. o .other (record { region-next = g ∙ ap (λ (n : ℕ). n / axes) (sym e); axis-next = h ∙ ap (λ (n : ℕ). n % axes) (sym e) }))))
+      ⊎-elim (λ (g : regionOf r ≡ i / axes).
+      axis-order (o .is-axis) (inr (λ h. o .other (record { region-few = w; region-next = g ∙ ap (λ (n : ℕ). n / axes) (sym e); axis-next = h ∙ ap (λ (n : ℕ). n % axes) (sym e) }))))
       (λ d. axis-order (o .is-axis) (inl d))
       (same-or-not (regionOf r) (i / axes)))
-      (λ l. axis-late (o .is-axis) l) all-or-late
+      (λ l. axis-late (o .is-axis) l) all-or-late)
+      (λ (h : maxRegions ≤ regionOf r). axis-past (o .is-axis) h)
+      (lt-or-ge (regionOf r) maxRegions)
 
   five-bad : Five → Bad
   five-bad (by-kind u) = unknown-kind (u .no-axis) (u .no-value) (u .no-end)

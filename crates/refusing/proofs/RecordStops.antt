@@ -64,10 +64,10 @@ module _ (axes mode : ℕ) (job : List ℕ) (i : ℕ) (s : State) (m : Means axe
   -- the turn, by the axis records before it
   turn : Exactly (inTurn axes before r ≡ true) (InTurn axes job i r)
   turn = record {
-    given = λ t. turn-is axes before r .given (t .region-next ∙ ap (λ (n : ℕ). n / axes) (sym count), t .axis-next ∙ ap (λ (n : ℕ). n % axes) (sym count));
+    given = λ t. turn-is axes before r .given (t .region-few, t .region-next ∙ ap (λ (n : ℕ). n / axes) (sym count), t .axis-next ∙ ap (λ (n : ℕ). n % axes) (sym count));
     only = λ e.
         let p = turn-is axes before r .only e in
-        record { region-next = p .0 ∙ ap (λ (n : ℕ). n / axes) count; axis-next = p .1 ∙ ap (λ (n : ℕ). n % axes) count };
+        record { region-few = p .0; region-next = p .1 ∙ ap (λ (n : ℕ). n / axes) count; axis-next = p .2 ∙ ap (λ (n : ℕ). n % axes) count };
   }
 
   not-turn : (InTurn axes job i r → ⊥) → inTurn axes before r ≡ false

@@ -9,6 +9,7 @@ use lib.ListN.{length}
 use lib.Dec.{eqb, ltb}
 use borrow.Author.Tests.{eq-eqb, ne-eqb, eqb-true, eqb-false, ltb-true, ltb-false, lt-ltb, le-ltb, not-false}
 use Rattle.laws.proofs.Cases.{and-true, or-neither, same-or-not, true-false}
+use Rattle.limits.specs.Limits.{maxRegions}
 use Rattle.said.specs.Records.{kind, isAxis, isKnown, mustBeZero, wrongByte, regionOf, axisOf}
 use Rattle.said.specs.Refusals.{firstFailed, inTurn, formNo, valueNo, endNo}
 use Rattle.said.specs.Sets.{firstLike, has}
@@ -58,14 +59,20 @@ module _ (r : List ℕ) where
 
 -- ---- the form
 
-pub turn-is : (axes before : ℕ) (r : List ℕ) → Exactly (inTurn axes before r ≡ true) ((regionOf r ≡ before / axes) × (axisOf r ≡ before % axes))
+pub turn-is : (axes before : ℕ) (r : List ℕ)
+    → Exactly (inTurn axes before r ≡ true) ((regionOf r < maxRegions) × (regionOf r ≡ before / axes) × (axisOf r ≡ before % axes))
 unfolding inTurn
 turn-is axes before r = record {
-  given = λ b. and-both (eqb (regionOf r) (before / axes)) (eqb (axisOf r) (before % axes)) (eq-eqb (regionOf r) (before / axes) (b .0)) (eq-eqb (axisOf r) (before % axes) (b .1));
+  given = λ b. and-both (ltb (regionOf r) maxRegions) next (lt-ltb (regionOf r) maxRegions (b .0))
+      (and-both (eqb (regionOf r) (before / axes)) (eqb (axisOf r) (before % axes)) (eq-eqb (regionOf r) (before / axes) (b .1)) (eq-eqb (axisOf r) (before % axes) (b .2)));
   only = λ e.
-      let p = and-true (eqb (regionOf r) (before / axes)) (eqb (axisOf r) (before % axes)) e in
-      (eqb-true (regionOf r) (before / axes) (p .0), eqb-true (axisOf r) (before % axes) (p .1));
+      let f = and-true (ltb (regionOf r) maxRegions) next e in
+      let p = and-true (eqb (regionOf r) (before / axes)) (eqb (axisOf r) (before % axes)) (f .1) in
+      (ltb-true (regionOf r) maxRegions (f .0), eqb-true (regionOf r) (before / axes) (p .0), eqb-true (axisOf r) (before % axes) (p .1));
 }
+  where
+    next : Bool
+    next = eqb (regionOf r) (before / axes) && eqb (axisOf r) (before % axes)
 
 module _ (axes before : ℕ) (late : Bool) (r : List ℕ) where
   abbrev number : ℕ

@@ -93,8 +93,8 @@ looked r low (x ∷ l) u = go (looked r x l (u .1))
 must-rise : (k : ℕ) → Rising 0 (mustBeZero k)
 unfolding mustBeZero
 must-rise k =
-    ⊎-elim (λ (e : k ≡ 1). rw (eq-eqb k 1 e) (omega arith, (omega arith, (omega arith, tt))))
-    (λ a. ⊎-elim (λ (e : k ≡ 2). rw (ne-eqb k 1 a, eq-eqb k 2 e) (omega arith, (omega arith, (omega arith, (omega arith, (omega arith, (omega arith, tt)))))))
+    ⊎-elim (λ (e : k ≡ 1). rw (eq-eqb k 1 e) (omega arith, (omega arith, tt)))
+    (λ a. ⊎-elim (λ (e : k ≡ 2). rw (ne-eqb k 1 a, eq-eqb k 2 e) (omega arith, (omega arith, (omega arith, (omega arith, (omega arith, tt))))))
     (λ b. ⊎-elim
     (λ (e : k ≡ 3). rw (ne-eqb k 1 a, ne-eqb k 2 b, eq-eqb k 3 e)
     (omega arith, (omega arith, (omega arith, (omega arith, (omega arith, (omega arith, (omega arith, (omega arith, (omega arith, (omega arith, (omega arith, tt))))))))))))

@@ -1,10 +1,11 @@
--- What was refused by 5 BAD_RECORD before R30 to R34 stood in its place, in that row's own words; and the five as one. No call is answered by 5 any more
+-- What was refused by 5 BAD_RECORD before R30 to R34 stood in its place, in that row's own words, of records as J1 has them now; and the five as one. No call is answered by 5 any more
 -- (specs/Demand1.antt of ivs): this is here to say what the five are together. Assumes nothing.
 use mathlib.Core.Path.{_≡_}
 use mathlib.Core.Logic.{_⊎_}
 use mathlib.Core.List.{List}
-use Prim.Native.Nat.{ℕ, _+_, _/_, _%_, _<_}
+use Prim.Native.Nat.{ℕ, _+_, _/_, _%_, _≤_, _<_}
 use lib.ListN.{getD}
+use Rattle.limits.specs.Limits.{maxRegions}
 use Rattle.said.specs.Records.{kind, axisKind, valueKind, endKind, regionOf, axisOf, recordAt}
 use Rattle.refusing.specs.Counts.{axisRecords, InRegion, UnknownKind, NotZeroAt, OutOfTurn, TooLate, InUnfinished, UnknownRegion, RegionTwice, SetsFull}
 
@@ -17,11 +18,12 @@ pub record NotZero (r : List ℕ) (p n : ℕ) : Type 0 where
 -- 5 BAD_RECORD
 pub data BadRecord (axes : ℕ) (job : List ℕ) (i : ℕ) (r : List ℕ) : Type 0 where
   unknown-kind : (kind r ≡ axisKind → ⊥) → (kind r ≡ valueKind → ⊥) → (kind r ≡ endKind → ⊥) → BadRecord axes job i r
-  axis-zero : kind r ≡ axisKind → NotZero r 3 1 ⊎ NotZero r 10 2 → BadRecord axes job i r
-  value-zero : kind r ≡ valueKind → NotZero r 2 2 ⊎ NotZero r 8 4 → BadRecord axes job i r
+  axis-zero : kind r ≡ axisKind → NotZero r 10 2 → BadRecord axes job i r
+  value-zero : kind r ≡ valueKind → NotZero r 2 1 ⊎ NotZero r 8 4 → BadRecord axes job i r
   end-zero : kind r ≡ endKind → NotZero r 1 11 → BadRecord axes job i r
   -- region by region, and in each axis by axis: the numbers of axis record i are fixed
   axis-order : kind r ≡ axisKind → (regionOf r ≡ i / axes → ⊥) ⊎ (axisOf r ≡ i % axes → ⊥) → BadRecord axes job i r
+  axis-past : kind r ≡ axisKind → maxRegions ≤ regionOf r → BadRecord axes job i r
   axis-late : kind r ≡ axisKind → axisRecords job i < i → BadRecord axes job i r
   in-region : (kind r ≡ valueKind) ⊎ (kind r ≡ endKind) → InRegion axes job i → BadRecord axes job i r
 

@@ -10,7 +10,7 @@ use Rattle.said.specs.Records.{kind, axisKind, valueKind, endKind, mustBeZero, 
 use Rattle.said.specs.Refusals.{unknownRegion, regionTwice, setsFull, unknownKind, regionUnfinished}
 use Rattle.said.specs.Sets.{Region, regionList, has}
 use Rattle.told.specs.Told.{countKind, endsBefore}
-use Rattle.limits.specs.Limits.{maxItems}
+use Rattle.limits.specs.Limits.{maxRegions, maxItems}
 
 -- ---- what stands before record i
 
@@ -52,8 +52,9 @@ pub record NotZeroAt (r : List ℕ) (b : ℕ) : Type 0 where
   pub is-not : getD r b 0 ≡ 0 → ⊥
   pub first : (a : ℕ) → a < b → MustBeZero r a → getD r a 0 ≡ 0
 
--- the numbers of an axis record whose turn it is: region by region, and in each axis by axis
+-- the numbers of an axis record whose turn it is: region by region, and in each axis by axis, as long as there may be such a region
 pub record InTurn (axes : ℕ) (job : List ℕ) (i : ℕ) (r : List ℕ) : Type 0 where
+  pub region-few : regionOf r < maxRegions
   pub region-next : regionOf r ≡ axisRecords job i / axes
   pub axis-next : axisOf r ≡ axisRecords job i % axes
 

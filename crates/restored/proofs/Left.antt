@@ -10,7 +10,7 @@ use Rattle.groups.specs.Groups.{maxShapes}
 use Rattle.stores.specs.Stores.{Parsed, parse}
 use Rattle.stores.specs.Coordinates.{readAt, rowThere}
 use Rattle.store.specs.Placing.{allRuns, idWords, stored}
-use Rattle.said.specs.Refusals.{publishedWork, pairRecords}
+use Rattle.said.specs.Refusals.{jobWork, pairRecords}
 use Rattle.said.specs.Job.{Said, Outcome, fine}
 use Rattle.finishing.specs.declared.answers.Built.the-variants.{Done}
 use Rattle.finishing.specs.declared.answers.Report.{Report}
@@ -21,13 +21,13 @@ use Rattle.call.specs.Lending.{Lending}
 use Rattle.call.specs.Build.{coordsInUse, packedOf, outcomeOf, answerOf, after}
 use Rattle.accepted.proofs.Accepted.{Accepted, accepted, map-is, store-front, id-at}
 use Rattle.accepted.proofs.PastLaws.{ids-long}
-use Rattle.recovering.specs.Recovering.{rowNo, recordsOf, saidOf}
+use Rattle.recovering.specs.Recovering.{rowNo, jobOf, saidOf}
 use Rattle.recovering.proofs.Sound.{Takes, job-says, job-sound, there}
 use Rattle.recovering.proofs.Rows.{rows-at, rows-count}
 use Rattle.restored.specs.Restored.{built, newStore, idOf, Back, wordFor, RowRestored}
 use Rattle.restored.proofs.Theorem.{new-parsed, row-back, again}
 
-module _ (p : Parsed) (t : Takes p) (work : List ℕ) (pairs : List Pair) (lent : Buffers) (w : publishedWork (recordsOf p) ≤ length work) (q : pairRecords ≤ length pairs) (r : Report) where
+module _ (p : Parsed) (t : Takes p) (work : List ℕ) (pairs : List Pair) (lent : Buffers) (w : jobWork (p .axes) (jobOf p) ≤ length work) (q : pairRecords ≤ length pairs) (r : Report) where
   abbrev c : Lending
   c = again p t work pairs lent w q
 

@@ -7,12 +7,12 @@ use native.Mathlib.Nat.{add-zero}
 use native.Mathlib.Omega.{arith}
 use lib.ListN.{getD}
 use lib.Dec.{eqb, ltb}
-use borrow.Author.Tests.{eq-eqb, ne-eqb, lt-ltb, le-ltb, eqb-true, not-true}
+use borrow.Author.Tests.{eq-eqb, ne-eqb, lt-ltb, le-ltb, ltb-true, eqb-true, not-true}
 use Rattle.laws.specs.Bytes.{be}
 use Rattle.laws.specs.Signed.{word, signed, zeroWord}
 use Rattle.laws.proofs.Cases.{and-true, true-false}
 use Rattle.laws.proofs.SignedLaws.{value-twos, word-value}
-use Rattle.limits.specs.Limits.{maxItems}
+use Rattle.limits.specs.Limits.{maxRegions, maxItems}
 use Rattle.said.specs.Records.{isAxis, isKnown, regionOf, axisOf, wrongByte, valueWord}
 use Rattle.said.specs.Refusals.{unknownRegion, regionTwice, setsFull, unknownKind, notZero, axisOutOfTurn, axisTooLate, regionUnfinished, firstFailed, inTurn, formNo, valueNo, endNo, byteOf}
 
@@ -84,6 +84,7 @@ module _ (axes before : ℕ) (late : Bool) (r : List ℕ) where
 pub record Formed (axes before : ℕ) (late : Bool) (r : List ℕ) : Type 0 where
   pub known : isKnown r ≡ true
   pub zeros : wrongByte r ≡ 0
+  pub region-few : isAxis r ≡ true → regionOf r < maxRegions
   pub region-next : isAxis r ≡ true → regionOf r ≡ before / axes
   pub axis-next : isAxis r ≡ true → axisOf r ≡ before % axes
   pub early : isAxis r ≡ true → late ≡ false
@@ -100,7 +101,8 @@ passed-else true b h e = absurd (true-false h e)
 pub form-passed : (axes before : ℕ) (late : Bool) (r : List ℕ) → formNo axes before late r ≡ 0 → Formed axes before late r
 unfolding formNo inTurn
 form-passed axes before late r e =
-    let turn = eqb (regionOf r) (before / axes) && eqb (axisOf r) (before % axes) in
+    let next = eqb (regionOf r) (before / axes) && eqb (axisOf r) (before % axes) in
+    let turn = ltb (regionOf r) maxRegions && next in
     let t₅ : List (Bool × ℕ) = (isAxis r || eqb (before % axes) 0, regionUnfinished) ∷ [] in
     let t₄ : List (Bool × ℕ) = (not (isAxis r) || not late, axisTooLate) ∷ t₅ in
     let t₃ : List (Bool × ℕ) = (not (isAxis r) || turn, axisOutOfTurn) ∷ t₄ in
@@ -110,13 +112,16 @@ form-passed axes before late r e =
     let c = first-passed (not (isAxis r) || turn) 31 t₄ (b .1) in
     let d = first-passed (not (isAxis r) || not late) 32 t₅ (c .1) in
     let f = first-passed (isAxis r || eqb (before % axes) 0) 33 [] (d .1) in
-    let both : isAxis r ≡ true → (eqb (regionOf r) (before / axes) ≡ true) × (eqb (axisOf r) (before % axes) ≡ true) =
-    λ x. and-true (eqb (regionOf r) (before / axes)) (eqb (axisOf r) (before % axes)) (passed-then (isAxis r) turn (c .0) x) in
+    let both : isAxis r ≡ true → (ltb (regionOf r) maxRegions ≡ true) × (next ≡ true) =
+    λ x. and-true (ltb (regionOf r) maxRegions) next (passed-then (isAxis r) turn (c .0) x) in
+    let numbers : isAxis r ≡ true → (eqb (regionOf r) (before / axes) ≡ true) × (eqb (axisOf r) (before % axes) ≡ true) =
+    λ x. and-true (eqb (regionOf r) (before / axes)) (eqb (axisOf r) (before % axes)) (both x .1) in
     record {
       known = a .0;
       zeros = eqb-true (wrongByte r) 0 (b .0);
-      region-next = λ x. eqb-true (regionOf r) (before / axes) (both x .0);
-      axis-next = λ x. eqb-true (axisOf r) (before % axes) (both x .1);
+      region-few = λ x. ltb-true (regionOf r) maxRegions (both x .0);
+      region-next = λ x. eqb-true (regionOf r) (before / axes) (numbers x .0);
+      axis-next = λ x. eqb-true (axisOf r) (before % axes) (numbers x .1);
       early = λ x. not-true late (passed-then (isAxis r) (not late) (d .0) x);
       whole = λ x. eqb-true (before % axes) 0 (passed-else (isAxis r) (eqb (before % axes) 0) (f .0) x);
     }

@@ -7,7 +7,6 @@ use Prim.Native.Nat.{ℕ, suc, _+_, _*_, _/_, _%_, _≤_, _<_}
 use native.Mathlib.Nat.{le-refl, mod-eq-sub-div-mul, div-mul-le-self, lt-div-mul-add, le-of-mul-le-mul-right}
 use native.Mathlib.Omega.{arith}
 use lib.ListN.{length, getD, length-append}
-use lib.Seq.{getD-drop}
 use lib.Dec.{eqb}
 use borrow.Author.Tests.{eq-eqb}
 use Rattle.laws.specs.Every.{All, EachTwo}
@@ -135,9 +134,12 @@ module _ (axes : ℕ) (some : 0 < axes) (job : List ℕ) where
       quiet = λ e _. absurd (omega (arith, length-append (s .sets) (s .begun ∷ [])));
     }
 
-  axis-more : (r : List ℕ) (i : ℕ) → getD r 1 0 < 256 → kind r ≡ axisKind → formNo axes i false r ≡ 0 → suc i ≤ maxRegions * axes
-  axis-more r i b k z =
-      let e = form-passed axes i false r z .region-next (eq-eqb (kind r) axisKind k) in
+  axis-more : (r : List ℕ) (i : ℕ) → kind r ≡ axisKind → formNo axes i false r ≡ 0 → suc i ≤ maxRegions * axes
+  axis-more r i k z =
+      let p = form-passed axes i false r z in
+      let a = eq-eqb (kind r) axisKind k in
+      let b = p .region-few a in
+      let e = p .region-next a in
       let l = lt-div-mul-add {a = i} {b = axes} some in
       let f = row-fits axes maxRegions (i / axes) (omega arith) in
       omega arith
@@ -147,7 +149,7 @@ ends : (axes mode : ℕ) (job : List ℕ) (records : ℕ) (s : Said) → 0 < axe
 unfolding firstLike
 ends axes mode job records s some bytes e =
     walk-keeps axes mode job (λ i. i ≤ maxRegions * axes) (Counts axes job)
-    (λ i k z h. axis-more axes some job (recordAt job i) i (rw (getD-drop (12 * i) job 1 0) (bytes (12 * i + 1))) k z)
+    (λ i k z h. axis-more axes some job (recordAt job i) i k z)
     (λ i z h. begin axes some job i h z)
     (λ i s _ z c. value-more axes some job i s c (firstLike (s .regions) (regionOf (recordAt job i))) (valueWord (recordAt job i))
     (like-below (s .regions) (regionOf (recordAt job i)) (value-known (recordAt job i) (length (s .regions)) (has (firstLike (s .regions) (regionOf (recordAt job i))) (s .named)) z)))

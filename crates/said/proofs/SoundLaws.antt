@@ -18,8 +18,8 @@ use Rattle.laws.proofs.Cases.{Which, which, lt-or-ge, and-true}
 use Rattle.laws.proofs.Cases.Which.{holds, fails}
 use Rattle.laws.proofs.EveryLaws.{all-append, all-imp, all-and}
 use Rattle.sets.specs.Set.{Set}
-use Rattle.said.specs.Records.{recordBytes, mostRecords, mostAxes, regionOf, valueWord, recordAt, afterRecord, areRecords, recordsIn, recordCount, regionLong, afterRegion, kind, axisKind, valueKind, endKind}
-use Rattle.said.specs.Refusals.{firstFailed, publishedWork, pairRecords, earlyNo, valueNo}
+use Rattle.said.specs.Records.{recordBytes, mostRecords, mostAxes, regionOf, valueWord, recordAt, afterRecord, areRecords, recordCount, regionLong, afterRegion, kind, axisKind, valueKind, endKind}
+use Rattle.said.specs.Refusals.{firstFailed, jobWork, pairRecords, earlyNo, valueNo}
 use Rattle.said.specs.Sets.{Region, coordinates, regionList, firstLike, has, withUse, indexIn, withEntry, withValue}
 use Rattle.said.specs.Job.{Said, inAxes, afterValue, afterEnd, regionsOnly, Outcome, fine, recordsFrom, outcomeFrom, outcome}
 use Rattle.said.specs.LentGood.{SetsGood}
@@ -197,13 +197,13 @@ well-said axes mode job records s some b e =
 
 -- ---- what refusals 1 to 4 leave
 
-pub open-if : (axes mode bytes work pairs : ℕ) → earlyNo axes mode bytes work pairs ≡ 0 → Open axes mode bytes work pairs
+pub open-if : (axes mode : ℕ) (job : List ℕ) (work pairs : ℕ) → earlyNo axes mode job work pairs ≡ 0 → Open axes mode job work pairs
 unfolding earlyNo
-open-if axes mode bytes work pairs z =
+open-if axes mode job work pairs z =
     let axes-test = ltb 0 axes && leb axes mostAxes in
     let mode-test = leb mode 1 in
-    let job-test = areRecords bytes && leb (recordsIn bytes) mostRecords in
-    let work-test = leb (publishedWork (recordsIn bytes)) work in
+    let job-test = areRecords (length job) && leb (recordCount job) mostRecords in
+    let work-test = leb (jobWork axes job) work in
     let pair-test = leb pairRecords pairs in
     let a = first-passed axes-test 0 ((mode-test, 2) ∷ (job-test, 3) ∷ (work-test, 4) ∷ (pair-test, 4) ∷ []) z in
     let b = first-passed mode-test 1 ((job-test, 3) ∷ (work-test, 4) ∷ (pair-test, 4) ∷ []) (a .1) in
@@ -211,15 +211,15 @@ open-if axes mode bytes work pairs z =
     let d = first-passed work-test 3 ((pair-test, 4) ∷ []) (c .1) in
     let f = first-passed pair-test 3 [] (d .1) in
     let p = and-true (ltb 0 axes) (leb axes mostAxes) (a .0) in
-    let q = and-true (areRecords bytes) (leb (recordsIn bytes) mostRecords) (c .0) in
-    let m = eqb-true (bytes % recordBytes) 0 (q .0) in
+    let q = and-true (areRecords (length job)) (leb (recordCount job) mostRecords) (c .0) in
+    let m = eqb-true (length job % recordBytes) 0 (q .0) in
     record {
       some = ltb-true 0 axes (p .0);
       most = leb-true axes mostAxes (p .1);
       mode-known = leb-true mode 1 (b .0);
-      few = leb-true (recordsIn bytes) mostRecords (q .1);
+      few = leb-true (recordCount job) mostRecords (q .1);
       whole = omega arith;
-      enough = leb-true (publishedWork (recordsIn bytes)) work (d .0);
+      enough = leb-true (jobWork axes job) work (d .0);
       paired = leb-true pairRecords pairs (f .0);
     }
 
@@ -230,8 +230,8 @@ from-fine (suc n) o s e = let z : _≡_ {A = ℕ} 0 1 = cc in absurd (omega arit
 
 -- a job that is taken: no refusal of 1 to 4, and its records say it
 pub fine-walk : (axes mode : ℕ) (job : List ℕ) (work pairs : ℕ) (s : Said) → outcome axes mode job work pairs ≡ fine s
-    → Open axes mode (length job) work pairs × (recordsFrom axes mode job job (recordCount job) 0 inAxes ≡ fine s)
+    → Open axes mode job work pairs × (recordsFrom axes mode job job (recordCount job) 0 inAxes ≡ fine s)
 unfolding outcome
 fine-walk axes mode job work pairs s e =
-    let f = from-fine (earlyNo axes mode (length job) work pairs) (recordsFrom axes mode job job (recordCount job) 0 inAxes) s e in
-    (open-if axes mode (length job) work pairs (f .0), f .1)
+    let f = from-fine (earlyNo axes mode job work pairs) (recordsFrom axes mode job job (recordCount job) 0 inAxes) s e in
+    (open-if axes mode job work pairs (f .0), f .1)

@@ -123,4 +123,4 @@ outcomeFrom (suc n) o = refused (suc n) 0
 -- of axis count, mode, job, the words of work and the number of pair records
 unfoldable pub outcome : (axes mode : ℕ) (job : List ℕ) (work pairs : ℕ) → Outcome
 outcome axes mode job work pairs =
-    outcomeFrom (earlyNo axes mode (length job) work pairs) (recordsFrom axes mode job job (recordCount job) 0 inAxes)
+    outcomeFrom (earlyNo axes mode job work pairs) (recordsFrom axes mode job job (recordCount job) 0 inAxes)

@@ -1,4 +1,5 @@
 pub mod Records
+pub mod Work
 pub mod Refusals
 pub mod LentOpen
 pub mod Sets

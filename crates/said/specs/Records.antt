@@ -80,9 +80,9 @@ isEnd r = eqb (kind r) endKind
 abbrev pub isKnown : List ℕ → Bool
 isKnown r = isAxis r || (isValue r || isEnd r)
 
--- an axis record: region, axis, start, peak, end; its other bytes are 0
+-- an axis record: region (its low byte in byte 1, its high byte in byte 3), axis, start, peak, end; its other bytes are 0
 abbrev pub regionOf : List ℕ → ℕ
-regionOf r = getD r 1 0
+regionOf r = getD r 3 0 * 256 + getD r 1 0
 
 abbrev pub axisOf : List ℕ → ℕ
 axisOf r = getD r 2 0
@@ -123,8 +123,8 @@ valueWord r = word (signed 4 (be 4 r 4))
 -- of a record of this kind
 unfoldable pub mustBeZero : ℕ → List ℕ
 mustBeZero k =
-    pick (eqb k axisKind) (3 ∷ 10 ∷ 11 ∷ [])
-    (pick (eqb k valueKind) (2 ∷ 3 ∷ 8 ∷ 9 ∷ 10 ∷ 11 ∷ [])
+    pick (eqb k axisKind) (10 ∷ 11 ∷ [])
+    (pick (eqb k valueKind) (2 ∷ 8 ∷ 9 ∷ 10 ∷ 11 ∷ [])
     (pick (eqb k endKind) (1 ∷ 2 ∷ 3 ∷ 4 ∷ 5 ∷ 6 ∷ 7 ∷ 8 ∷ 9 ∷ 10 ∷ 11 ∷ []) []))
 
 -- the first of these bytes that is not 0; 0 where all are

@@ -2,13 +2,16 @@
 use mathlib.Core.Bool.{Bool, true, false, not, _&&_, _||_}
 use mathlib.Core.List.{List, [], _∷_}
 use mathlib.Core.Path.{_≡_}
-use Prim.Native.Nat.{ℕ, zero, suc, _+_, _*_, _/_, _%_, _≤_, _<_, min}
+use Prim.Native.Nat.{ℕ, zero, suc, _+_, _*_, _/_, _%_, _≤_, _<_}
+use lib.ListN.{length}
 use lib.Dec.{eqb, ltb, leb}
 use Rattle.laws.specs.Pick.{pick}
-use Rattle.limits.specs.Limits.{maxShapes, maxItems}
+use Rattle.limits.specs.Limits.{maxRegions, maxItems}
 -- the pair records that are lent beside work: fewer is WORK_SHORT
 pub use Rattle.limits.specs.Limits.{pairRecords}
-use Rattle.said.specs.Records.{recordsIn, areRecords, mostRecords, mostAxes, isAxis, isKnown, regionOf, axisOf, wrongByte}
+use Rattle.said.specs.Records.{recordCount, areRecords, mostRecords, mostAxes, isAxis, isKnown, regionOf, axisOf, wrongByte}
+-- the words of work that a job asks for: fewer is WORK_SHORT
+unfoldable pub use Rattle.said.specs.Work.{publishedWork, jobWork, workWords}
 
 -- ---- their numbers
 
@@ -95,30 +98,22 @@ unfoldable pub firstFailed : List (Bool × ℕ) → ℕ
 firstFailed [] = 0
 firstFailed (t ∷ l) = pick (t .0) (firstFailed l) (t .1)
 
--- the published number of words (J7)
-unfoldable pub publishedWork : ℕ → ℕ
-publishedWork n = 16 * n + min n maxShapes * min n maxShapes
-
--- the published number as it is asked for: 0 above the record limit
-unfoldable pub workWords : ℕ → ℕ
-workWords n = pick (leb n mostRecords) (publishedWork n) 0
-
--- T1: axis count, mode, the job's bytes, the words of work and the pair records
-unfoldable pub earlyNo : ℕ → ℕ → ℕ → ℕ → ℕ → ℕ
-earlyNo axes mode bytes work pairs =
+-- T1: of axis count, mode, job, the words of work and the pair records
+unfoldable pub earlyNo : (axes mode : ℕ) (job : List ℕ) (work pairs : ℕ) → ℕ
+earlyNo axes mode job work pairs =
     firstFailed
     ((ltb 0 axes && leb axes mostAxes, badAxes)
     ∷ (leb mode 1, badMode)
-    ∷ (areRecords bytes && leb (recordsIn bytes) mostRecords, badJobLength)
-    ∷ (leb (publishedWork (recordsIn bytes)) work, workShort)
+    ∷ (areRecords (length job) && leb (recordCount job) mostRecords, badJobLength)
+    ∷ (leb (jobWork axes job) work, workShort)
     ∷ (leb pairRecords pairs, workShort)
     ∷ [])
 
 -- ---- one record (T2)
 
--- an axis record is in turn where its numbers are the ones after so many axis records (J4)
+-- an axis record is in turn where its numbers are the ones after so many axis records (J4), and there may be such a region (J3)
 unfoldable pub inTurn : (axes before : ℕ) (bytes : List ℕ) → Bool
-inTurn axes before r = eqb (regionOf r) (before / axes) && eqb (axisOf r) (before % axes)
+inTurn axes before r = ltb (regionOf r) maxRegions && (eqb (regionOf r) (before / axes) && eqb (axisOf r) (before % axes))
 
 -- R30 to R34, of a record of any kind behind so many axis records; `late` where a value or an end stands before it
 unfoldable pub formNo : (axes before : ℕ) (late : Bool) (bytes : List ℕ) → ℕ

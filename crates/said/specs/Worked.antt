@@ -3,11 +3,13 @@ use mathlib.Core.Bool.{Bool, true, false}
 use mathlib.Core.List.{List, [], _∷_, _++_}
 use mathlib.Core.Path.{_≡_, refl}
 use Prim.Native.Nat.{ℕ, _+_}
+use lib.ListN.{set}
 use Rattle.laws.specs.Bytes.{be}
 use Rattle.laws.specs.Signed.{word, signed, zeroWord}
 use Rattle.sets.specs.Set.{Set}
 use Rattle.said.specs.Records.{mustBeZero, firstNotZero, wrongByte, valueWord}
-use Rattle.said.specs.Refusals.{pairRecords, firstFailed, publishedWork, earlyNo, inTurn, formNo, valueNo, endNo, byteOf}
+use Rattle.said.specs.Refusals.{pairRecords, firstFailed, publishedWork, workWords, earlyNo, inTurn, formNo, valueNo, endNo, byteOf}
+use Rattle.said.specs.Work.{headRun, headRegions}
 use Rattle.said.specs.Sets.{Region, coordinates, regionList, sameRegion, like, firstLike, has, withUse, indexIn, withEntry, withValue}
 use Rattle.said.specs.Job.{Said, Outcome, refused, fine, unless, afterValue, afterEnd, valueStep, endStep, regionsOnly, saidAt, axesBefore, isLate, kindStep, step, ended, endedSets, follow, recordsFrom, outcomeFrom, outcome}
 
@@ -58,14 +60,15 @@ answers =
     ∷ one (two (valueRecord 0 5 ++ axisRecord 3 0 64))
     ∷ one (axisRecord 1 0 64)
     ∷ one (two (valueRecord 2 5 ++ endRecord))
+    ∷ one (two (set (valueRecord 0 5) 3 1 ++ endRecord))
     ∷ one (two (valueRecord 0 5))
     ∷ outcome 2 0 (axisRecord 0 0 64) 4096 pairRecords
     ∷ outcome 2 0 (axisRecord 0 0 64 ++ endRecord) 4096 pairRecords
     ∷ outcome 2 0 (axisRecord 0 0 64 ++ (axisRecord 0 1 64 ++ (endRecord ++ axisRecord 1 0 64))) 4096 pairRecords
     ∷ outcome 2 0 (axisRecord 0 0 64 ++ (axisRecord 0 1 64 ++ (endRecord ++ axisRecord 0 1 64))) 4096 pairRecords
-    ∷ outcome 1 1 endRecord 16 pairRecords
-    ∷ outcome 1 1 endRecord 17 pairRecords
-    ∷ outcome 1 1 endRecord 17 1048575
+    ∷ outcome 1 1 endRecord 31 pairRecords
+    ∷ outcome 1 1 endRecord 32 pairRecords
+    ∷ outcome 1 1 endRecord 32 1048575
     ∷ outcome 1 1 (1 ∷ []) 4096 0
     ∷ outcome 64 2 [] 0 0
     ∷ outcome 65 2 [] 0 0
@@ -84,6 +87,7 @@ worked : answers ≡
     ∷ refused 32 3
     ∷ refused 32 0
     ∷ refused 6 2
+    ∷ refused 6 2
     ∷ refused 8 3
     ∷ refused 8 1
     ∷ refused 34 1
@@ -96,5 +100,17 @@ worked : answers ≡
     ∷ refused 2 0
     ∷ refused 1 0
     ∷ []
-unfolding answers outcome outcomeFrom recordsFrom follow ended endedSets step kindStep isLate axesBefore saidAt regionsOnly endStep valueStep afterEnd afterValue unless withValue withEntry indexIn withUse has firstLike like sameRegion regionList coordinates endNo valueNo formNo inTurn earlyNo publishedWork firstFailed valueWord wrongByte firstNotZero mustBeZero word signed be
+unfolding answers outcome outcomeFrom recordsFrom follow ended endedSets step kindStep isLate axesBefore saidAt regionsOnly endStep valueStep afterEnd afterValue unless withValue withEntry indexIn withUse has firstLike like sameRegion regionList coordinates endNo valueNo formNo inTurn earlyNo publishedWork headRegions headRun firstFailed valueWord wrongByte firstNotZero mustBeZero word signed be
 worked = refl
+
+-- the regions at the head: rounded up, up to the first record of another kind, whatever the bytes behind the kinds are; none for no axes
+heads : headRegions 2 (axisRecord 0 0 64 ++ (axisRecord 0 1 64 ++ axisRecord 1 0 64)) ∷ headRegions 1 (two (endRecord ++ axisRecord 2 0 64)) ∷ headRegions 3 (twins [])
+    ∷ headRegions 1 (axisRecord 9 9 64) ∷ headRegions 1 (endRecord ++ axisRecord 0 0 64) ∷ headRegions 0 (two []) ∷ headRegions 1 [] ∷ []
+    ≡ 2 ∷ 2 ∷ 1 ∷ 1 ∷ 0 ∷ 0 ∷ 0 ∷ []
+unfolding headRegions headRun
+heads = refl
+
+-- the words of work: of one record, of seven with two regions, at the record limit and above it
+words : workWords 1 0 ∷ workWords 7 2 ∷ workWords 1048576 0 ∷ workWords 1048577 0 ∷ [] ≡ 32 ∷ 238 ∷ 16793600 ∷ 0 ∷ []
+unfolding workWords publishedWork
+words = refl

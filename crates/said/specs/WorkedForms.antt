@@ -37,19 +37,29 @@ unfolding told formNo byteOf inTurn firstFailed wrongByte firstNotZero mustBeZer
 kinds = refl
 
 -- each byte that must be 0, alone; and the first of two
-zeros : first (set (axisRecord 0 0) 3 1) ∷ first (set (axisRecord 0 0) 10 1) ∷ first (set (axisRecord 0 0) 11 255)
-    ∷ first (set valueRecord 2 1) ∷ first (set valueRecord 3 1) ∷ first (set valueRecord 8 1) ∷ first (set valueRecord 9 1)
+zeros : first (set (axisRecord 0 0) 10 1) ∷ first (set (axisRecord 0 0) 11 255)
+    ∷ first (set valueRecord 2 1) ∷ first (set valueRecord 8 1) ∷ first (set valueRecord 9 1)
     ∷ first (set valueRecord 10 1) ∷ first (set valueRecord 11 255)
     ∷ first (set endRecord 1 1) ∷ first (set endRecord 2 1) ∷ first (set endRecord 3 1) ∷ first (set endRecord 4 1) ∷ first (set endRecord 5 1)
     ∷ first (set endRecord 6 1) ∷ first (set endRecord 7 1) ∷ first (set endRecord 8 1) ∷ first (set endRecord 9 1)
     ∷ first (set endRecord 10 1) ∷ first (set endRecord 11 255)
-    ∷ first (set (set valueRecord 11 1) 3 1) ∷ first (set (set endRecord 11 1) 10 1) ∷ []
-    ≡ (31, 3) ∷ (31, 10) ∷ (31, 11)
-    ∷ (31, 2) ∷ (31, 3) ∷ (31, 8) ∷ (31, 9) ∷ (31, 10) ∷ (31, 11)
+    ∷ first (set (set valueRecord 11 1) 8 1) ∷ first (set (set endRecord 11 1) 10 1) ∷ []
+    ≡ (31, 10) ∷ (31, 11)
+    ∷ (31, 2) ∷ (31, 8) ∷ (31, 9) ∷ (31, 10) ∷ (31, 11)
     ∷ (31, 1) ∷ (31, 2) ∷ (31, 3) ∷ (31, 4) ∷ (31, 5) ∷ (31, 6) ∷ (31, 7) ∷ (31, 8) ∷ (31, 9) ∷ (31, 10) ∷ (31, 11)
-    ∷ (31, 3) ∷ (31, 10) ∷ []
+    ∷ (31, 8) ∷ (31, 10) ∷ []
 unfolding told formNo byteOf inTurn firstFailed wrongByte firstNotZero mustBeZero
 zeros = refl
+
+-- Byte 3 is the region's high byte, of an axis record and of a value record. Regions 256 and 32,766, the last; behind it none is next
+high : first (set (axisRecord 0 0) 3 1) ∷ first (set valueRecord 3 1) ∷ first (set valueRecord 3 255)
+    ∷ told 512 false (set (axisRecord 0 0) 3 1) ∷ told 512 false (axisRecord 0 0)
+    ∷ told 65532 false (set (axisRecord 254 0) 3 127) ∷ told 65534 false (set (axisRecord 255 0) 3 127) ∷ []
+    ≡ (32, 0) ∷ fine ∷ fine
+    ∷ fine ∷ (32, 0)
+    ∷ fine ∷ (32, 0) ∷ []
+unfolding told formNo byteOf inTurn firstFailed wrongByte firstNotZero mustBeZero
+high = refl
 
 -- The turn: region 1, axis 1 is the fourth. By its region and by its axis; too late, the next one and others
 turns : told 3 false (axisRecord 1 1) ∷ told 3 false (axisRecord 0 1) ∷ told 3 false (axisRecord 1 0) ∷ told 3 false (axisRecord 2 1)
@@ -66,9 +76,9 @@ unfolding told formNo byteOf inTurn firstFailed wrongByte firstNotZero mustBeZer
 parts = refl
 
 -- Several at once: a byte before the turn, late or not; a byte and an unknown kind before a region that is unfinished
-several : later (set (axisRecord 9 1) 3 1) ∷ later (set (axisRecord 2 0) 11 1) ∷ first (set (axisRecord 1 0) 10 1)
+several : later (set (axisRecord 9 1) 10 1) ∷ later (set (axisRecord 2 0) 11 1) ∷ first (set (axisRecord 1 0) 10 1)
     ∷ told 3 false (set valueRecord 9 1) ∷ told 3 false (set endRecord 11 1) ∷ told 3 false (set valueRecord 0 4) ∷ told 3 false (set (set valueRecord 0 0) 2 1) ∷ []
-    ≡ (31, 3) ∷ (31, 11) ∷ (31, 10)
+    ≡ (31, 10) ∷ (31, 11) ∷ (31, 10)
     ∷ (31, 9) ∷ (31, 11) ∷ (30, 0) ∷ (30, 0) ∷ []
 unfolding told formNo byteOf inTurn firstFailed wrongByte firstNotZero mustBeZero
 several = refl

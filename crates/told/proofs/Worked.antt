@@ -9,6 +9,7 @@ use Rattle.laws.specs.Signed.{word, signed, zeroWord}
 use Rattle.sets.specs.Set.{Set, wordOf}
 use Rattle.said.specs.Records.{mustBeZero, firstNotZero, wrongByte, valueWord, recordCount}
 use Rattle.said.specs.Refusals.{pairRecords, firstFailed, publishedWork, earlyNo, inTurn, formNo, valueNo, endNo}
+use Rattle.said.specs.Work.{headRun, headRegions}
 use Rattle.said.specs.Sets.{Region, coordinates, regionList, sameRegion, like, firstLike, has, withUse, indexIn, withEntry, withValue}
 use Rattle.said.specs.Job.{Said, fine, unless, afterValue, afterEnd, valueStep, endStep, regionsOnly, saidAt, axesBefore, isLate, kindStep, step, ended, endedSets, follow, recordsFrom, outcomeFrom, outcome}
 use Rattle.told.specs.Told.{countKind, endsBefore, ValueIn, coordinatesAt, indexOf, Given, Told}
@@ -48,7 +49,7 @@ s = record {
 }
 
 taken : outcome 1 0 job 4096 pairRecords ≡ fine s
-unfolding outcome outcomeFrom recordsFrom follow ended endedSets step kindStep isLate axesBefore saidAt regionsOnly endStep valueStep afterEnd afterValue unless withValue withEntry indexIn withUse has firstLike like sameRegion regionList coordinates endNo valueNo formNo inTurn earlyNo publishedWork firstFailed valueWord wrongByte firstNotZero mustBeZero word signed be
+unfolding outcome outcomeFrom recordsFrom follow ended endedSets step kindStep isLate axesBefore saidAt regionsOnly endStep valueStep afterEnd afterValue unless withValue withEntry indexIn withUse has firstLike like sameRegion regionList coordinates endNo valueNo formNo inTurn earlyNo publishedWork headRegions headRun firstFailed valueWord wrongByte firstNotZero mustBeZero word signed be
 taken = refl
 
 -- end records before each record, and in all; regions by index and by coordinates

@@ -36,6 +36,7 @@ use Rattle.store.specs.Placing as store
 use Rattle.store.specs.Placing.{stored}
 use Rattle.said.specs.Records.{mustBeZero, firstNotZero, wrongByte, valueWord}
 use Rattle.said.specs.Refusals.{firstFailed, publishedWork, pairRecords, earlyNo, inTurn, formNo, valueNo, endNo}
+use Rattle.said.specs.Work.{headRun, headRegions}
 use Rattle.said.specs.Sets as said
 use Rattle.said.specs.Job as job
 use Rattle.said.proofs.SoundLaws.{Bytes}
@@ -121,7 +122,7 @@ abbrev outcome-b : job.Outcome
 outcome-b = job.outcome 1 0 job-b words-lent pairRecords
 
 said-both : (outcome-a ≡ job.fine s) × (outcome-b ≡ job.fine t)
-unfolding be signed word mustBeZero firstNotZero wrongByte valueWord firstFailed publishedWork earlyNo inTurn formNo valueNo endNo said.coordinates said.regionList said.sameRegion said.like said.firstLike said.has said.withUse said.indexIn said.withEntry said.withValue job.unless job.afterValue job.afterEnd job.valueStep job.endStep job.regionsOnly job.saidAt job.axesBefore job.isLate job.kindStep job.step job.endedSets job.ended job.follow job.recordsFrom job.outcomeFrom job.outcome
+unfolding be signed word mustBeZero firstNotZero wrongByte valueWord firstFailed publishedWork headRegions headRun earlyNo inTurn formNo valueNo endNo said.coordinates said.regionList said.sameRegion said.like said.firstLike said.has said.withUse said.indexIn said.withEntry said.withValue job.unless job.afterValue job.afterEnd job.valueStep job.endStep job.regionsOnly job.saidAt job.axesBefore job.isLate job.kindStep job.step job.endedSets job.ended job.follow job.recordsFrom job.outcomeFrom job.outcome
 said-both = (refl, refl)
 
 there : (x : Set) → List·Memᴰ x (s .sets) → List·Memᴰ x (t .sets)
@@ -179,7 +180,7 @@ Answers =
     × (left-a .origins ≡ 0 ∷ 0 ∷ 1 ∷ 0 ∷ 2 ∷ 0 ∷ []) × (left-b .origins ≡ 0 ∷ 0 ∷ 1 ∷ 0 ∷ 2 ∷ 0 ∷ 9 ∷ [])
 
 answers : Answers
-unfolding weigh tabulate be bytesOf compared thenBy isMost fits isZero signed twos word value insert sorted keep widthOf costOf rowCost columns overhead join shapes.widthsOrder shapes.order groupCost joined gain wordOf sameSet sets.byWords sets.partNone sets.partHead sets.parting sets.orderOf sets.order place withSet idsFrom distinctFrom groups.shapeOf groups.putShape groups.withShape groups.groupsFrom groups.groupsOf rule.keepOut rule.outs rule.pairWith rule.keepPair rule.pairs rule.better rule.lead rule.best rule.worth rule.ifWorth rule.choice rule.entry rule.merge rule.follow rule.step rule.run rule.number rule.start rule.merged rule.total words addIf ofWidth columnsOf wordCount bytesFor wordIn cellsOf rowOf joinAll rows.runCount store.runsOf store.allRuns store.inRun store.idWords store.names store.slotOf store.madeOf stores.tableBytes stores.slotBytes stores.offsets stores.listBytes stores.place store.storeOf columnAt store.runBytes store.forecastOf stored mustBeZero firstNotZero wrongByte valueWord firstFailed publishedWork earlyNo inTurn formNo valueNo endNo said.coordinates said.regionList said.sameRegion said.like said.firstLike said.has said.withUse said.indexIn said.withEntry said.withValue job.unless job.afterValue job.afterEnd job.valueStep job.endStep job.regionsOnly job.saidAt job.axesBefore job.isLate job.kindStep job.step job.endedSets job.ended job.follow job.recordsFrom job.outcomeFrom job.outcome packed.noLater packed.dense packed.sameShape packed.numberOf packed.isAmong packed.belongs packed.finalOf packed.isAhead packed.homeOf packed.originsOf packed.finalsOf packed.shared storeFor regionsKept originWords lateNo reportOf lateAnswer written buffersLeft regionBytes coordsInUse packedOf answerFrom leftFrom
+unfolding weigh tabulate be bytesOf compared thenBy isMost fits isZero signed twos word value insert sorted keep widthOf costOf rowCost columns overhead join shapes.widthsOrder shapes.order groupCost joined gain wordOf sameSet sets.byWords sets.partNone sets.partHead sets.parting sets.orderOf sets.order place withSet idsFrom distinctFrom groups.shapeOf groups.putShape groups.withShape groups.groupsFrom groups.groupsOf rule.keepOut rule.outs rule.pairWith rule.keepPair rule.pairs rule.better rule.lead rule.best rule.worth rule.ifWorth rule.choice rule.entry rule.merge rule.follow rule.step rule.run rule.number rule.start rule.merged rule.total words addIf ofWidth columnsOf wordCount bytesFor wordIn cellsOf rowOf joinAll rows.runCount store.runsOf store.allRuns store.inRun store.idWords store.names store.slotOf store.madeOf stores.tableBytes stores.slotBytes stores.offsets stores.listBytes stores.place store.storeOf columnAt store.runBytes store.forecastOf stored mustBeZero firstNotZero wrongByte valueWord firstFailed publishedWork headRegions headRun earlyNo inTurn formNo valueNo endNo said.coordinates said.regionList said.sameRegion said.like said.firstLike said.has said.withUse said.indexIn said.withEntry said.withValue job.unless job.afterValue job.afterEnd job.valueStep job.endStep job.regionsOnly job.saidAt job.axesBefore job.isLate job.kindStep job.step job.endedSets job.ended job.follow job.recordsFrom job.outcomeFrom job.outcome packed.noLater packed.dense packed.sameShape packed.numberOf packed.isAmong packed.belongs packed.finalOf packed.isAhead packed.homeOf packed.originsOf packed.finalsOf packed.shared storeFor regionsKept originWords lateNo reportOf lateAnswer written buffersLeft regionBytes coordsInUse packedOf answerFrom leftFrom
 answers = (refl, refl, refl, refl, refl, refl, refl, refl, refl, refl)
 
 module _ (work : List ℕ) (pairs : List Pair) (w : length work ≡ words-lent) (p : length pairs ≡ pairRecords) where

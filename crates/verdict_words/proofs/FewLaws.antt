@@ -8,8 +8,9 @@ use native.Mathlib.Omega.{arith}
 use lib.Dec.{eqb, ltb, leb}
 use lib.ListN.{length, getD}
 use Rattle.laws.specs.Pick.{pick}
-use Rattle.said.specs.Records.{recordCount, recordsIn, recordStart, areRecords, mostRecords, mostAxes}
+use Rattle.said.specs.Records.{recordCount, recordStart, areRecords, mostRecords, mostAxes}
 use Rattle.said.specs.Refusals.{firstFailed, badAxes, badJobLength, workShort, notZero}
+use Rattle.said.specs.Work.{headRegions}
 use Rattle.said.specs.Job.{Said, Outcome, refused, fine, inAxes, recordsFrom, outcomeFrom}
 use Rattle.stores.specs.Stores.{Parsed, parse}
 use Rattle.stores.specs.Coordinates.{once}
@@ -26,10 +27,10 @@ tests-few true true false = omega arith
 tests-few true false c = omega arith
 tests-few false b c = omega arith
 
-no-few : (axes job store work : ℕ) → judgeNo axes job store work ≤ 4
+no-few : (axes : ℕ) (job : List ℕ) (store work : ℕ) → judgeNo axes job store work ≤ 4
 unfolding judgeNo
 no-few axes job store work =
-    tests-few (ltb 0 axes && leb axes mostAxes) (areRecords job && leb (recordsIn job) mostRecords) (leb (judgeWork (recordsIn job) store) work)
+    tests-few (ltb 0 axes && leb axes mostAxes) (areRecords (length job) && leb (recordCount job) mostRecords) (leb (judgeWork (recordCount job) (headRegions axes job) store) work)
 
 -- ---- a verdict is no refusal
 
@@ -73,17 +74,17 @@ in-within job axes words s (some p) = either-within job (eqb (p .axes) axes && o
 
 module _ (axes : ℕ) (job store words : List ℕ) (work : ℕ) where
   abbrev ends : Outcome
-  ends = outcomeFrom (judgeNo axes (length job) (length store) work) (recordsFrom axes 0 job job (recordCount job) 0 inAxes)
+  ends = outcomeFrom (judgeNo axes job (length store) work) (recordsFrom axes 0 job job (recordCount job) 0 inAxes)
 
   refused-few : (n i : ℕ) → ends ≡ refused n i → n < 4294967296
-  refused-few n i e = go (judgeNo axes (length job) (length store) work) (no-few axes (length job) (length store) work) e
+  refused-few n i e = go (judgeNo axes job (length store) work) (no-few axes job (length store) work) e
     where
       go : (k : ℕ) → k ≤ 4 → outcomeFrom k (recordsFrom axes 0 job job (recordCount job) 0 inAxes) ≡ refused n i → n < 4294967296
       go zero h f = unfold outcomeFrom in omega (arith, walk-no axes 0 job (recordCount job) n i f .high)
       go (suc k) h f = unfold outcomeFrom in (let z : suc k ≡ n = cc in omega arith)
 
   refused-within : (n i : ℕ) → ends ≡ refused n i → n ≡ notZero → recordStart (i + 1) ≤ length job
-  refused-within n i e z = go (judgeNo axes (length job) (length store) work) (no-few axes (length job) (length store) work) e
+  refused-within n i e z = go (judgeNo axes job (length store) work) (no-few axes job (length store) work) e
     where
       go : (k : ℕ) → k ≤ 4 → outcomeFrom k (recordsFrom axes 0 job job (recordCount job) 0 inAxes) ≡ refused n i → recordStart (i + 1) ≤ length job
       go zero h f =

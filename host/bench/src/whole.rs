@@ -56,7 +56,7 @@ pub fn measure(workload: &Workload) -> Measured {
     let done = packed.done;
     let mut buffers = Buffers::like(&packed);
     same(workload, packed);
-    let work = ivs::work_words(records);
+    let work = ivs::job_words(axes, &job);
     let best = times(workload, &job, work, &mut buffers, done);
     Measured {
         records,

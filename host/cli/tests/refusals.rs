@@ -59,9 +59,9 @@ fn the_byte_that_is_not_zero() {
          nothing behind its coordinates; write 0 there"
     );
     assert_eq!(
-        said("value", 1, &[REGION, with(VALUE, &[(3, 7)])]),
-        "31 NOT_ZERO at record 1 (byte 12): byte 3 is 0x07 and must be 0: a value record has \
-         nothing between its region and its value; write 0 there"
+        said("value", 1, &[REGION, with(VALUE, &[(2, 7)])]),
+        "31 NOT_ZERO at record 1 (byte 12): byte 2 is 0x07 and must be 0: a value record has \
+         nothing between the two bytes of its region; write 0 there"
     );
     assert_eq!(
         said("end", 1, &[REGION, END, with(END, &[(1, 0xFF)])]),

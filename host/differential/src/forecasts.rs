@@ -10,14 +10,14 @@ use plain::{number, Refused, Sizes};
 
 /// The forecast of a job, where this is known to be the build's answer.
 pub fn case(case: &Case<'_>, said: &Said, buffers: &mut Buffers) -> Result<(), String> {
-    let work = plain::work_words(case.job.len() / RECORD);
+    let work = plain::job_words(case.axes, case.job);
     ask(case, [work + 2, plain::PAIRS + 3], said, buffers).map(|_| ())
 }
 
 /// The same with just enough lent, and with too little; then builds in memory by the
 /// forecast's own numbers.
 pub fn around(case: &Case<'_>, said: &Said, buffers: &mut Buffers) -> Result<(), String> {
-    let work = plain::work_words(case.job.len() / RECORD);
+    let work = plain::job_words(case.axes, case.job);
     let short = match said {
         Err(refused) if refused.number < number::WORK_SHORT => said.clone(),
         _ => Err(Refused::at(number::WORK_SHORT, 0)),

@@ -33,7 +33,7 @@ impl Parts {
         let built = plain::build(case.axes, 0, case.job, &Sizes::PLENTY);
         let rng = &mut Rng::new(hex::digest(case.job));
         let sets = case.job.chunks(RECORD).filter(|r| r[0] == 3).count();
-        let words = plain::work_words(case.job.len() / RECORD);
+        let words = plain::job_words(case.axes, case.job);
         for pair in 0..PAIRS {
             let [one, other] = [0; 2].map(|_| rng.below(sets + usize::from(pair == 0)) as u32);
             let work = (words + pair).saturating_sub(1);

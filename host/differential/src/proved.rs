@@ -8,7 +8,7 @@ use crate::noise::{not_zero, Guarded, Noisy};
 use crate::pairs::Pairs;
 use crate::{forecasts, laws, sizes, Case};
 use ivs::{Lent, Profile};
-use jobs::{hex, RECORD};
+use jobs::hex;
 use plain::{Done, Refused, Sizes};
 
 /// What the plain reading answers.
@@ -147,9 +147,9 @@ fn tests_work(said: &Said) -> bool {
 /// The least that a job asks for; of a refused one, some memory to leave untouched.
 fn least(case: &Case<'_>, said: &Said) -> Sizes {
     match said {
-        Ok(done) => sizes::least(case.job, done),
+        Ok(done) => sizes::least(case, done),
         Err(_) => Sizes {
-            work: plain::work_words(case.job.len() / RECORD),
+            work: plain::job_words(case.axes, case.job),
             pairs: plain::PAIRS,
             out: 40,
             ids: 6,

@@ -2,13 +2,12 @@
 
 use crate::check::same;
 use crate::Case;
-use jobs::RECORD;
 use plain::{number, Counts, Done, Sizes};
 
 /// The least that a done build asks for.
-pub fn least(job: &[u8], done: &Done) -> Sizes {
+pub fn least(case: &Case<'_>, done: &Done) -> Sizes {
     Sizes {
-        work: plain::work_words(job.len() / RECORD),
+        work: plain::job_words(case.axes, case.job),
         pairs: plain::PAIRS,
         out: done.store.len(),
         ids: done.ids.len(),
@@ -63,7 +62,7 @@ pub fn check(case: &Case<'_>) -> Result<(), String> {
     let Ok(done) = plain::build(case.axes, case.mode, case.job, &Sizes::PLENTY) else {
         return Ok(());
     };
-    for (lent, refusal) in around(&least(case.job, &done)) {
+    for (lent, refusal) in around(&least(case, &done)) {
         let said = plain::build(case.axes, case.mode, case.job, &lent);
         let said = said.map_err(|refused| (refused.number, refused.place));
         let expected = refusal.map_or(Ok(done.clone()), |number| Err((number, 0)));

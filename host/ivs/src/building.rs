@@ -142,15 +142,33 @@ pub struct Packed {
     pub regions: Vec<Option<u32>>,
 }
 
-/// The words of work that a job of so many records needs; 0 above the record limit.
+/// The words of work that a job of so many records needs, with so many regions at its head
+/// ([`head_regions`]); 0 above the record limit.
 ///
 /// ```
-/// assert_eq!(ivs::work_words(1), 17);
-/// assert_eq!(ivs::work_words(1_048_576), 16 * 1_048_576 + 1_048_576);
-/// assert_eq!(ivs::work_words(1_048_577), 0);
+/// assert_eq!(ivs::work_words(1, 0), 32);
+/// assert_eq!(ivs::work_words(1_048_576, 200), 16 * 1_048_576 + 1_024 * (200 + 16));
+/// assert_eq!(ivs::work_words(1_048_577, 200), 0);
 /// ```
-pub fn work_words(records: usize) -> usize {
-    raw::work_words(records)
+pub fn work_words(records: usize, regions: usize) -> usize {
+    raw::work_words(records, regions)
+}
+
+/// The regions at a job's head: the axis records that it begins with over the axis count,
+/// rounded up, at most as many as there may be; none for no axes.
+///
+/// ```
+/// let job = [[1; 12]; 5].concat(); // no sound job: the kinds alone are looked at
+/// assert_eq!(ivs::head_regions(2, &job), 3);
+/// assert_eq!(ivs::head_regions(0, &job), 0);
+/// ```
+pub fn head_regions(axes: u32, job: &[u8]) -> usize {
+    raw::head_regions(axes, job)
+}
+
+/// The words of work that a job needs.
+pub fn job_words(axes: u32, job: &[u8]) -> usize {
+    work_words(job.len() / RECORD, head_regions(axes, job))
 }
 
 /// One build in lent memory.
@@ -161,7 +179,7 @@ pub fn work_words(records: usize) -> usize {
 /// writer.set(&[(bold, 10)])?;
 /// let job = writer.finish();
 ///
-/// let mut work = vec![0; ivs::work_words(job.len() / 12)];
+/// let mut work = vec![0; ivs::job_words(1, &job)];
 /// let mut pairs = vec![ivs::Pair::default(); ivs::PAIRS];
 /// let (mut out, mut ids, mut map, mut origins) = ([0xFF; 40], [0; 1], [0; 1], [0; 2]);
 /// let mut lent = ivs::Lent {
@@ -201,7 +219,7 @@ pub fn build_into(axes: u32, mode: u32, job: &[u8], lent: &mut Lent<'_>) -> Resu
 /// writer.set(&[(odd, 10)])?;
 /// let job = writer.finish();
 ///
-/// let mut work = vec![0; ivs::work_words(job.len() / 12)];
+/// let mut work = vec![0; ivs::job_words(1, &job)];
 /// let mut pairs = vec![ivs::Pair::default(); ivs::PAIRS];
 /// let (mut out, mut ids, mut map, mut origins) = ([0xFF; 40], [0; 1], [0; 1], [0; 2]);
 /// let mut lent = ivs::Lent {
@@ -227,7 +245,7 @@ pub fn build_into_for(
 ) -> Result<Done, Refused> {
     let mut report = [0; 16];
     build_report_for(profile, axes, mode, job, lent, &mut report);
-    done(&report).map_err(|refused| refused.short_of(job, lent.work.len()))
+    done(&report).map_err(|refused| refused.short_of(axes, job, lent.work.len()))
 }
 
 /// One build in lent memory, with the report as the library fills it (include/ivs.h).
@@ -326,7 +344,7 @@ pub fn pack(axes: u32, mode: u32, job: &[u8]) -> Result<Packed, Refused> {
 /// # Ok::<(), Box<dyn std::error::Error>>(())
 /// ```
 pub fn pack_for(profile: Profile, axes: u32, mode: u32, job: &[u8]) -> Result<Packed, Refused> {
-    let mut work = vec![0; work_words(job.len() / RECORD)];
+    let mut work = vec![0; job_words(axes, job)];
     let mut pairs = vec![Pair::default(); PAIRS];
     let told = match forecast_with(axes, mode, job, &mut work, &mut pairs) {
         Ok(told) => told,
@@ -366,7 +384,7 @@ fn earlier(profile: Profile, axes: u32, mode: u32, job: &[u8], refused: Refused)
         return refused;
     }
     let mut lent = Lent {
-        work: &mut vec![0; work_words(job.len() / RECORD)],
+        work: &mut vec![0; job_words(axes, job)],
         pairs: &mut vec![Pair::default(); PAIRS],
         out: &mut [],
         ids: &mut [],

@@ -24,6 +24,7 @@ const PART: u64 = 6;
 const BUILD_PANEL: u64 = 7;
 const WRITE_WIDTHS: u64 = 20;
 const READ_WIDTH: u64 = 21;
+const HEAD_REGIONS: u64 = 30;
 
 /// The program that answers. It leaves when its standard input ends, with this process, so
 /// nobody waits for it.
@@ -33,8 +34,12 @@ struct Server {
     _child: Child,
 }
 
-pub fn work_words(records: usize) -> usize {
-    ask_alone([WORK_WORDS, records as u64, 0, 0], &[]) as usize
+pub fn work_words(records: usize, regions: usize) -> usize {
+    ask_alone([WORK_WORDS, records as u64, regions as u64, 0], &[]) as usize
+}
+
+pub fn head_regions(axes: u32, job: &[u8]) -> usize {
+    ask_alone([HEAD_REGIONS, axes.into(), 0, 0], job) as usize
 }
 
 pub fn build(

@@ -5,12 +5,10 @@ use crate::refusals::{
     REGION_TWICE, REGION_UNFINISHED, UNFINISHED, UNKNOWN_KIND, UNKNOWN_REGION,
 };
 use crate::wording;
+use crate::writer::REGIONS;
 
 /// 1.0 as a coordinate.
 const ONE: i16 = 0x4000;
-
-/// The most regions of a job.
-const REGIONS: usize = 256;
 
 impl Refused {
     /// The refusal in words, with what stands in the job at its place and what was due
@@ -75,8 +73,16 @@ impl<'a> Around<'a> {
         }
         let record = self.record(self.place)?;
         Some(match refused.number {
-            UNKNOWN_REGION => format!("region {} is named, and {}", record[1], self.regions()),
-            REGION_TWICE => format!("region {} is named, and {}", record[1], self.twice(record)?),
+            UNKNOWN_REGION => format!(
+                "region {} is named, and {}",
+                region_of(record),
+                self.regions()
+            ),
+            REGION_TWICE => format!(
+                "region {} is named, and {}",
+                region_of(record),
+                self.twice(record)?
+            ),
             UNKNOWN_KIND => format!(
                 "byte 0, the kind, is 0x{:02X} and must be 1 (axis), 2 (value) or 3 (end)",
                 record[0]
@@ -151,15 +157,16 @@ impl<'a> Around<'a> {
 
     /// Where the set of this value has named its coordinates before.
     fn twice(&self, record: &[u8]) -> Option<String> {
-        let coordinates = |region: u8| -> Option<Vec<&[u8]>> {
+        let coordinates = |region: u16| -> Option<Vec<&[u8]>> {
             let first = self.axes * usize::from(region);
             let axis = |number| Some(&self.record(number)?[4..10]);
             (first..first + self.axes).map(axis).collect()
         };
-        let (region, due) = (record[1], coordinates(record[1])?);
+        let region = region_of(record);
+        let due = coordinates(region)?;
         let set = (0..self.place).rev().map_while(|number| {
             let value = self.record(number).filter(|record| record[0] == 2)?;
-            Some((number, value[1]))
+            Some((number, region_of(value)))
         });
         let mut named = set.filter(|&(_, other)| coordinates(other).as_ref() == Some(&due));
         let (number, other) = named.next()?;
@@ -174,7 +181,7 @@ impl<'a> Around<'a> {
 /// The value that is too long for 16 bits.
 fn long(record: &[u8]) -> Option<String> {
     let value = i32::from_be_bytes(record.get(4..8)?.try_into().ok()?);
-    let region = record[1];
+    let region = region_of(record);
     Some(format!(
         "the value of region {region} is {value}, and the panel's reader takes -32768 to 32767"
     ))
@@ -200,7 +207,7 @@ fn odd(record: &[u8]) -> Option<String> {
     let part = |x: i16| f64::from(x) / f64::from(ONE);
     Some(format!(
         "region {} axis {} has start {}, peak {}, end {}: {rule}",
-        record[1],
+        region_of(record),
         record[2],
         part(start),
         part(peak),
@@ -208,17 +215,25 @@ fn odd(record: &[u8]) -> Option<String> {
     ))
 }
 
+/// The region's number of an axis or value record (J1).
+fn region_of(record: &[u8]) -> u16 {
+    u16::from_be_bytes([record[3], record[1]])
+}
+
 /// The axis record that stands here.
 fn stands(record: &[u8]) -> String {
-    format!("region {} axis {} stands here", record[1], record[2])
+    format!(
+        "region {} axis {} stands here",
+        region_of(record),
+        record[2]
+    )
 }
 
 /// Why a byte of a record is 0.
 fn nothing(record: &[u8], byte: u64) -> Option<&'static str> {
     Some(match (record[0], byte) {
-        (1, 3) => "an axis record has nothing between its axis and its start",
         (1, _) => "an axis record has nothing behind its coordinates",
-        (2, 2 | 3) => "a value record has nothing between its region and its value",
+        (2, 2) => "a value record has nothing between the two bytes of its region",
         (2, _) => "a value record has nothing behind its value",
         (3, _) => "an end record has nothing but its kind",
         _ => return None,
@@ -238,7 +253,7 @@ fn nothing(record: &[u8], byte: u64) -> Option<&'static str> {
 pub fn written_for(job: &[u8]) -> Option<usize> {
     let head = job.chunks_exact(RECORD).take_while(|record| record[0] == 1);
     let numbers: Vec<(usize, usize)> = head
-        .map(|record| (usize::from(record[1]), usize::from(record[2])))
+        .map(|record| (usize::from(region_of(record)), usize::from(record[2])))
         .collect();
     let of_first = numbers
         .iter()
@@ -257,8 +272,9 @@ mod tests {
     const END: [u8; RECORD] = [3, 0, 0, 0, 0, 0, 0, 0, 0, 0, 0, 0];
 
     /// An axis record, told apart from others by its start.
-    fn axis(region: u8, axis: u8, start: u8) -> [u8; RECORD] {
-        [1, region, axis, 0, 0, start, 0, 0, 0, 0, 0, 0]
+    fn axis(region: u16, axis: u8, start: u8) -> [u8; RECORD] {
+        let [high, low] = region.to_be_bytes();
+        [1, low, axis, high, 0, start, 0, 0, 0, 0, 0, 0]
     }
 
     fn value(region: u8) -> [u8; RECORD] {
@@ -295,8 +311,7 @@ mod tests {
             "byte 10 is 0x20 and must be 0: an axis record has nothing behind its coordinates; \
              write 0 there"
         );
-        assert!(wrong(axis(0, 0, 0), 3).contains("between its axis and its start"));
-        assert!(wrong(value(0), 2).contains("between its region and its value"));
+        assert!(wrong(value(0), 2).contains("between the two bytes of its region"));
         assert!(wrong(value(0), 8).contains("behind its value"));
         assert!(wrong(END, 1).contains("nothing but its kind"));
     }
@@ -320,10 +335,13 @@ mod tests {
             "region 1 axis 0 stands here, region 0 axis 2 was due; \
              the job looks as if written for 2 axes"
         );
-        let mut full: Vec<_> = (0..=255).map(|region| axis(region, 0, 0)).collect();
+        let regions = 0..REGIONS as u16;
+        let mut full: Vec<_> = regions.map(|region| axis(region, 0, 0)).collect();
         full.push(axis(0, 0, 0));
-        let said = "region 0 axis 0 stands here, none was due: a job has at most 256 regions; ";
-        assert!(explained(32, 256, 0, 1, &full).starts_with(said));
+        let said = format!(
+            "region 0 axis 0 stands here, none was due: a job has at most {REGIONS} regions; "
+        );
+        assert!(explained(32, REGIONS as u64, 0, 1, &full).starts_with(&said));
     }
 
     #[test]

@@ -1,8 +1,8 @@
 //! What a build would say, with nothing lent to write to.
 
-use crate::building::{done, work_words, Done, Pair, PAIRS};
+use crate::building::{done, job_words, Done, Pair, PAIRS};
 use crate::raw;
-use crate::refusals::{Refused, RECORD};
+use crate::refusals::Refused;
 
 /// The numbers that a build of this job would have, exactly: how many bytes the store takes,
 /// and how much there is to lend for it. Refused is what a build would refuse whatever is
@@ -24,7 +24,7 @@ use crate::refusals::{Refused, RECORD};
 /// # Ok::<(), Box<dyn std::error::Error>>(())
 /// ```
 pub fn forecast(axes: u32, mode: u32, job: &[u8]) -> Result<Done, Refused> {
-    let mut work = vec![0; work_words(job.len() / RECORD)];
+    let mut work = vec![0; job_words(axes, job)];
     let mut pairs = vec![Pair::default(); PAIRS];
     forecast_with(axes, mode, job, &mut work, &mut pairs)
 }
@@ -33,13 +33,13 @@ pub fn forecast(axes: u32, mode: u32, job: &[u8]) -> Result<Done, Refused> {
 ///
 /// ```
 /// let end = [3, 0, 0, 0, 0, 0, 0, 0, 0, 0, 0, 0];     // one set, which is empty
-/// let mut work = vec![7; ivs::work_words(1)];
+/// let mut work = vec![7; ivs::work_words(1, 0)];
 /// let mut pairs = vec![ivs::Pair::default(); ivs::PAIRS];
 /// let told = ivs::forecast_with(1, 0, &end, &mut work, &mut pairs)?;
 /// assert_eq!((told.store_bytes, told.distinct_ids, told.shapes), (22, 1, 1));
 /// assert!(work.iter().all(|&word| word == 0));
 /// let refused = ivs::forecast_with(1, 0, &end, &mut work[1..], &mut pairs).unwrap_err();
-/// assert_eq!((refused.number, refused.short), (4, Some(ivs::Short::Work(17))));
+/// assert_eq!((refused.number, refused.short), (4, Some(ivs::Short::Work(32))));
 /// # Ok::<(), ivs::Refused>(())
 /// ```
 pub fn forecast_with(
@@ -51,7 +51,7 @@ pub fn forecast_with(
 ) -> Result<Done, Refused> {
     let mut report = [0; 16];
     forecast_report(axes, mode, job, work, pairs, &mut report);
-    done(&report).map_err(|refused| refused.short_of(job, work.len()))
+    done(&report).map_err(|refused| refused.short_of(axes, job, work.len()))
 }
 
 /// [`forecast_with`], with the report as the library fills it (include/ivs.h). The answer is

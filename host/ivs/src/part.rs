@@ -1,8 +1,8 @@
 //! Where two sets of a job part.
 
-use crate::building::work_words;
+use crate::building::job_words;
 use crate::raw;
-use crate::refusals::{Refused, RECORD};
+use crate::refusals::Refused;
 
 /// How the first of two sets stands to the second, in the order of rows: by their values,
 /// region after region.
@@ -70,7 +70,7 @@ pub struct Parting {
 /// # Ok::<(), ivs::JobError>(())
 /// ```
 pub fn part(axes: u32, job: &[u8], first: u32, second: u32) -> Result<Parted, Refused> {
-    let mut work = vec![0; work_words(job.len() / RECORD)];
+    let mut work = vec![0; job_words(axes, job)];
     part_with(axes, job, first, second, &mut work)
 }
 
@@ -78,11 +78,11 @@ pub fn part(axes: u32, job: &[u8], first: u32, second: u32) -> Result<Parted, Re
 ///
 /// ```
 /// let ends = [[3, 0, 0, 0, 0, 0, 0, 0, 0, 0, 0, 0]; 2].concat(); // two sets, both empty
-/// let mut work = vec![7; ivs::work_words(2)];
+/// let mut work = vec![7; ivs::work_words(2, 0)];
 /// assert_eq!(ivs::part_with(1, &ends, 0, 1, &mut work), Ok(ivs::Parted::Equal));
 /// assert!(work.iter().all(|&word| word == 0));
 /// let refused = ivs::part_with(1, &ends, 0, 1, &mut work[1..]).unwrap_err();
-/// assert_eq!((refused.number, refused.short), (4, Some(ivs::Short::Work(36))));
+/// assert_eq!((refused.number, refused.short), (4, Some(ivs::Short::Work(64))));
 /// ```
 pub fn part_with(
     axes: u32,
@@ -93,7 +93,7 @@ pub fn part_with(
 ) -> Result<Parted, Refused> {
     let mut report = [0; 16];
     if part_report(axes, job, first, second, work, &mut report) != 0 {
-        return Err(Refused::of(&report).short_of(job, work.len()));
+        return Err(Refused::of(&report).short_of(axes, job, work.len()));
     }
     // The values are two's complement of 64 bits, of numbers that 32 hold.
     let parting = Parting {

@@ -17,7 +17,9 @@ const _: () = assert!(size_of::<Pair>() == 12, "a pair record is three words");
 
 extern "C" {
     // crates/ivs/src/lib.rt; a slice is a pointer and a length.
-    fn ivs_work_words(records: usize) -> usize;
+    fn ivs_work_words(records: usize, regions: usize) -> usize;
+
+    fn ivs_head_regions(axes: u32, job: *const u8, job_len: usize) -> usize;
 
     fn ivs_build(
         axes: u32,
@@ -104,9 +106,14 @@ extern "C" {
     fn ivs_read_width(table: *const u8, table_len: usize, glyph: u32, region: u32) -> u64;
 }
 
-pub fn work_words(records: usize) -> usize {
-    // SAFETY: a number goes in and a number comes out; the contract asks for nothing.
-    unsafe { ivs_work_words(records) }
+pub fn work_words(records: usize, regions: usize) -> usize {
+    // SAFETY: numbers go in and a number comes out; the contract asks for nothing.
+    unsafe { ivs_work_words(records, regions) }
+}
+
+pub fn head_regions(axes: u32, job: &[u8]) -> usize {
+    // SAFETY: the slice is only read.
+    unsafe { ivs_head_regions(axes, job.as_ptr(), job.len()) }
 }
 
 type Build = unsafe extern "C" fn(

@@ -1,7 +1,7 @@
 //! Refusals: the numbers of an answer, and in words as far as these go.
 //! [`Refused::explain`] says more, with the job at hand.
 
-use crate::building::{work_words, PAIRS};
+use crate::building::{job_words, PAIRS};
 use crate::wording;
 use std::error::Error;
 use std::fmt;
@@ -71,7 +71,7 @@ pub struct Refused {
 /// ```
 /// let end = [3, 0, 0, 0, 0, 0, 0, 0, 0, 0, 0, 0];     // one set, which is empty
 /// let refused = ivs::forecast_with(1, 0, &end, &mut [], &mut []).unwrap_err();
-/// assert_eq!(refused.short, Some(ivs::Short::Work(17)));
+/// assert_eq!(refused.short, Some(ivs::Short::Work(32)));
 /// ```
 #[derive(Clone, Copy, Debug, PartialEq, Eq)]
 pub enum Short {
@@ -107,8 +107,8 @@ impl Refused {
 
     /// With what was short of a call that was lent so many words of work for a job: the words
     /// are tested before the pair records.
-    pub(crate) fn short_of(self, job: &[u8], work: usize) -> Refused {
-        let words = work_words(job.len() / RECORD);
+    pub(crate) fn short_of(self, axes: u32, job: &[u8], work: usize) -> Refused {
+        let words = job_words(axes, job);
         let short = if work < words {
             Short::Work(words)
         } else {

@@ -16,7 +16,8 @@ typedef struct {
     u32 gain, first, second;
 } pair;
 
-u64 ivs_work_words(u64 records);
+u64 ivs_work_words(u64 records, u64 regions);
+u64 ivs_head_regions(u32 axes, const u8 *job, u64 job_len);
 u32 ivs_build(u32 axes, u32 mode, const u8 *job, u64 job_len, u32 *work, u64 work_len, pair *pairs, u64 pairs_len,
               u8 *out, u64 out_len, u32 *ids, u64 ids_len, u32 *map, u64 map_len, u32 *log, u64 log_len, u32 *origins,
               u64 origins_len, u64 *report);
@@ -101,7 +102,7 @@ static int holds(const u8 *at, u64 count) {
 #define PAIRS_ROOM (1ul << 25)
 
 /* What is asked. */
-enum { WORK_WORDS, BUILD, READ, WRITE_GLYPHS, READ_GLYPH, FORECAST, PART, BUILD_PANEL, WRITE_WIDTHS = 20, READ_WIDTH };
+enum { WORK_WORDS, BUILD, READ, WRITE_GLYPHS, READ_GLYPH, FORECAST, PART, BUILD_PANEL, WRITE_WIDTHS = 20, READ_WIDTH, HEAD_REGIONS = 30 };
 
 /* The parts of a question, with the bytes of one of each. */
 enum { JOB, WORK, PAIRS, OUT, IDS, MAP, LOG, ORIGINS, REPORT, PARTS };
@@ -155,7 +156,8 @@ static u64 part(const u64 *asked, const u64 *count, u8 **at) {
 
 static u64 answered(const u64 *asked, const u64 *count, u8 **at) {
     switch (asked[0]) {
-    case WORK_WORDS: return ivs_work_words(asked[1]);
+    case WORK_WORDS: return ivs_work_words(asked[1], asked[2]);
+    case HEAD_REGIONS: return ivs_head_regions((u32)asked[1], at[JOB], count[JOB]);
     case BUILD: return build(asked, count, at);
     case BUILD_PANEL: return build_panel(asked, count, at);
     case FORECAST: return forecast(asked, count, at);

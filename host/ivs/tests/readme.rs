@@ -47,11 +47,13 @@ fn from_c() {
 fn lent() {
     let (readme, header) = (file("README.md"), file("include/ivs.h"));
     assert!(header.contains(&format!("#define IVS_PAIRS {}\n", ivs::PAIRS)));
-    assert!(header.contains("16 r + min(r, 1,024)^2"));
-    assert!(readme.contains("16 r + min(r, 1,024)² words"));
+    assert!(header.contains("16 r + min(r, 1,024) x (g + 16)"));
+    assert!(readme.contains("16 r + min(r, 1,024) x (g + 16) words"));
     for records in [0_usize, 1, 57, 1_023, 1_024, 1_025, 1_048_576] {
-        let words = 16 * records + records.min(1_024).pow(2);
-        assert_eq!(ivs::work_words(records), words);
+        for regions in [0, 1, 255, 256] {
+            let words = 16 * records + records.min(1_024) * (regions + 16);
+            assert_eq!(ivs::work_words(records, regions), words);
+        }
     }
 }
 

@@ -150,8 +150,10 @@ fn the_same_both_ways() {
     let (mut done, mut refused) = (0, 0);
     for (number, (axes, job)) in jobs().iter().enumerate() {
         let (axes, mode) = (*axes, rng.below(2) as u32);
-        let records = job.len() / 12;
-        assert_eq!(emulated::work_words(records), ivs::work_words(records));
+        let (records, regions) = (job.len() / 12, ivs::head_regions(axes, job));
+        assert_eq!(emulated::head_regions(axes, job), regions);
+        let words = ivs::work_words(records, regions);
+        assert_eq!(emulated::work_words(records, regions), words);
         let memory = Memory::of(rng, axes, mode, job);
         for profile in [Profile::Panel, Profile::Plain] {
             let answer = memory.both(

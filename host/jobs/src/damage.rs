@@ -1,6 +1,7 @@
 //! Damage: small changes that a job file can suffer on its way. The result may
 //! still be a sound job.
 
+use crate::job::axis_record;
 use crate::{Rng, RECORD};
 
 /// The kinds of damage.
@@ -104,9 +105,10 @@ pub fn of_kind(kind: Damage, rng: &mut Rng, job: &[u8]) -> Vec<u8> {
         }
         Damage::AxisLate if 0 < axes && axes < records => {
             // Of a job that is whole, the next is the first axis of a region.
-            let region = job[RECORD * (axes - 1) + 1].wrapping_add(1);
+            let last = &job[RECORD * (axes - 1)..];
+            let region = u16::from_be_bytes([last[3], last[1]]).wrapping_add(1);
             let at = RECORD * rng.between(axes + 1, records);
-            bytes.splice(at..at, [1, region, 0, 0, 0, 0, 0, 0, 0, 0, 0, 0]);
+            bytes.splice(at..at, axis_record(region, 0, [0; 3]));
         }
         Damage::AxisDropped if axes > 0 => {
             bytes.drain(RECORD * (axes - 1)..RECORD * axes);
@@ -135,8 +137,8 @@ fn kind_unknown(rng: &mut Rng, record: &mut [u8]) {
 /// A byte of the record that must be 0 is not.
 fn zero_set(rng: &mut Rng, record: &mut [u8]) {
     let byte = match record[0] {
-        1 => rng.pick(&[3, 10, 11]),
-        2 => rng.pick(&[2, 3, 8, 9, 10, 11]),
+        1 => rng.pick(&[10, 11]),
+        2 => rng.pick(&[2, 8, 9, 10, 11]),
         _ => rng.between(1, 11),
     };
     record[byte] |= 1 << rng.below(8);

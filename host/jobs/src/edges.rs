@@ -27,7 +27,7 @@ pub fn merged(count: usize) -> Job {
 pub fn behind(count: usize) -> Job {
     let mut job = Job::one_axis(2);
     let sets =
-        |region: u8, count: usize| (0..count).map(move |n| vec![(region, 70_000 + n as i32)]);
+        |region: u16, count: usize| (0..count).map(move |n| vec![(region, 70_000 + n as i32)]);
     job.sets = sets(0, count).chain(sets(1, 40)).collect();
     job
 }
@@ -49,7 +49,7 @@ pub fn made(maker: &str, count: usize) -> Option<Job> {
 pub fn shapes(count: usize) -> Job {
     const OF_WIDTH: [i32; 4] = [0, 1, 1_000, 100_000];
     let mut job = Job::one_axis(6);
-    let value = |n: usize, r: u32| (r as u8, OF_WIDTH[n / 4usize.pow(r) % 4]);
+    let value = |n: usize, r: u32| (r as u16, OF_WIDTH[n / 4usize.pow(r) % 4]);
     job.sets = (0..count)
         .map(|n| (0..6).map(|r| value(n, r)).collect())
         .collect();
@@ -60,7 +60,7 @@ pub fn shapes(count: usize) -> Job {
 /// n-th without region n mod 256.
 pub fn most_records() -> Job {
     let mut job = Job::one_axis(256);
-    let value = |n: usize, r: usize| (r as u8, (n * 7 + r * 11) as i32 % 100 + 1);
+    let value = |n: usize, r: usize| (r as u16, (n * 7 + r * 11) as i32 % 100 + 1);
     let set = |n: usize| {
         (0..256)
             .filter(move |r| *r != n % 256)

@@ -157,28 +157,28 @@ fn coordinates(rng: &mut Rng) -> [i16; 3] {
 }
 
 /// The regions that a set names, and the kind of each value.
-type Pattern = Vec<(u8, Value)>;
+type Pattern = Vec<(u16, Value)>;
 
 fn pattern(rng: &mut Rng, recipe: &Recipe, regions: &[Region]) -> Pattern {
     let mut pattern = Pattern::new();
     for (number, region) in regions.iter().enumerate() {
         let named = pattern.iter().any(|p| regions[p.0 as usize] == *region);
         if !named && rng.one_in(recipe.spread) {
-            pattern.push((number as u8, rng.pick(recipe.values)));
+            pattern.push((number as u16, rng.pick(recipe.values)));
         }
     }
     rng.shuffle(&mut pattern);
     pattern
 }
 
-fn sets(rng: &mut Rng, recipe: &Recipe, regions: &[Region]) -> Vec<Vec<(u8, i32)>> {
+fn sets(rng: &mut Rng, recipe: &Recipe, regions: &[Region]) -> Vec<Vec<(u16, i32)>> {
     let count = rng.between(recipe.sets.0, recipe.sets.1);
     let patterns: Vec<Pattern> = (0..recipe.patterns)
         .map(|_| pattern(rng, recipe, regions))
         .collect();
-    let mut sets: Vec<Vec<(u8, i32)>> = Vec::new();
+    let mut sets: Vec<Vec<(u16, i32)>> = Vec::new();
     for _ in 0..count {
-        let mut set: Vec<(u8, i32)>;
+        let mut set: Vec<(u16, i32)>;
         if !sets.is_empty() && recipe.again > 0 && rng.one_in(recipe.again) {
             set = sets[rng.below(sets.len())].clone();
             rng.shuffle(&mut set);

@@ -30,6 +30,9 @@ use groups::Group;
 /// The most records of a job (J3).
 pub const RECORD_LIMIT: usize = 1_048_576;
 
+/// The most regions of a job (J3).
+pub const REGION_LIMIT: usize = 256;
+
 /// The pair records that every job needs (J7).
 pub const PAIRS: usize = 1_048_576;
 
@@ -108,14 +111,29 @@ pub struct Done {
     pub origins: Vec<u32>,
 }
 
-/// The published number of work words for a job of `records` records (J7); 0 above
-/// the record limit (H1).
-pub fn work_words(records: usize) -> usize {
+/// The published number of work words for a job of `records` records with `regions`
+/// regions at its head (J7); 0 above the record limit (H1).
+pub fn work_words(records: usize, regions: usize) -> usize {
     if records > RECORD_LIMIT {
         return 0;
     }
-    let square = records.min(1_024);
-    16 * records + square * square
+    16 * records + records.min(1_024) * (regions.min(REGION_LIMIT) + 16)
+}
+
+/// The regions at a job's head: the axis records that it begins with over the axis count,
+/// rounded up, at most as many as there may be (J7).
+pub fn head_regions(axes: u32, job: &[u8]) -> usize {
+    let axis = |record: &&[u8]| record[0] == 1;
+    let run = job.chunks_exact(records::RECORD).take_while(axis).count();
+    match axes {
+        0 => 0,
+        axes => run.div_ceil(axes as usize).min(REGION_LIMIT),
+    }
+}
+
+/// The published number of a job.
+pub fn job_words(axes: u32, job: &[u8]) -> usize {
+    work_words(job.len() / records::RECORD, head_regions(axes, job))
 }
 
 /// For which reader a store is built.
@@ -211,7 +229,7 @@ fn early(axes: u32, mode: u32, job: &[u8], work: usize, pairs: usize) -> Result<
     if job.len() % records::RECORD != 0 || records > RECORD_LIMIT {
         return Err(Refused::at(number::BAD_JOB_LENGTH, 0));
     }
-    if work < work_words(records) || pairs < PAIRS {
+    if work < job_words(axes, job) || pairs < PAIRS {
         return Err(Refused::at(number::WORK_SHORT, 0));
     }
     Ok(())

@@ -3,7 +3,7 @@ use native.Mathlib.Omega.{arith}
 use denote.Ref.{now}
 use lib.ListN.{length}
 use Rattle.reader.proofs.StoreLaws.{header-fits}
-use Rattle.recoverer.proofs.Steps.{header-of, head-of, refused-answer, refused-left, late-bounds, late-long, late-short, late-fine, job-room, job-bounds, done-answer, done-left}
+use Rattle.recoverer.proofs.Steps.{header-of, head-of, refused-answer, refused-left, late-bounds, late-long, late-short, late-fine, job-room, job-axes, done-answer, done-left}
 use Rattle.recoverer.proofs.finish.Statement.{statement}
 use Rattle.recoverer.proofs.finish.Tie as tie
 use Rattle.recoverer.proofs.finish.Reads as reads
@@ -55,8 +55,8 @@ returns-3 c =
 write-job-requires : tie.Need-write-job-requires
 write-job-requires c κs =
     let h = head-of _ _ _ _ (c .before .before .before .before .before .before .before .before .before .before .be .ensures .is) (c .before .before .before .before .before .before .before .before .before .be2 .ensures .is) (c .before .before .before .before .before .before .before .before .be3 .ensures .is) in
-    let jb = job-bounds _ _ _ _ h (length (now (c .before .before .before .before .before .before .before .before .before .before .before .before .before .args .out))) _ (c .before .before .before .before .before .before .before .bounds-no .ensures) (omega arith) _ _ (c .before .before .before .before .before .tally .ensures) (omega arith) in
-    ((c .before .before .before .before .before .before .before .before .before .before .before .before .before .pre, jb .0, jb .1), job-room _ _ _ _ h _ _ (c .before .before .before .before .before .before .before .bounds-no .ensures) (omega arith) _ _ (c .before .before .before .before .before .tally .ensures) (omega arith) (omega arith))
+    let few = job-axes _ _ _ _ h (length (now (c .before .before .before .before .before .before .before .before .before .before .before .before .before .args .out))) _ (c .before .before .before .before .before .before .before .bounds-no .ensures) (omega arith) _ _ (c .before .before .before .before .before .tally .ensures) (omega arith) in
+    ((c .before .before .before .before .before .before .before .before .before .before .before .before .before .pre, few), job-room _ _ _ _ h _ _ (c .before .before .before .before .before .before .before .bounds-no .ensures) (omega arith) _ _ (c .before .before .before .before .before .tally .ensures) (omega arith) (omega arith))
 
 mul-t8 : tie.Need-mul-t8
 mul-t8 c = omega arith

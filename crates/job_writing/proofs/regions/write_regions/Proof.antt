@@ -7,7 +7,7 @@ use Rattle.rows.proofs.PutLaws.{Putting}
 use Rattle.stores.specs.Stores.{storeAt}
 use Rattle.recovering.specs.Recovering.{regionsFrom}
 use Rattle.job_writing.proofs.PieceLaws.{piece-put, piece-done, from-zero}
-use Rattle.job_writing.proofs.RegionLaws.{regionsLeft, Region, region-start, region-in, region-next, regions-step, regions-room, regions-end, head-of, head-inside, regions-put, axes-low, count-low}
+use Rattle.job_writing.proofs.RegionLaws.{regionsLeft, Region, region-start, region-in, region-next, regions-step, regions-room, regions-end, head-of, head-inside, regions-put, axes-low}
 use Rattle.job_writing.proofs.regions.write_regions.Statement.{statement}
 use Rattle.job_writing.proofs.regions.write_regions.Tie as tie
 use Rattle.job_writing.proofs.regions.write_regions.Reads as reads
@@ -48,7 +48,7 @@ write-axes-requires c κs =
     let ok = c .before .before .before .before .before .before .before .before .pre .0 .0 in
     let i = c .before .before .loop .inv in
     let t = c .before .loop-test .taken in
-    let few = count-low _ ok _ _ _ h (c .before .before .before .before .before .before .before .before .pre .0 .2) in (
+    let few = c .before .before .before .be3 .ensures .below in (
       (omega arith, axes-low _ ok _ _ _ h (c .before .before .before .before .before .before .before .before .pre .0 .1), region-in (now (c .before .before .before .before .before .before .before .before .args .s)) _ _ _ (head-inside _ ok _ _ _ h) _ _ (i .0) t),
       regions-room _ _ _ _ (head-inside _ ok _ _ _ h) _ _ (i .0) t (from-zero (c .before .before .before .before .before .before .before .before .pre .1)) (i .1),
     )

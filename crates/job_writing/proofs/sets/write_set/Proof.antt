@@ -7,7 +7,7 @@ use Rattle.recovering.specs.Recovering.{setBytes}
 use Rattle.tallying.specs.LentTally.{entriesIn}
 use Rattle.tallying.proofs.RowLaws.{leftFrom, cell-in, row-inside}
 use Rattle.job_writing.proofs.PieceLaws.{piece-put, piece-last, last-room, done-long}
-use Rattle.job_writing.proofs.SetLaws.{set-put, set-zero, set-more, set-room, set-end, low-here}
+use Rattle.job_writing.proofs.SetLaws.{set-put, set-zero, set-more, set-room, set-end}
 use Rattle.job_writing.proofs.sets.write_set.Statement.{statement}
 use Rattle.job_writing.proofs.sets.write_set.Tie as tie
 use Rattle.job_writing.proofs.sets.write_set.Reads as reads
@@ -26,34 +26,34 @@ abbrev μ-loop : tie.MeasureT-loop
 μ-loop out₀ at s table row word n p₀ j₀ out p j = n - j
 
 add-be : tie.Need-add-be Inv-loop μ-loop
-add-be c = omega (arith, c .before .before .pre .0 .0 .head)
+add-be c = omega (arith, c .before .before .pre .0 .head)
 
 be-requires : tie.Need-be-requires Inv-loop μ-loop
-be-requires c κs = (omega arith, omega (arith, c .before .before .pre .0 .0 .head))
+be-requires c κs = (omega arith, omega (arith, c .before .before .pre .0 .head))
 
 add-be-2 : tie.Need-add-be-2 Inv-loop μ-loop
-add-be-2 c = omega (arith, c .before .before .before .pre .0 .0 .head)
+add-be-2 c = omega (arith, c .before .before .before .pre .0 .head)
 
 be-requires-2 : tie.Need-be-requires-2 Inv-loop μ-loop
-be-requires-2 c κs = (omega arith, omega (arith, c .before .before .before .pre .0 .0 .head))
+be-requires-2 c κs = (omega arith, omega (arith, c .before .before .before .pre .0 .head))
 
 loop-holds : tie.Need-loop-holds Inv-loop μ-loop
-loop-holds c = set-put _ _ _ (c .before .before .before .before .pre .0 .0) _ _ (c .before .be .ensures .is) (c .be2 .ensures .is) _ _
+loop-holds c = set-put _ _ _ (c .before .before .before .before .pre .0) _ _ (c .before .be .ensures .is) (c .be2 .ensures .is) _ _
 
 cell-requires : tie.Need-cell-requires Inv-loop μ-loop
-cell-requires c κs = ((omega arith, omega arith), cell-in _ _ _ _ _ (row-inside _ _ _ (c .before .before .before .before .before .before .pre .0 .0) _ _ (c .before .before .before .be .ensures .is) (c .before .before .be2 .ensures .is)) (omega arith))
+cell-requires c κs = ((omega arith, omega arith), cell-in _ _ _ _ _ (row-inside _ _ _ (c .before .before .before .before .before .before .pre .0) _ _ (c .before .before .before .be .ensures .is) (c .before .before .be2 .ensures .is)) (omega arith))
 
 add-be-3 : tie.Need-add-be-3 Inv-loop μ-loop
-add-be-3 c = omega (arith, c .before .before .before .before .before .before .before .before .pre .0 .0 .head, c .before .before .before .before .be2 .ensures .is)
+add-be-3 c = omega (arith, c .before .before .before .before .before .before .before .before .pre .0 .head, c .before .before .before .before .be2 .ensures .is)
 
 mul-be : tie.Need-mul-be Inv-loop μ-loop
-mul-be c = omega (arith, c .before .before .before .before .before .before .before .before .pre .0 .0 .head, c .before .before .before .before .be2 .ensures .is)
+mul-be c = omega (arith, c .before .before .before .before .before .before .before .before .pre .0 .head, c .before .before .before .before .be2 .ensures .is)
 
 add-be-4 : tie.Need-add-be-4 Inv-loop μ-loop
-add-be-4 c = omega (arith, c .before .before .before .before .before .before .before .before .pre .0 .0 .head, c .before .before .before .before .be2 .ensures .is)
+add-be-4 c = omega (arith, c .before .before .before .before .before .before .before .before .pre .0 .head, c .before .before .before .before .be2 .ensures .is)
 
 be-requires-3 : tie.Need-be-requires-3 Inv-loop μ-loop
-be-requires-3 c κs = (omega arith, omega (arith, c .before .before .before .before .before .before .before .before .pre .0 .0 .head, c .before .before .before .before .be2 .ensures .is))
+be-requires-3 c κs = (omega arith, omega (arith, c .before .before .before .before .before .before .before .before .pre .0 .head, c .before .before .before .before .be2 .ensures .is))
 
 column-bytes-requires : tie.Need-column-bytes-requires Inv-loop μ-loop
 column-bytes-requires c κs = search needs
@@ -65,7 +65,7 @@ put-value-requires : tie.Need-put-value-requires Inv-loop μ-loop
 put-value-requires c κs =
     let a = c .before .before .before .before .before .before .before .before .before .before .before .before .args in (
       set-room (now (a .s)) (a .row) (c .before .before .before .before .before .before .before .before .before .be .result) (c .before .before .before .before .before .before .before .before .be2 .result) (a .table + 6) (c .before .before .before .before .before .before .before .loop .j) (c .before .before .before .before .before .cell .result) (c .before .before .before .before .before .before .loop-test .taken) (c .before .before .before .before .before .cell .ensures .is) (c .before .before .before .before .before .before .before .before .before .before .before .before .pre .1) (c .before .before .before .before .before .before .before .loop .inv) (λ e. omega arith),
-      low-here _ _ _ _ _ (c .before .before .before .before .before .before .before .before .before .before .before .before .pre .0 .1) (c .before .before .before .before .before .before .before .before .be2 .ensures .is) (c .before .before .before .before .before .before .loop-test .taken) (c .before .before .before .be3 .ensures .is),
+      c .before .before .before .be3 .ensures .below,
     )
 
 add-p : tie.Need-add-p Inv-loop μ-loop

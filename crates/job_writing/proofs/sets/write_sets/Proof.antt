@@ -7,7 +7,7 @@ use Rattle.stores.specs.Stores.{storeAt}
 use Rattle.recovering.specs.Recovering.{rowsOf, setsBytes}
 use Rattle.tallying.proofs.TallyLaws.{head-there, offset-in, slot-there}
 use Rattle.job_writing.proofs.PieceLaws.{piece-put, piece-done}
-use Rattle.job_writing.proofs.SetLaws.{slotsLeft, slots-put, slots-step, slots-room, slots-end, low-slot}
+use Rattle.job_writing.proofs.SetLaws.{slotsLeft, slots-put, slots-step, slots-room, slots-end}
 use Rattle.job_writing.proofs.sets.write_sets.Statement.{statement}
 use Rattle.job_writing.proofs.sets.write_sets.Tie as tie
 use Rattle.job_writing.proofs.sets.write_sets.Reads as reads
@@ -22,25 +22,25 @@ abbrev μ-loop : tie.MeasureT-loop
 μ-loop out₀ at s n p₀ o₀ out p o = n - o
 
 be-requires : tie.Need-be-requires Inv-loop μ-loop
-be-requires c κs = (omega arith, omega (arith, head-there _ (c .before .before .pre .0 .0)))
+be-requires c κs = (omega arith, omega (arith, head-there _ (c .before .before .pre .0)))
 
 loop-holds : tie.Need-loop-holds Inv-loop μ-loop
 loop-holds c = slots-put _ _ (c .be .ensures .is) _ _
 
 mul-be : tie.Need-mul-be Inv-loop μ-loop
-mul-be c = omega (arith, offset-in _ (c .before .before .before .before .before .before .pre .0 .0) _ _ (c .before .before .before .be .ensures .is) (c .before .loop-test .taken))
+mul-be c = omega (arith, offset-in _ (c .before .before .before .before .before .before .pre .0) _ _ (c .before .before .before .be .ensures .is) (c .before .loop-test .taken))
 
 add-be : tie.Need-add-be Inv-loop μ-loop
-add-be c = omega (arith, offset-in _ (c .before .before .before .before .before .before .pre .0 .0) _ _ (c .before .before .before .be .ensures .is) (c .before .loop-test .taken))
+add-be c = omega (arith, offset-in _ (c .before .before .before .before .before .before .pre .0) _ _ (c .before .before .before .be .ensures .is) (c .before .loop-test .taken))
 
 be-requires-2 : tie.Need-be-requires-2 Inv-loop μ-loop
-be-requires-2 c κs = (omega arith, omega (arith, offset-in _ (c .before .before .before .before .before .before .pre .0 .0) _ _ (c .before .before .before .be .ensures .is) (c .before .loop-test .taken)))
+be-requires-2 c κs = (omega arith, omega (arith, offset-in _ (c .before .before .before .before .before .before .pre .0) _ _ (c .before .before .before .be .ensures .is) (c .before .loop-test .taken)))
 
 write-slot-requires : tie.Need-write-slot-requires Inv-loop μ-loop
 write-slot-requires c κs =
-    let ok = c .before .before .before .before .before .before .before .pre .0 .0 in
+    let ok = c .before .before .before .before .before .before .before .pre .0 in
     let t = c .before .before .loop-test .taken in (
-      (slot-there _ ok _ _ _ (c .before .before .before .before .be .ensures .is) t (c .be2 .ensures .is), low-slot _ ok (c .before .before .before .before .before .before .before .pre .0 .1) _ _ _ (c .before .before .before .before .be .ensures .is) t (c .be2 .ensures .is)),
+      slot-there _ ok _ _ _ (c .before .before .before .before .be .ensures .is) t (c .be2 .ensures .is),
       slots-room _ _ _ _ t (c .be2 .ensures .is) (c .before .before .before .before .before .before .before .pre .1) (c .before .before .before .loop .inv),
     )
 

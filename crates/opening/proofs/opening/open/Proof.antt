@@ -30,7 +30,7 @@ open-records-requires : tie.Need-open-records-requires
 open-records-requires c κs =
     let o = c .before .before .before .before .early-no .ensures .1 (c .before .before .before .if1 .left) in
     let r = c .before .records-in .ensures in
-    (r, (omega (arith, o .whole), omega (arith, o .some, c .before .before .wide .ensures), omega (arith, o .most, c .before .before .wide .ensures), omega (arith, o .few), rw r (o .enough)))
+    (r, (omega (arith, o .whole), omega (arith, o .some, c .before .before .wide .ensures), omega (arith, o .most, c .before .before .wide .ensures), omega (arith, o .few), rw (r, c .before .before .wide .ensures) (o .enough)))
 
 same-length : tie.Need-same-length
 same-length c = search needs

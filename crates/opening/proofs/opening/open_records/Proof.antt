@@ -15,7 +15,7 @@ use Rattle.encoder.proofs.gather.Reads as gather-reads
 use Rattle.opening.proofs.taking.take_job.Reads as take-job-reads
 
 take-job-requires : tie.Need-take-job-requires
-take-job-requires c κs = let q = c .before .before .before .pre in (q .0, omega (arith, work-enough _ _ (q .1 .4)))
+take-job-requires c κs = let q = c .before .before .before .pre in (q .0, omega (arith, work-enough _ _ _ (q .1 .4)))
 
 refuse-requires : tie.Need-refuse-requires
 refuse-requires c κs = search needs

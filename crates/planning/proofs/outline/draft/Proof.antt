@@ -23,7 +23,7 @@ use Rattle.planning.proofs.size.size_groups.Reads as size-groups-reads
 few : (c : tie.After-size-groups) → c .before .before .before .number .result ≤ maxRegions
 few c = omega (arith, c .before .before .before .number .ensures .all, kept-most (markedIn (c .before .before .before .before .before .before .before .before .mark-groups .last .1 .1 .0)) (c .before .before .before .before .before .before .before .before .before .before .before .before .before .before .before .before .before .args .t .regions), c .before .before .before .before .before .before .before .before .before .before .before .before .before .before .before .before .before .pre .1 .0)
 
-bytes : (c : tie.After-size-groups) → 6 * c .before .before .before .before .before .before .before .before .before .before .before .before .before .before .before .before .before .args .axes * c .before .before .before .number .result ≤ 98304
+bytes : (c : tie.After-size-groups) → 6 * c .before .before .before .before .before .before .before .before .before .before .before .before .before .before .before .before .before .args .axes * c .before .before .before .number .result ≤ 6 * mostAxes * maxRegions
 bytes c = product (6 * mostAxes) maxRegions {a = 6 * c .before .before .before .before .before .before .before .before .before .before .before .before .before .before .before .before .before .args .axes} {b = c .before .before .before .number .result} (omega (arith, c .before .before .before .before .before .before .before .before .before .before .before .before .before .before .before .before .before .pre .0)) (few c)
 
 clear-places-requires : tie.Need-clear-places-requires

@@ -19,7 +19,7 @@ word-requires-2 : tie.Need-word-requires-2
 word-requires-2 c κs = search needs
 
 add-result : tie.Need-add-result
-add-result c = let g = c .before .before .before .before .shared-slice-known .given in omega (arith, g 2, g 3, g 8, g 9, g 10, g 11)
+add-result c = let g = c .before .before .before .before .shared-slice-known .given in omega (arith, g 2, g 8, g 9, g 10, g 11)
 
 shared-slice-read-word-3 : tie.Need-shared-slice-read-word-3
 shared-slice-read-word-3 c = search needs
@@ -28,7 +28,7 @@ word-requires-3 : tie.Need-word-requires-3
 word-requires-3 c κs = search needs
 
 add-result-2 : tie.Need-add-result-2
-add-result-2 c = let g = c .before .before .before .before .before .before .shared-slice-known .given in omega (arith, g 2, g 3, g 8, g 9, g 10, g 11)
+add-result-2 c = let g = c .before .before .before .before .before .before .shared-slice-known .given in omega (arith, g 2, g 8, g 9, g 10, g 11)
 
 shared-slice-read-word-4 : tie.Need-shared-slice-read-word-4
 shared-slice-read-word-4 c = search needs
@@ -37,7 +37,7 @@ word-requires-4 : tie.Need-word-requires-4
 word-requires-4 c κs = search needs
 
 add-result-3 : tie.Need-add-result-3
-add-result-3 c = let g = c .before .before .before .before .before .before .before .before .shared-slice-known .given in omega (arith, g 2, g 3, g 8, g 9, g 10, g 11)
+add-result-3 c = let g = c .before .before .before .before .before .before .before .before .shared-slice-known .given in omega (arith, g 2, g 8, g 9, g 10, g 11)
 
 shared-slice-read-word-5 : tie.Need-shared-slice-read-word-5
 shared-slice-read-word-5 c = search needs
@@ -46,16 +46,7 @@ word-requires-5 : tie.Need-word-requires-5
 word-requires-5 c κs = search needs
 
 add-result-4 : tie.Need-add-result-4
-add-result-4 c = let g = c .before .before .before .before .before .before .before .before .before .before .shared-slice-known .given in omega (arith, g 2, g 3, g 8, g 9, g 10, g 11)
-
-shared-slice-read-word-6 : tie.Need-shared-slice-read-word-6
-shared-slice-read-word-6 c = search needs
-
-word-requires-6 : tie.Need-word-requires-6
-word-requires-6 c κs = search needs
-
-add-result-5 : tie.Need-add-result-5
-add-result-5 c = let g = c .before .before .before .before .before .before .before .before .before .before .before .before .shared-slice-known .given in omega (arith, g 2, g 3, g 8, g 9, g 10, g 11)
+add-result-4 c = let g = c .before .before .before .before .before .before .before .before .before .before .shared-slice-known .given in omega (arith, g 2, g 8, g 9, g 10, g 11)
 
 returns : tie.Need-returns
 returns c = search needs
@@ -78,7 +69,4 @@ value-rest-spec =
     shared-slice-read-word-5
     word-requires-5
     add-result-4
-    shared-slice-read-word-6
-    word-requires-6
-    add-result-5
     returns)

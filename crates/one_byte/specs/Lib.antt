@@ -1,0 +1,2 @@
+pub mod OneByte
+pub mod Together
