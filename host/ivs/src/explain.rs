@@ -1,5 +1,6 @@
 //! A refusal explained with the job at hand: what stands at its place, and what was due.
 
+use crate::limits::REGIONS;
 use crate::refusals::{
     Refused, AXIS_OUT_OF_TURN, AXIS_TOO_LATE, BAD_REGION, LONG_VALUE, NOT_ZERO, NO_SET, RECORD,
     REGION_TWICE, REGION_UNFINISHED, UNFINISHED, UNKNOWN_KIND, UNKNOWN_REGION,
@@ -8,9 +9,6 @@ use crate::wording;
 
 /// 1.0 as a coordinate.
 const ONE: i16 = 0x4000;
-
-/// The most regions of a job.
-const REGIONS: usize = 256;
 
 impl Refused {
     /// The refusal in words, with what stands in the job at its place and what was due
