@@ -24,6 +24,7 @@ impl Whole {
         let due = plain::stores::recover(store, room, enough);
         self.work.fill(work);
         self.out.fill(room);
+        self.places.fill(0);
         let mut report = noisy();
         let (lent, out) = (self.work.lend(), self.out.lend());
         let answer = ivs::recover_report(store, lent, out, &mut report);
@@ -106,9 +107,6 @@ impl Whole {
     fn written(&self, out: &[u8], places: &[u32]) -> Held {
         same("out", &self.out.lent()[..out.len()], out)?;
         same("written past out", &self.out.spoilt_past(out.len()), &None)?;
-        if self.places.lent().is_empty() {
-            return Ok(());
-        }
         same("places", &self.places.lent()[..places.len()], places)?;
         let past = self.places.spoilt_past(places.len());
         same("written past places", &past, &None)
