@@ -3,7 +3,10 @@
 use crate::batch::Batch;
 use crate::check::Check;
 use crate::explain::Explain;
+use crate::judge::Judge;
+use crate::keep::Keep;
 use crate::manual::{Completions, Man};
+use crate::recover::Recover;
 use crate::report::Report;
 use clap::{Args, Parser, Subcommand, ValueEnum};
 use std::path::PathBuf;
@@ -31,6 +34,9 @@ pub enum Command {
     Explain(Explain),
     Report(Report),
     Pack(Pack),
+    Recover(Recover),
+    Judge(Judge),
+    Keep(Keep),
     Widths(Widths),
     Font(Font),
     Batch(Batch),
@@ -51,6 +57,9 @@ impl Command {
             Command::Explain(arguments) => arguments.json,
             Command::Report(arguments) => arguments.json,
             Command::Pack(arguments) => arguments.json,
+            Command::Recover(arguments) => arguments.json,
+            Command::Judge(arguments) => arguments.json,
+            Command::Keep(arguments) => arguments.json,
             Command::Widths(arguments) => arguments.json,
             Command::Font(arguments) => arguments.command.json(),
             Command::Batch(arguments) => arguments.json,
@@ -84,6 +93,9 @@ pub struct Build {
     /// Where to write the map: outer x 65536 + inner of each id, one a line
     #[arg(long, value_name = "F")]
     pub map: Option<PathBuf>,
+    /// Where to write the row of each set, one a line: outer x 65536 + inner, as `judge` reads it
+    #[arg(long, value_name = "F")]
+    pub words: Option<PathBuf>,
     /// Where to write the merges: first number, second number and gain a line
     #[arg(long, value_name = "F")]
     pub log: Option<PathBuf>,

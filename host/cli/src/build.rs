@@ -6,7 +6,7 @@ use crate::files;
 use crate::input::Input;
 use crate::json::{list, object, Json};
 use crate::numbers::{self, Number};
-use std::fmt::Write;
+use crate::row_list;
 use std::path::Path;
 
 pub fn run(arguments: &Build) -> Result<(), Failure> {
@@ -28,7 +28,7 @@ pub fn run(arguments: &Build) -> Result<(), Failure> {
     let said = if arguments.json {
         format!("{}\n", json(&numbers, &packed.origins))
     } else {
-        table(&numbers)
+        numbers::table(&numbers)
     };
     let outputs: Vec<&Path> = places.iter().map(|&(path, _)| path).collect();
     files::print_beside(&outputs, &said)
@@ -38,10 +38,13 @@ type Part = fn(&ivs::Packed) -> Vec<u8>;
 
 /// Where each part goes.
 fn places(arguments: &Build) -> Vec<(&Path, Part)> {
-    let asked: [(&Option<_>, Part); 5] = [
+    let asked: [(&Option<_>, Part); 6] = [
         (&arguments.store, |packed| packed.store.clone()),
         (&arguments.ids, |packed| lines(&packed.ids, 1)),
         (&arguments.map, |packed| lines(&packed.map, 1)),
+        (&arguments.words, |packed| {
+            row_list::text(&ivs::set_words(packed))
+        }),
         (&arguments.log, |packed| lines(&packed.log, 3)),
         (&arguments.origins, |packed| lines(&packed.origins, 2)),
     ];
@@ -66,13 +69,4 @@ fn lines(words: &[u32], a_line: usize) -> Vec<u8> {
 fn json(numbers: &[Number], origins: &[u32]) -> Json {
     let origin = |origin: &[u32]| list(origin, |&word| word.into());
     numbers::json(numbers).and(object([("origins", list(origins.chunks(2), origin))]))
-}
-
-fn table(numbers: &[Number]) -> String {
-    let mut text = String::new();
-    for (words, _, number) in numbers {
-        // Writing to a string cannot fail.
-        let _ = writeln!(text, "{words:<13} {number:>10}");
-    }
-    text
 }

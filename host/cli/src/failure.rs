@@ -16,6 +16,8 @@ pub enum Failure {
     Text(String, Vec<Wrong>),
     /// Some of many were refused or went wrong, which has been said; whether all were refused.
     Some { refused: bool },
+    /// The answer is no, which has been said.
+    No,
     /// Anything else: bad usage, no file.
     Other(String),
 }
@@ -28,6 +30,7 @@ impl Failure {
     pub fn status(&self) -> ExitCode {
         ExitCode::from(match self {
             Failure::Refused(..) | Failure::Both(..) | Failure::Some { refused: true } => 2,
+            Failure::No => 3,
             Failure::Text(..) | Failure::Other(_) | Failure::Some { refused: false } => 1,
         })
     }
@@ -43,7 +46,7 @@ impl Failure {
             Failure::Text(file, wrong) => {
                 of_file(file).and(object([("wrong", list(wrong, Wrong::json))]))
             }
-            Failure::Some { .. } => return None,
+            Failure::Some { .. } | Failure::No => return None,
             Failure::Other(words) => object([("failed", words.as_str().into())]),
         })
     }
@@ -78,7 +81,7 @@ impl fmt::Display for Failure {
                 let lines = Wrong::first(wrong).map(|line| format!("fenikezo: {file}: {line}"));
                 f.write_str(&lines.collect::<Vec<_>>().join("\n"))
             }
-            Failure::Some { .. } => Ok(()),
+            Failure::Some { .. } | Failure::No => Ok(()),
             Failure::Other(words) => write!(f, "fenikezo: {words}"),
         }
     }

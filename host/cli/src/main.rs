@@ -19,6 +19,8 @@ mod history;
 mod input;
 mod job;
 mod json;
+mod judge;
+mod keep;
 mod kind;
 mod manual;
 mod names;
@@ -28,7 +30,9 @@ mod pack;
 mod part;
 mod places;
 mod read;
+mod recover;
 mod report;
+mod row_list;
 mod sfnt;
 mod show;
 mod show_job;
@@ -92,6 +96,9 @@ fn run(command: &Command) -> Result<(), Failure> {
         Command::Explain(arguments) => explain::run(arguments),
         Command::Report(arguments) => report::run(arguments),
         Command::Pack(arguments) => pack::run(arguments),
+        Command::Recover(arguments) => recover::run(arguments),
+        Command::Judge(arguments) => judge::run(arguments),
+        Command::Keep(arguments) => keep::run(arguments),
         Command::Widths(arguments) => widths::run(arguments),
         Command::Font(arguments) => font::run(arguments),
         Command::Batch(arguments) => batch::run(arguments),

@@ -1,6 +1,7 @@
 //! The numbers of a build or a forecast, for tables and as JSON.
 
 use crate::json::Json;
+use std::fmt::Write;
 
 /// Words for a table, name for JSON, number.
 pub type Number = (&'static str, &'static str, u64);
@@ -25,4 +26,14 @@ pub fn of(done: &ivs::Done) -> [Number; 10] {
 pub fn json(numbers: &[Number]) -> Json {
     let field = |&(_, name, number): &Number| (name.to_string(), number.into());
     Json::Object(numbers.iter().map(field).collect())
+}
+
+/// The numbers as a table.
+pub fn table(numbers: &[Number]) -> String {
+    let mut text = String::new();
+    for (words, _, number) in numbers {
+        // Writing to a string cannot fail.
+        let _ = writeln!(text, "{words:<13} {number:>10}");
+    }
+    text
 }

@@ -16,6 +16,7 @@
 //! * [`parts`]: where two sets of a job part.
 //! * [`sizes`]: lent memory around each size that is asked for.
 //! * [`stores`]: the reader on damaged stores.
+//! * [`whole`]: the calls on whole stores.
 //! * [`Tally`]: how many comparisons held.
 
 pub mod built;
@@ -35,6 +36,7 @@ pub mod run;
 pub mod sizes;
 pub mod stores;
 mod tally;
+pub mod whole;
 
 pub use cases::Case;
 pub use tally::Tally;

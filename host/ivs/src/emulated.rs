@@ -24,7 +24,16 @@ const PART: u64 = 6;
 const BUILD_PANEL: u64 = 7;
 const WRITE_WIDTHS: u64 = 20;
 const READ_WIDTH: u64 = 21;
-const HEAD_REGIONS: u64 = 30;
+const HEAD_REGIONS: u64 = 29;
+const RECOVER_WORDS: u64 = 30;
+const RECOVER: u64 = 31;
+const JUDGE_WORDS: u64 = 32;
+const JUDGE: u64 = 33;
+const KEEP_WORDS: u64 = 34;
+const KEEP: u64 = 35;
+
+/// Those that have a report.
+const REPORTS: [u64; 7] = [BUILD, BUILD_PANEL, FORECAST, PART, RECOVER, JUDGE, KEEP];
 
 /// The program that answers. It leaves when its standard input ends, with this process, so
 /// nobody waits for it.
@@ -102,6 +111,54 @@ pub fn write_widths(store: &[u8], words: &[u32], out: &mut [u8]) -> u64 {
 
 pub fn read_width(table: &[u8], glyph: u32, region: u32) -> u64 {
     ask_alone([READ_WIDTH, glyph.into(), region.into(), 0], table)
+}
+
+pub fn recover_words(bytes: usize) -> usize {
+    ask_alone([RECOVER_WORDS, bytes as u64, 0, 0], &[]) as usize
+}
+
+pub fn recover(store: &[u8], work: &mut [u32], out: &mut [u8], report: &mut [u64; 16]) -> u32 {
+    let lent = &mut lending(work, &mut [], out);
+    ask([RECOVER, 0, 0, 0], store, lent, report) as u32
+}
+
+pub fn judge_words(records: usize, regions: usize, bytes: usize) -> usize {
+    let asked = [JUDGE_WORDS, records as u64, regions as u64, bytes as u64];
+    ask_alone(asked, &[]) as usize
+}
+
+/// The store goes as the output, the words as ids.
+pub fn judge(
+    axes: u32,
+    job: &[u8],
+    store: &[u8],
+    words: &[u32],
+    work: &mut [u32],
+    report: &mut [u64; 16],
+) -> u32 {
+    let (mut store, mut words) = (store.to_vec(), words.to_vec());
+    let mut lent = lending(work, &mut [], &mut store);
+    lent.ids = &mut words;
+    ask([JUDGE, axes.into(), 0, 0], job, &mut lent, report) as u32
+}
+
+pub fn keep_words(bytes: usize, rows: usize) -> usize {
+    ask_alone([KEEP_WORDS, bytes as u64, rows as u64, 0], &[]) as usize
+}
+
+/// The rows go as ids, the places as the map.
+pub fn keep(
+    store: &[u8],
+    rows: &[u32],
+    work: &mut [u32],
+    out: &mut [u8],
+    places: &mut [u32],
+    report: &mut [u64; 16],
+) -> u32 {
+    let mut rows = rows.to_vec();
+    let mut lent = lending(work, &mut [], out);
+    (lent.ids, lent.map) = (&mut rows, places);
+    ask([KEEP, 0, 0, 0], store, &mut lent, report) as u32
 }
 
 /// Asks with nothing lent.
@@ -217,7 +274,7 @@ impl Server {
         if [WRITE_GLYPHS, WRITE_WIDTHS].contains(&what[0]) {
             self.from.read_exact(lent.out)?;
         }
-        if [BUILD, BUILD_PANEL, FORECAST, PART].contains(&what[0]) {
+        if REPORTS.contains(&what[0]) {
             self.take_words(lent.work)?;
             match self.take_word()? {
                 0 if held => lent.pairs.fill(Pair::default()),

@@ -1,11 +1,11 @@
 //! A refusal explained with the job at hand: what stands at its place, and what was due.
 
+use crate::limits::REGIONS;
 use crate::refusals::{
     Refused, AXIS_OUT_OF_TURN, AXIS_TOO_LATE, BAD_REGION, LONG_VALUE, NOT_ZERO, NO_SET, RECORD,
     REGION_TWICE, REGION_UNFINISHED, UNFINISHED, UNKNOWN_KIND, UNKNOWN_REGION,
 };
 use crate::wording;
-use crate::writer::REGIONS;
 
 /// 1.0 as a coordinate.
 const ONE: i16 = 0x4000;

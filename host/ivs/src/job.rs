@@ -1,7 +1,7 @@
 //! A job with its axis count, so that it is said once; the mode by its name; one error.
 
-use crate::{building, forecast, part};
-use crate::{Done, JobError, JobWriter, Packed, Parted, Profile, Refused};
+use crate::{building, forecast, judging, part};
+use crate::{Done, JobError, JobWriter, Packed, Parted, Profile, Refused, Verdict};
 use std::error;
 use std::fmt;
 
@@ -137,6 +137,17 @@ impl Job {
     /// ```
     pub fn part(&self, first: u32, second: u32) -> Result<Parted, Refused> {
         part::part(self.axes, &self.bytes, first, second)
+    }
+
+    /// Whether a store gives its sets, by a row's word for each: [`judge`](crate::judge).
+    ///
+    /// ```
+    /// let job = ivs::Job::new(1, vec![3, 0, 0, 0, 0, 0, 0, 0, 0, 0, 0, 0]);
+    /// assert_eq!(job.judge(&[], &[])?, ivs::Verdict::Store);  // that is no store
+    /// # Ok::<(), ivs::Refused>(())
+    /// ```
+    pub fn judge(&self, store: &[u8], words: &[u32]) -> Result<Verdict, Refused> {
+        judging::judge(self.axes, &self.bytes, store, words)
     }
 
     /// A refusal of this job in words: [`Refused::explain`].

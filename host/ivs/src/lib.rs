@@ -10,6 +10,8 @@
 //! * [`part`]: where two sets of a job part.
 //! * [`read`]: one value of a store, whatever its bytes are; [`Store`]: its regions, subtables
 //!   and rows.
+//! * [`recover`]: the job of a store, whoever wrote that; [`judge`]: whether a store gives the
+//!   sets of a job; [`keep`]: a store with only the rows that are still used.
 //! * [`write_glyphs`], [`read_glyph`]: the map of glyphs to rows of a store.
 //! * [`write_widths`], [`read_width`]: the width table of a store and such a map.
 //!
@@ -49,11 +51,15 @@ mod explain;
 mod forecast;
 mod glyphs;
 mod job;
+mod judging;
+mod keeping;
 mod kept;
+pub mod limits;
 mod part;
 #[cfg_attr(not(ivs_linked), path = "emulated.rs")]
 mod raw;
 mod reading;
+mod recovering;
 mod refusal;
 mod refusals;
 mod store;
@@ -69,8 +75,13 @@ pub use explain::written_for;
 pub use forecast::{forecast, forecast_report, forecast_with};
 pub use glyphs::{read_glyph, write_glyphs, write_glyphs_into, GLYPHS};
 pub use job::{Error, Job, Mode};
+pub use judging::{head_regions, judge, judge_report, judge_with, judge_words, Verdict};
+pub use keeping::{keep, keep_into, keep_report, keep_words, Kept, KeptInto};
 pub use part::{part, part_report, part_with, Parted, Parting};
 pub use reading::{read, Reading};
+pub use recovering::{
+    recover, recover_into, recover_report, recover_words, Recovered, RecoveredInto,
+};
 pub use refusal::{numbers, Refusal};
 pub use refusals::{Refused, Short};
 pub use store::{Column, Row, Store, Subtable};

@@ -104,6 +104,49 @@ extern "C" {
     ) -> u64;
 
     fn ivs_read_width(table: *const u8, table_len: usize, glyph: u32, region: u32) -> u64;
+
+    fn ivs_recover_words(bytes: usize) -> usize;
+
+    fn ivs_recover(
+        store: *const u8,
+        store_len: usize,
+        work: *mut u32,
+        work_len: usize,
+        out: *mut u8,
+        out_len: usize,
+        report: *mut u64,
+    ) -> u32;
+
+    fn ivs_judge_words(records: usize, regions: usize, bytes: usize) -> usize;
+
+    fn ivs_judge(
+        axes: u32,
+        job: *const u8,
+        job_len: usize,
+        store: *const u8,
+        store_len: usize,
+        words: *const u32,
+        words_len: usize,
+        work: *mut u32,
+        work_len: usize,
+        report: *mut u64,
+    ) -> u32;
+
+    fn ivs_keep_words(bytes: usize, rows: usize) -> usize;
+
+    fn ivs_keep(
+        store: *const u8,
+        store_len: usize,
+        rows: *const u32,
+        rows_len: usize,
+        work: *mut u32,
+        work_len: usize,
+        out: *mut u8,
+        out_len: usize,
+        places: *mut u32,
+        places_len: usize,
+        report: *mut u64,
+    ) -> u32;
 }
 
 pub fn work_words(records: usize, regions: usize) -> usize {
@@ -258,4 +301,85 @@ pub fn write_widths(store: &[u8], words: &[u32], out: &mut [u8]) -> u64 {
 pub fn read_width(table: &[u8], glyph: u32, region: u32) -> u64 {
     // SAFETY: as for `build`; nothing is written.
     unsafe { ivs_read_width(table.as_ptr(), table.len(), glyph, region) }
+}
+
+pub fn recover_words(bytes: usize) -> usize {
+    // SAFETY: as for `work_words`.
+    unsafe { ivs_recover_words(bytes) }
+}
+
+pub fn recover(store: &[u8], work: &mut [u32], out: &mut [u8], report: &mut [u64; 16]) -> u32 {
+    // SAFETY: as for `build`.
+    unsafe {
+        ivs_recover(
+            store.as_ptr(),
+            store.len(),
+            work.as_mut_ptr(),
+            work.len(),
+            out.as_mut_ptr(),
+            out.len(),
+            report.as_mut_ptr(),
+        )
+    }
+}
+
+pub fn judge_words(records: usize, regions: usize, bytes: usize) -> usize {
+    // SAFETY: as for `work_words`.
+    unsafe { ivs_judge_words(records, regions, bytes) }
+}
+
+pub fn judge(
+    axes: u32,
+    job: &[u8],
+    store: &[u8],
+    words: &[u32],
+    work: &mut [u32],
+    report: &mut [u64; 16],
+) -> u32 {
+    // SAFETY: as for `build`.
+    unsafe {
+        ivs_judge(
+            axes,
+            job.as_ptr(),
+            job.len(),
+            store.as_ptr(),
+            store.len(),
+            words.as_ptr(),
+            words.len(),
+            work.as_mut_ptr(),
+            work.len(),
+            report.as_mut_ptr(),
+        )
+    }
+}
+
+pub fn keep_words(bytes: usize, rows: usize) -> usize {
+    // SAFETY: as for `work_words`.
+    unsafe { ivs_keep_words(bytes, rows) }
+}
+
+pub fn keep(
+    store: &[u8],
+    rows: &[u32],
+    work: &mut [u32],
+    out: &mut [u8],
+    places: &mut [u32],
+    report: &mut [u64; 16],
+) -> u32 {
+    // SAFETY: as for `build`.
+    unsafe {
+        ivs_keep(
+            store.as_ptr(),
+            store.len(),
+            rows.as_ptr(),
+            rows.len(),
+            work.as_mut_ptr(),
+            work.len(),
+            out.as_mut_ptr(),
+            out.len(),
+            places.as_mut_ptr(),
+            places.len(),
+            report.as_mut_ptr(),
+        )
+    }
 }

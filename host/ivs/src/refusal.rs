@@ -76,12 +76,18 @@ refusals! {
     41 GlyphMapShort GLYPH_MAP_SHORT
     42 BadGlyphMap BAD_GLYPH_MAP
     43 BadWidths BAD_WIDTHS
+    50 RegionsEqual REGIONS_EQUAL
+    51 RegionsOrAxes REGIONS_OR_AXES
+    52 JobTooLong JOB_TOO_LONG
+    53 JobShort JOB_SHORT
     60 StoreTooBig STORE_TOO_BIG
     61 OriginsShort ORIGINS_SHORT
     64 NoSet NO_SET
     70 LongValue LONG_VALUE
     71 BadRegion BAD_REGION
     72 WideSubtable WIDE_SUBTABLE
+    73 PlacesShort PLACES_SHORT
+    74 KeptShort KEPT_SHORT
 }
 
 impl Refusal {

@@ -8,7 +8,8 @@
  * everything lent but the job, with a word before the pairs that says whether they hold
  * anything. Pairs that hold nothing are zeros, and are not sent. Of a glyph map written the
  * output follows the word; its words were lent as work. So of a width table, whose store is
- * the job. */
+ * the job. A store that is recovered or cut down is the job, too; one that is judged is the
+ * output. Rows and words of sets are lent as ids, places as the map. */
 typedef unsigned char u8;
 typedef unsigned int u32;
 typedef unsigned long u64;
@@ -32,6 +33,14 @@ u64 ivs_write_glyphs(const u32 *words, u64 words_len, u8 *out, u64 out_len);
 u64 ivs_read_glyph(const u8 *map, u64 map_len, u32 glyph);
 u64 ivs_write_widths(const u8 *store, u64 store_len, const u32 *words, u64 words_len, u8 *out, u64 out_len);
 u64 ivs_read_width(const u8 *table, u64 table_len, u32 glyph, u32 region);
+u64 ivs_recover_words(u64 bytes);
+u32 ivs_recover(const u8 *store, u64 store_len, u32 *work, u64 work_len, u8 *out, u64 out_len, u64 *report);
+u64 ivs_judge_words(u64 records, u64 regions, u64 bytes);
+u32 ivs_judge(u32 axes, const u8 *job, u64 job_len, const u8 *store, u64 store_len, const u32 *words, u64 words_len,
+              u32 *work, u64 work_len, u64 *report);
+u64 ivs_keep_words(u64 bytes, u64 rows);
+u32 ivs_keep(const u8 *store, u64 store_len, const u32 *rows, u64 rows_len, u32 *work, u64 work_len, u8 *out,
+             u64 out_len, u32 *places, u64 places_len, u64 *report);
 
 static long system_call(long number, long a, long b, long c, long d, long e, long f) {
     register long r10 __asm__("r10") = d;
@@ -102,7 +111,8 @@ static int holds(const u8 *at, u64 count) {
 #define PAIRS_ROOM (1ul << 25)
 
 /* What is asked. */
-enum { WORK_WORDS, BUILD, READ, WRITE_GLYPHS, READ_GLYPH, FORECAST, PART, BUILD_PANEL, WRITE_WIDTHS = 20, READ_WIDTH, HEAD_REGIONS = 30 };
+enum { WORK_WORDS, BUILD, READ, WRITE_GLYPHS, READ_GLYPH, FORECAST, PART, BUILD_PANEL, WRITE_WIDTHS = 20, READ_WIDTH };
+enum { HEAD_REGIONS = 29, RECOVER_WORDS, RECOVER, JUDGE_WORDS, JUDGE, KEEP_WORDS, KEEP };
 
 /* The parts of a question, with the bytes of one of each. */
 enum { JOB, WORK, PAIRS, OUT, IDS, MAP, LOG, ORIGINS, REPORT, PARTS };
@@ -154,6 +164,20 @@ static u64 part(const u64 *asked, const u64 *count, u8 **at) {
                     (u64 *)at[REPORT]);
 }
 
+static u64 recover(const u64 *count, u8 **at) {
+    return ivs_recover(at[JOB], count[JOB], (u32 *)at[WORK], count[WORK], at[OUT], count[OUT], (u64 *)at[REPORT]);
+}
+
+static u64 judge(const u64 *asked, const u64 *count, u8 **at) {
+    return ivs_judge((u32)asked[1], at[JOB], count[JOB], at[OUT], count[OUT], (u32 *)at[IDS], count[IDS],
+                     (u32 *)at[WORK], count[WORK], (u64 *)at[REPORT]);
+}
+
+static u64 keep(const u64 *count, u8 **at) {
+    return ivs_keep(at[JOB], count[JOB], (u32 *)at[IDS], count[IDS], (u32 *)at[WORK], count[WORK], at[OUT], count[OUT],
+                    (u32 *)at[MAP], count[MAP], (u64 *)at[REPORT]);
+}
+
 static u64 answered(const u64 *asked, const u64 *count, u8 **at) {
     switch (asked[0]) {
     case WORK_WORDS: return ivs_work_words(asked[1], asked[2]);
@@ -166,13 +190,22 @@ static u64 answered(const u64 *asked, const u64 *count, u8 **at) {
     case WRITE_WIDTHS:
         return ivs_write_widths(at[JOB], count[JOB], (u32 *)at[WORK], count[WORK], at[OUT], count[OUT]);
     case READ_WIDTH: return ivs_read_width(at[JOB], count[JOB], (u32)asked[1], (u32)asked[2]);
+    case RECOVER_WORDS: return ivs_recover_words(asked[1]);
+    case RECOVER: return recover(count, at);
+    case JUDGE_WORDS: return ivs_judge_words(asked[1], asked[2], asked[3]);
+    case JUDGE: return judge(asked, count, at);
+    case KEEP_WORDS: return ivs_keep_words(asked[1], asked[2]);
+    case KEEP: return keep(count, at);
     case READ_GLYPH: return ivs_read_glyph(at[JOB], count[JOB], (u32)asked[1]);
     default: return ivs_read(at[JOB], count[JOB], (u32)asked[1], (u32)asked[2], (u32)asked[3]);
     }
 }
 
 /* Whether the call has a report. */
-static int reports(u64 what) { return what == BUILD || what == BUILD_PANEL || what == FORECAST || what == PART; }
+static int reports(u64 what) {
+    return what == BUILD || what == BUILD_PANEL || what == FORECAST || what == PART || what == RECOVER ||
+           what == JUDGE || what == KEEP;
+}
 
 __attribute__((force_align_arg_pointer)) void _start(void) {
     u8 *room = (u8 *)system_call(9, 0, ROOM + PAIRS_ROOM, 3, 0x4022, -1, 0);

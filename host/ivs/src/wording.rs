@@ -124,6 +124,26 @@ pub fn of(number: u32) -> (&'static str, &'static str, &'static str) {
             "the bytes are no width table, or its store or its map stands outside them",
             "look whether the table was cut off or damaged",
         ),
+        50 => (
+            "REGIONS_EQUAL",
+            "the store lists a region twice",
+            "a job cannot say which of the two a value is for: have the store written with each region once",
+        ),
+        51 => (
+            "REGIONS_OR_AXES",
+            "the store has no axis, or more axes or regions than a job may have",
+            "there is no job of it",
+        ),
+        52 => (
+            "JOB_TOO_LONG",
+            "the store's rows have more values than a job has records for",
+            "cut the store down to the rows that are used",
+        ),
+        53 => (
+            "JOB_SHORT",
+            "the output lent is too small for the job",
+            "lend more bytes (12 for each of 1,048,576 records always do)",
+        ),
         60 => (
             "STORE_TOO_BIG",
             "the store would have more than 4,294,967,295 bytes",
@@ -153,6 +173,16 @@ pub fn of(number: u32) -> (&'static str, &'static str, &'static str) {
             "WIDE_SUBTABLE",
             "a subtable would have more than 32 regions in use, which the panel's reader does not take",
             "use mode 0, split the sets, or build without the profile",
+        ),
+        73 => (
+            "PLACES_SHORT",
+            "the places lent are too few",
+            "lend a word for each entry of the list",
+        ),
+        74 => (
+            "KEPT_SHORT",
+            "the output lent is too small for the store, or the store would be longer than 4,294,967,295 bytes",
+            "lend more bytes, or keep fewer rows",
         ),
         _ => ("UNKNOWN", "the refusal is not known", "report it"),
     }

@@ -1,15 +1,11 @@
 //! A job's bytes out of regions and sets, so that nobody lays out records by hand.
 
+use crate::limits::{AXES, RECORDS, REGIONS};
 use crate::refusals::RECORD;
 use crate::Job;
 use std::collections::{HashMap, HashSet};
 use std::error::Error;
 use std::fmt;
-
-/// The most axes, regions and records of a job (J3).
-const AXES: usize = 64;
-pub(crate) const REGIONS: usize = 32_767;
-const RECORDS: usize = 1_048_576;
 
 /// Start, peak and end on one axis, as raw F2Dot14 numbers (0x4000 is 1).
 pub type Tent = (i16, i16, i16);
@@ -218,9 +214,7 @@ impl fmt::Display for JobError {
                 f,
                 "{given} triples of start, peak, end; give one for each of the {axes} axes"
             ),
-            JobError::RegionsFull => {
-                write!(f, "more than {REGIONS} regions; a job has no room")
-            }
+            JobError::RegionsFull => write!(f, "more than {REGIONS} regions; a job has no room"),
             JobError::UnknownRegion(region) => {
                 write!(
                     f,

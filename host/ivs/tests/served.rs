@@ -82,7 +82,8 @@ impl Memory {
             2 * done.shapes,
         ];
         let sizes = sizes.map(&mut room);
-        let work = room(ivs::work_words(job.len() / 12) as u64);
+        let regions = ivs::head_regions(axes, job);
+        let work = room(ivs::work_words(job.len() / 12, regions) as u64);
         let (out, pairs) = (room(done.store_bytes), room(ivs::PAIRS as u64));
         let noise = rng.below(2) as u32 * 0xA5A5_A5A5;
         let mut words = |size| (0..size).map(|_| rng.bits() as u32).collect::<Vec<u32>>();
@@ -98,6 +99,18 @@ impl Memory {
                 };
                 pairs
             ],
+            report: [7; 16],
+        }
+    }
+
+    /// Noise for a call on a store: so many words of work, bytes and places, or one too few.
+    fn for_store(rng: &mut Rng, sizes: [usize; 3]) -> Memory {
+        let [work, out, places] = sizes.map(|size| (size + rng.below(6)).saturating_sub(1));
+        Memory {
+            work: vec![0xA5A5_A5A5; work],
+            pairs: Vec::new(),
+            out: vec![0xA5; out],
+            words: [vec![], vec![0xA5A5_A5A5; places], vec![], vec![]],
             report: [7; 16],
         }
     }
@@ -180,6 +193,60 @@ fn the_same_both_ways() {
         }
     }
     assert!(done > 100 && refused > 50, "{done} {refused}");
+    let done: usize = (0..80).map(|seed| whole(rng, seed)).sum();
+    assert!(done > 100, "{done}");
+}
+
+/// A store that others wrote, and once it is damaged: recovered, judged by what it was recovered
+/// into, cut down to some of its rows. How many calls were done.
+fn whole(rng: &mut Rng, seed: u64) -> usize {
+    let store = jobs::stores::random(seed);
+    let axes = store.axes as u32;
+    let words = store
+        .rows()
+        .map(|(outer, inner, _)| (outer << 16 | inner) as u32);
+    let words: Vec<u32> = words.collect();
+    let job = ivs::recover(&store.bytes).unwrap().job;
+    let (job, records) = (job.bytes(), job.bytes().len() / 12);
+    let mut rows: Vec<u32> = words.clone();
+    rng.shuffle(&mut rows);
+    rows.truncate(rows.len() / 2);
+    let mut done = 0;
+    for bytes in [&store.bytes, &jobs::damage::store(rng, &store.bytes)] {
+        let (long, regions) = (bytes.len(), ivs::head_regions(axes, job));
+        let needed = [
+            ivs::recover_words(long),
+            ivs::judge_words(records, regions, long),
+            ivs::keep_words(long, rows.len()),
+        ];
+        let other = [
+            emulated::recover_words(long),
+            emulated::judge_words(records, regions, long),
+            emulated::keep_words(long, rows.len()),
+        ];
+        assert_eq!(needed, other);
+        let recovered = Memory::for_store(rng, [needed[0], job.len(), 0]).both(
+            &format!("store {seed}, recover"),
+            |lent, report| ivs::recover_report(bytes, lent.work, lent.out, report),
+            |lent, report| emulated::recover(bytes, lent.work, lent.out, report),
+        );
+        let judged = Memory::for_store(rng, [needed[1], 0, 0]).both(
+            &format!("store {seed}, judge"),
+            |lent, report| ivs::judge_report(axes, job, bytes, &words, lent.work, report),
+            |lent, report| emulated::judge(axes, job, bytes, &words, lent.work, report),
+        );
+        let room = ivs::keep(bytes, &rows).map_or(0, |kept| kept.store.len());
+        let kept = Memory::for_store(rng, [needed[2], room, rows.len()]).both(
+            &format!("store {seed}, keep"),
+            |lent, report| ivs::keep_report(bytes, &rows, lent.work, lent.out, lent.map, report),
+            |lent, report| emulated::keep(bytes, &rows, lent.work, lent.out, lent.map, report),
+        );
+        done += [recovered, judged, kept]
+            .iter()
+            .filter(|answer| **answer == 0)
+            .count();
+    }
+    done
 }
 
 /// The word that a reading stands for (include/ivs.h).

@@ -6,6 +6,7 @@
 //! * [`small`]: all jobs of a small kind, one after another.
 //! * [`edges`]: the large jobs at the limits of the rules.
 //! * [`glyphs`]: lists of words for glyph maps, which are no jobs.
+//! * [`stores`]: stores as others may write them.
 //! * [`forms`]: records that break one rule of their form or several.
 //! * [`damage`]: bytes changed, records cut off, swapped, repeated.
 //! * [`Rng`]: the random numbers behind all of it; [`hex`]: bytes as text.
@@ -20,6 +21,7 @@ mod job;
 pub mod random;
 mod rng;
 pub mod small;
+pub mod stores;
 
 pub use job::{Job, Region, RECORD, REGIONS};
 pub use rng::Rng;

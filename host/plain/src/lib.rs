@@ -6,7 +6,8 @@
 //! part names the rules that it renders by their labels.
 //!
 //! [`build`] says what one build call must answer and write, [`part`] where two sets
-//! of a job part; [`read`] says what reading one value must answer.
+//! of a job part; [`read`] says what reading one value must answer, and [`stores`] what is made
+//! of a whole store.
 
 mod forecast;
 pub mod glyphs;
@@ -18,6 +19,7 @@ mod records;
 mod refusals;
 mod sets;
 mod store;
+pub mod stores;
 pub mod table;
 mod widths;
 

@@ -36,7 +36,7 @@ pub fn read(store: &[u8], outer: u32, inner: u32, region: u32) -> Result<Reading
 }
 
 /// The list's region count and the subtable offsets; none where V1 fails.
-fn header_and_list(store: &[u8]) -> Option<(usize, Vec<usize>)> {
+pub(crate) fn header_and_list(store: &[u8]) -> Option<(usize, Vec<usize>)> {
     let format = u16_at(store, 0)?;
     let list = u32_at(store, 2)?;
     let count = u16_at(store, 6)?;
@@ -52,21 +52,21 @@ fn header_and_list(store: &[u8]) -> Option<(usize, Vec<usize>)> {
 }
 
 /// One ItemVariationData.
-struct Subtable {
-    items: usize,
+pub(crate) struct Subtable {
+    pub(crate) items: usize,
     /// The region of each column.
-    columns: Vec<usize>,
+    pub(crate) columns: Vec<usize>,
     /// Columns of full word width.
     words: usize,
     /// Full words are 4 bytes and the others 2, not 2 and 1.
     long: bool,
     /// Where the rows begin.
-    rows: usize,
+    pub(crate) rows: usize,
 }
 
 impl Subtable {
     /// None where V4 fails.
-    fn parse(store: &[u8], at: usize, regions: usize) -> Option<Subtable> {
+    pub(crate) fn parse(store: &[u8], at: usize, regions: usize) -> Option<Subtable> {
         let items = u16_at(store, at)?;
         let word_count = u16_at(store, at + 2)?;
         let count = u16_at(store, at + 4)?;
@@ -111,12 +111,12 @@ impl Subtable {
         full * full_columns + other * (column - full_columns)
     }
 
-    fn row_bytes(&self) -> usize {
+    pub(crate) fn row_bytes(&self) -> usize {
         self.column_at(self.columns.len())
     }
 
     /// The value, sign kept.
-    fn value(&self, store: &[u8], inner: usize, column: usize) -> i32 {
+    pub(crate) fn value(&self, store: &[u8], inner: usize, column: usize) -> i32 {
         let (full, other) = self.widths();
         let width = if column < self.words { full } else { other };
         let at = self.rows + inner * self.row_bytes() + self.column_at(column);
@@ -132,11 +132,11 @@ impl Subtable {
     }
 }
 
-fn u16_at(store: &[u8], at: usize) -> Option<usize> {
+pub(crate) fn u16_at(store: &[u8], at: usize) -> Option<usize> {
     let bytes = store.get(at..at.checked_add(2)?)?;
     Some(256 * bytes[0] as usize + bytes[1] as usize)
 }
 
-fn u32_at(store: &[u8], at: usize) -> Option<usize> {
+pub(crate) fn u32_at(store: &[u8], at: usize) -> Option<usize> {
     Some(65_536 * u16_at(store, at)? + u16_at(store, at.checked_add(2)?)?)
 }

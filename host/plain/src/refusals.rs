@@ -26,12 +26,18 @@ pub mod number {
     pub const AXIS_OUT_OF_TURN: u32 = 32;
     pub const AXIS_TOO_LATE: u32 = 33;
     pub const REGION_UNFINISHED: u32 = 34;
+    pub const REGIONS_EQUAL: u32 = 50;
+    pub const REGIONS_OR_AXES: u32 = 51;
+    pub const JOB_TOO_LONG: u32 = 52;
+    pub const JOB_SHORT: u32 = 53;
     pub const STORE_TOO_BIG: u32 = 60;
     pub const ORIGINS_SHORT: u32 = 61;
     pub const NO_SET: u32 = 64;
     pub const LONG_VALUE: u32 = 70;
     pub const BAD_REGION: u32 = 71;
     pub const WIDE_SUBTABLE: u32 = 72;
+    pub const PLACES_SHORT: u32 = 73;
+    pub const KEPT_SHORT: u32 = 74;
 }
 
 /// The name of a refusal number.
@@ -58,12 +64,18 @@ pub fn name(refusal: u32) -> &'static str {
         number::AXIS_OUT_OF_TURN => "AXIS_OUT_OF_TURN",
         number::AXIS_TOO_LATE => "AXIS_TOO_LATE",
         number::REGION_UNFINISHED => "REGION_UNFINISHED",
+        number::REGIONS_EQUAL => "REGIONS_EQUAL",
+        number::REGIONS_OR_AXES => "REGIONS_OR_AXES",
+        number::JOB_TOO_LONG => "JOB_TOO_LONG",
+        number::JOB_SHORT => "JOB_SHORT",
         number::STORE_TOO_BIG => "STORE_TOO_BIG",
         number::ORIGINS_SHORT => "ORIGINS_SHORT",
         number::NO_SET => "NO_SET",
         number::LONG_VALUE => "LONG_VALUE",
         number::BAD_REGION => "BAD_REGION",
         number::WIDE_SUBTABLE => "WIDE_SUBTABLE",
+        number::PLACES_SHORT => "PLACES_SHORT",
+        number::KEPT_SHORT => "KEPT_SHORT",
         _ => "unknown",
     }
 }
