@@ -59,7 +59,7 @@ fn region<'a>(coordinates: impl Iterator<Item = &'a str>) -> Region {
     raw.chunks_exact(3).map(|c| [c[0], c[1], c[2]]).collect()
 }
 
-fn value(word: &str) -> (u8, i32) {
+fn value(word: &str) -> (u16, i32) {
     let (name, value) = word.split_once('=').expect("a value is NAME=VALUE");
     (number(name.trim_start_matches('r')), number(value))
 }

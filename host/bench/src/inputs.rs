@@ -96,7 +96,7 @@ pub fn input(kind: Kind, shapes: usize, regions: usize, seed: u64) -> Input {
 
 /// A set of that shape. (No -128 and no -32,768: they are narrower than 128 and
 /// 32,768.)
-pub fn row(rng: &mut Rng, shape: &[u32]) -> Vec<(u8, i32)> {
+pub fn row(rng: &mut Rng, shape: &[u32]) -> Vec<(u16, i32)> {
     let mut row = Vec::new();
     for (r, &width) in shape.iter().enumerate() {
         let size = match width {
@@ -106,7 +106,7 @@ pub fn row(rng: &mut Rng, shape: &[u32]) -> Vec<(u8, i32)> {
             _ => rng.between(32_769, 1 << 30),
         };
         let value = size as i32;
-        row.push((r as u8, if rng.one_in(2) { -value } else { value }));
+        row.push((r as u16, if rng.one_in(2) { -value } else { value }));
     }
     row
 }

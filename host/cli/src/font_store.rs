@@ -140,7 +140,7 @@ impl<'a> Rows<'a> {
     }
 
     /// The values of a row, by region; none where no row is meant.
-    fn set(&self, word: u32) -> Result<Vec<(u8, i32)>, Unpacked> {
+    fn set(&self, word: u32) -> Result<Vec<(u16, i32)>, Unpacked> {
         if word == NO_ROW {
             return Ok(Vec::new());
         }
@@ -153,7 +153,7 @@ impl<'a> Rows<'a> {
         // There are no more regions than a job can name, or the job was refused before.
         let values = row.values();
         Ok(values
-            .map(|(region, value)| (region as u8, value))
+            .map(|(region, value)| (region as u16, value))
             .collect())
     }
 }

@@ -84,7 +84,7 @@ fn indexes(job: &Job) -> (Vec<usize>, Vec<usize>) {
 }
 
 /// W1, W3.
-fn shape(set: &[(u8, i32)], index_of: &[usize]) -> Shape {
+fn shape(set: &[(u16, i32)], index_of: &[usize]) -> Shape {
     let valued = set.iter().filter(|(_, value)| *value != 0);
     let mut shape: Shape = valued
         .map(|&(region, value)| (index_of[usize::from(region)], width(value)))

@@ -13,7 +13,7 @@ pub struct Job {
     pub names: Vec<String>,
     pub regions: Vec<Vec<Tent>>,
     /// Region numbers with values, in the order of their records.
-    pub sets: Vec<Vec<(u8, i32)>>,
+    pub sets: Vec<Vec<(u16, i32)>>,
 }
 
 impl Job {
@@ -28,7 +28,8 @@ impl Job {
                 1 => tents.push((coordinate(4), coordinate(6), coordinate(8))),
                 2 => {
                     let value = [record[4], record[5], record[6], record[7]];
-                    set.push((record[1], i32::from_be_bytes(value)));
+                    let region = u16::from_be_bytes([record[3], record[1]]);
+                    set.push((region, i32::from_be_bytes(value)));
                 }
                 _ => sets.push(std::mem::take(&mut set)),
             }

@@ -63,7 +63,7 @@ pub fn json(job: &Job) -> Json {
 }
 
 /// A set as an object of its values.
-pub fn set_json(names: &[String], set: &[(u8, i32)]) -> Json {
-    let value = |&(region, value): &(u8, i32)| (names[usize::from(region)].clone(), value.into());
+pub fn set_json(names: &[String], set: &[(u16, i32)]) -> Json {
+    let value = |&(region, value): &(u16, i32)| (names[usize::from(region)].clone(), value.into());
     Json::Object(set.iter().map(value).collect())
 }

@@ -43,7 +43,7 @@ const NO_AXES: &str = "no axis count yet; begin with 'axes N'";
 #[derive(Clone, Copy)]
 enum Named {
     /// By its number, with the first region of the same coordinates.
-    Region { number: u8, first: u8 },
+    Region { number: u16, first: u16 },
     /// Its line is wrong, which has been said.
     Wrong,
 }
@@ -62,7 +62,7 @@ struct Parsing<'a> {
     names: Vec<String>,
     lines: HashMap<&'a str, usize>,
     known: HashMap<&'a str, Named>,
-    firsts: HashMap<Vec<Tent>, u8>,
+    firsts: HashMap<Vec<Tent>, u16>,
     region_lines: Vec<usize>,
     set_lines: Vec<usize>,
     wrong: Vec<Wrong>,
@@ -213,7 +213,7 @@ impl<'a> Parsing<'a> {
     fn set(&mut self, words: &[&'a str]) {
         self.ask_axes();
         let (before, mut values) = (self.wrong.len(), Vec::new());
-        let mut named: HashMap<u8, &str> = HashMap::new();
+        let mut named: HashMap<u16, &str> = HashMap::new();
         for word in words {
             let Some((name, value)) = word.split_once('=') else {
                 self.wrong(format!("'{word}' is no NAME=VALUE"));
@@ -250,7 +250,7 @@ impl<'a> Parsing<'a> {
         self.wrong(format!("no region '{name}' before this line{meant}"));
     }
 
-    fn add_set(&mut self, values: &[(u8, i32)]) {
+    fn add_set(&mut self, values: &[(u16, i32)]) {
         let Some(writer) = self.writer.as_mut() else {
             return;
         };
@@ -313,7 +313,7 @@ pub fn text(job: &Job) -> String {
 }
 
 /// The values of a set as ` r0=1 r2=-3`.
-pub fn values(names: &[String], set: &[(u8, i32)]) -> String {
+pub fn values(names: &[String], set: &[(u16, i32)]) -> String {
     let mut text = String::new();
     for &(region, value) in set {
         let _ = write!(text, " {}={value}", names[usize::from(region)]);
@@ -462,12 +462,16 @@ mod tests {
 
     #[test]
     fn a_job_that_is_full_is_said_once() {
-        let region = |number: i32| format!("region r{number} 0 {} 1\n", f64::from(number) / 1024.0);
-        let regions: String = (0..260).map(region).collect();
-        let wrong = wrong(format!("axes 1\n{regions}set r0=1 r259=3\n"));
+        let region = |number: i32| {
+            let peak = f64::from(number) / 16_384.0;
+            format!("region r{number} 0 {peak} 1\n")
+        };
+        let regions: String = (0..32_767).map(region).collect();
+        let more = "region more -1 -1 0\nregion most -1 -1 -1\n";
+        let wrong = wrong(format!("axes 1\n{regions}{more}set r0=1 most=3\n"));
         assert_eq!(
             wrong,
-            ["line 258: more than 256 regions; a job has no room"]
+            ["line 32769: more than 32767 regions; a job has no room"]
         );
     }
 }

@@ -179,12 +179,12 @@ fn the_mode_that_takes_it() {
 fn a_large_job_opens_soon() {
     let folder = folder("report_large");
     let mut job = JobWriter::new(1);
-    let regions: Vec<u8> = (1..=10)
+    let regions: Vec<u16> = (1..=10)
         .map(|peak| job.region(&[(0, peak, 100)]).unwrap())
         .collect();
     for set in 0..60_000 {
         let named = regions.iter().filter(|&&region| set >> region & 1 == 1);
-        let values: Vec<(u8, i32)> = named.map(|&region| (region, 1 + set / 1_024)).collect();
+        let values: Vec<(u16, i32)> = named.map(|&region| (region, 1 + set / 1_024)).collect();
         job.set(&values).unwrap();
     }
     fs::write(folder.join("job"), job.finish()).unwrap();

@@ -97,7 +97,7 @@ fn shapes(job: &Job) -> usize {
         _ if i16::try_from(v).is_ok() => 2,
         _ => 4,
     };
-    let shape = |set: &Vec<(u8, i32)>| -> BTreeSet<(Vec<[i16; 3]>, i32)> {
+    let shape = |set: &Vec<(u16, i32)>| -> BTreeSet<(Vec<[i16; 3]>, i32)> {
         set.iter()
             .filter(|v| v.1 != 0)
             .map(|v| (job.regions[v.0 as usize].clone(), bytes(v.1)))

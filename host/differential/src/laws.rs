@@ -128,7 +128,7 @@ fn shapes(job: &Job) -> Vec<Shape> {
         _ if i16::try_from(value).is_ok() => 2,
         _ => 4,
     };
-    let shape = |set: &Vec<(u8, i32)>| {
+    let shape = |set: &Vec<(u16, i32)>| {
         let mut widths = vec![0; index.len()];
         for (region, value) in set {
             let at = index[&job.regions[*region as usize]];

@@ -8,7 +8,7 @@ use jobs::Job;
 
 /// Two merges' worth of shapes, a set said twice, a region never named.
 fn job() -> Vec<u8> {
-    let sets: [&[(u8, i32)]; 5] = [&[(0, 1)], &[(1, 1)], &[(2, 300)], &[(0, 1)], &[]];
+    let sets: [&[(u16, i32)]; 5] = [&[(0, 1)], &[(1, 1)], &[(2, 300)], &[(0, 1)], &[]];
     Job::one_axis(4).with(&sets).to_bytes()
 }
 

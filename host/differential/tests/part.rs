@@ -44,7 +44,7 @@ const EQUAL: Result<Parted, (u32, u64, u64)> = Ok(Parted::Equal);
 #[test]
 fn indexes_go_by_first_use() {
     // Region 2 is index 0, by a zero; region 0 is index 1; region 1 is never named.
-    let sets: [&[(u8, i32)]; 4] = [&[(2, 0), (0, 5)], &[(0, 4), (2, 9)], &[(0, 5)], &[]];
+    let sets: [&[(u16, i32)]; 4] = [&[(2, 0), (0, 5)], &[(0, 4), (2, 9)], &[(0, 5)], &[]];
     let job = Job::one_axis(3).with(&sets).to_bytes();
     assert_eq!(part(1, &job, 0, 1), smaller(0, 2, [0, 9]));
     assert_eq!(part(1, &job, 1, 0), larger(0, 2, [9, 0]));
@@ -56,7 +56,7 @@ fn indexes_go_by_first_use() {
 /// Values are signed, of all 32 bits; none counts as 0.
 #[test]
 fn values_are_signed() {
-    let sets: [&[(u8, i32)]; 4] = [&[(0, i32::MIN)], &[(0, i32::MAX)], &[], &[(0, -1)]];
+    let sets: [&[(u16, i32)]; 4] = [&[(0, i32::MIN)], &[(0, i32::MAX)], &[], &[(0, -1)]];
     let job = Job::one_axis(1).with(&sets).to_bytes();
     assert_eq!(part(1, &job, 0, 1), smaller(0, 0, [i32::MIN, i32::MAX]));
     assert_eq!(part(1, &job, 2, 3), larger(0, 0, [0, -1]));

@@ -10,7 +10,7 @@ use crate::wording;
 const ONE: i16 = 0x4000;
 
 /// The most regions of a job.
-const REGIONS: usize = 256;
+const REGIONS: usize = 32_767;
 
 impl Refused {
     /// The refusal in words, with what stands in the job at its place and what was due
@@ -75,8 +75,16 @@ impl<'a> Around<'a> {
         }
         let record = self.record(self.place)?;
         Some(match refused.number {
-            UNKNOWN_REGION => format!("region {} is named, and {}", record[1], self.regions()),
-            REGION_TWICE => format!("region {} is named, and {}", record[1], self.twice(record)?),
+            UNKNOWN_REGION => {
+                format!("region {} is named, and {}", region(record), self.regions())
+            }
+            REGION_TWICE => {
+                format!(
+                    "region {} is named, and {}",
+                    region(record),
+                    self.twice(record)?
+                )
+            }
             UNKNOWN_KIND => format!(
                 "byte 0, the kind, is 0x{:02X} and must be 1 (axis), 2 (value) or 3 (end)",
                 record[0]
@@ -151,19 +159,19 @@ impl<'a> Around<'a> {
 
     /// Where the set of this value has named its coordinates before.
     fn twice(&self, record: &[u8]) -> Option<String> {
-        let coordinates = |region: u8| -> Option<Vec<&[u8]>> {
+        let coordinates = |region: u16| -> Option<Vec<&[u8]>> {
             let first = self.axes * usize::from(region);
             let axis = |number| Some(&self.record(number)?[4..10]);
             (first..first + self.axes).map(axis).collect()
         };
-        let (region, due) = (record[1], coordinates(record[1])?);
+        let (named_here, due) = (region(record), coordinates(region(record))?);
         let set = (0..self.place).rev().map_while(|number| {
             let value = self.record(number).filter(|record| record[0] == 2)?;
-            Some((number, value[1]))
+            Some((number, region(value)))
         });
         let mut named = set.filter(|&(_, other)| coordinates(other).as_ref() == Some(&due));
         let (number, other) = named.next()?;
-        Some(if other == region {
+        Some(if other == named_here {
             format!("record {number} of this set has named it already")
         } else {
             format!("record {number} of this set has named region {other}, of the same coordinates")
@@ -174,7 +182,7 @@ impl<'a> Around<'a> {
 /// The value that is too long for 16 bits.
 fn long(record: &[u8]) -> Option<String> {
     let value = i32::from_be_bytes(record.get(4..8)?.try_into().ok()?);
-    let region = record[1];
+    let region = region(record);
     Some(format!(
         "the value of region {region} is {value}, and the panel's reader takes -32768 to 32767"
     ))
@@ -200,7 +208,7 @@ fn odd(record: &[u8]) -> Option<String> {
     let part = |x: i16| f64::from(x) / f64::from(ONE);
     Some(format!(
         "region {} axis {} has start {}, peak {}, end {}: {rule}",
-        record[1],
+        region(record),
         record[2],
         part(start),
         part(peak),
@@ -208,17 +216,21 @@ fn odd(record: &[u8]) -> Option<String> {
     ))
 }
 
+/// The region of an axis or value record: the low byte is byte 1, the high byte is byte 3 (J1).
+fn region(record: &[u8]) -> u16 {
+    u16::from_be_bytes([record[3], record[1]])
+}
+
 /// The axis record that stands here.
 fn stands(record: &[u8]) -> String {
-    format!("region {} axis {} stands here", record[1], record[2])
+    format!("region {} axis {} stands here", region(record), record[2])
 }
 
 /// Why a byte of a record is 0.
 fn nothing(record: &[u8], byte: u64) -> Option<&'static str> {
     Some(match (record[0], byte) {
-        (1, 3) => "an axis record has nothing between its axis and its start",
         (1, _) => "an axis record has nothing behind its coordinates",
-        (2, 2 | 3) => "a value record has nothing between its region and its value",
+        (2, 2) => "a value record has no axis",
         (2, _) => "a value record has nothing behind its value",
         (3, _) => "an end record has nothing but its kind",
         _ => return None,
@@ -238,7 +250,7 @@ fn nothing(record: &[u8], byte: u64) -> Option<&'static str> {
 pub fn written_for(job: &[u8]) -> Option<usize> {
     let head = job.chunks_exact(RECORD).take_while(|record| record[0] == 1);
     let numbers: Vec<(usize, usize)> = head
-        .map(|record| (usize::from(record[1]), usize::from(record[2])))
+        .map(|record| (usize::from(region(record)), usize::from(record[2])))
         .collect();
     let of_first = numbers
         .iter()
@@ -257,12 +269,14 @@ mod tests {
     const END: [u8; RECORD] = [3, 0, 0, 0, 0, 0, 0, 0, 0, 0, 0, 0];
 
     /// An axis record, told apart from others by its start.
-    fn axis(region: u8, axis: u8, start: u8) -> [u8; RECORD] {
-        [1, region, axis, 0, 0, start, 0, 0, 0, 0, 0, 0]
+    fn axis(region: u16, axis: u8, start: u8) -> [u8; RECORD] {
+        let [high, low] = region.to_be_bytes();
+        [1, low, axis, high, 0, start, 0, 0, 0, 0, 0, 0]
     }
 
-    fn value(region: u8) -> [u8; RECORD] {
-        [2, region, 0, 0, 0, 0, 0, 5, 0, 0, 0, 0]
+    fn value(region: u16) -> [u8; RECORD] {
+        let [high, low] = region.to_be_bytes();
+        [2, low, 0, high, 0, 0, 0, 5, 0, 0, 0, 0]
     }
 
     fn explained(number: u32, place: u64, byte: u64, axes: u32, job: &[[u8; RECORD]]) -> String {
@@ -295,8 +309,7 @@ mod tests {
             "byte 10 is 0x20 and must be 0: an axis record has nothing behind its coordinates; \
              write 0 there"
         );
-        assert!(wrong(axis(0, 0, 0), 3).contains("between its axis and its start"));
-        assert!(wrong(value(0), 2).contains("between its region and its value"));
+        assert!(wrong(value(0), 2).contains("a value record has no axis"));
         assert!(wrong(value(0), 8).contains("behind its value"));
         assert!(wrong(END, 1).contains("nothing but its kind"));
     }
@@ -320,10 +333,14 @@ mod tests {
             "region 1 axis 0 stands here, region 0 axis 2 was due; \
              the job looks as if written for 2 axes"
         );
-        let mut full: Vec<_> = (0..=255).map(|region| axis(region, 0, 0)).collect();
-        full.push(axis(0, 0, 0));
-        let said = "region 0 axis 0 stands here, none was due: a job has at most 256 regions; ";
-        assert!(explained(32, 256, 0, 1, &full).starts_with(said));
+        let past = [axis(0, 0, 0), axis(258, 0, 0)];
+        let said = "region 258 axis 0 stands here, region 1 axis 0 was due; ";
+        assert!(explained(32, 1, 0, 1, &past).starts_with(said));
+        let mut full: Vec<_> = (0..32_767).map(|region| axis(region, 0, 0)).collect();
+        full.push(axis(32_767, 0, 0));
+        let said =
+            "region 32767 axis 0 stands here, none was due: a job has at most 32767 regions; ";
+        assert!(explained(32, 32_767, 0, 1, &full).starts_with(said));
     }
 
     #[test]
@@ -353,7 +370,7 @@ mod tests {
     #[test]
     fn regions_that_are_named() {
         let job = [axis(0, 0, 1), axis(1, 0, 2), axis(2, 0, 1)];
-        let values = |values: &[u8]| {
+        let values = |values: &[u16]| {
             let values = values.iter().map(|&region| value(region));
             job.into_iter().chain(values).collect::<Vec<_>>()
         };
@@ -365,7 +382,8 @@ mod tests {
         let unknown = |job: &[_]| explained(6, job.len() as u64 - 1, 0, 1, job);
         assert!(unknown(&[job[0], value(1)]).contains("and the job has one, region 0; "));
         assert!(unknown(&[value(1)]).contains("and the job has no regions; "));
-        let twice = |regions: &[u8]| explained(7, 2 + regions.len() as u64, 0, 1, &values(regions));
+        let twice =
+            |regions: &[u16]| explained(7, 2 + regions.len() as u64, 0, 1, &values(regions));
         let same = "region 1 is named, and record 3 of this set has named it already; ";
         assert!(twice(&[1, 0, 1]).starts_with(same));
         let like = "region 2 is named, and record 4 of this set has named region 0, \

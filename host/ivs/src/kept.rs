@@ -21,7 +21,7 @@ impl Packed {
     /// assert_eq!([light, bold, unused].map(|r| packed.region(r)), [Some(0), Some(1), None]);
     /// # Ok::<(), ivs::Error>(())
     /// ```
-    pub fn region(&self, region: u8) -> Option<u32> {
+    pub fn region(&self, region: u16) -> Option<u32> {
         *self.regions.get(usize::from(region))?
     }
 
@@ -56,7 +56,7 @@ impl Packed {
     /// assert_eq!(packed.value(2, bold), None);
     /// # Ok::<(), ivs::Error>(())
     /// ```
-    pub fn value(&self, set: usize, region: u8) -> Option<i32> {
+    pub fn value(&self, set: usize, region: u16) -> Option<i32> {
         let word = self.word(set)?;
         let Some(number) = *self.regions.get(usize::from(region))? else {
             return Some(0);

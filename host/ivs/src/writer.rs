@@ -2,11 +2,13 @@
 
 use crate::refusals::RECORD;
 use crate::Job;
+use std::collections::{HashMap, HashSet};
 use std::error::Error;
 use std::fmt;
 
-/// The most axes and the most records of a job (J3).
+/// The most axes, regions and records of a job (J3).
 const AXES: usize = 64;
+const REGIONS: usize = 32_767;
 const RECORDS: usize = 1_048_576;
 
 /// Start, peak and end on one axis, as raw F2Dot14 numbers (0x4000 is 1).
@@ -29,6 +31,8 @@ pub type Tent = (i16, i16, i16);
 pub struct JobWriter {
     axes: usize,
     regions: Vec<Region>,
+    /// The first region of each coordinates.
+    firsts: HashMap<Vec<Tent>, u16>,
     /// Records of the sets. They come after all axis records, so they wait for `finish`,
     /// and regions and sets may be given in any order.
     sets: Vec<u8>,
@@ -38,7 +42,7 @@ pub struct JobWriter {
 struct Region {
     tents: Vec<Tent>,
     /// The first region with the same coordinates: a set may name only one of them.
-    first_like: u8,
+    first_like: u16,
 }
 
 /// What a job cannot say; the writer is left as it was.
@@ -60,12 +64,12 @@ pub enum JobError {
         /// The axis count.
         axes: usize,
     },
-    /// It would be the 257th region.
+    /// It would be the 32,768th region.
     RegionsFull,
     /// A set names a region that was not given.
-    UnknownRegion(u8),
+    UnknownRegion(u16),
     /// A set names a region whose coordinates it has named already.
-    RegionTwice(u8),
+    RegionTwice(u16),
     /// The job would have more than 1,048,576 records.
     RecordsFull,
 }
@@ -80,6 +84,7 @@ impl JobWriter {
         JobWriter {
             axes,
             regions: Vec::new(),
+            firsts: HashMap::new(),
             sets: Vec::new(),
         }
     }
@@ -93,7 +98,7 @@ impl JobWriter {
     /// let wrong = ivs::JobError::Triples { given: 1, axes: 2 };
     /// assert_eq!(job.region(&[(0, 0x4000, 0x4000)]), Err(wrong));
     /// ```
-    pub fn region(&mut self, tents: &[Tent]) -> Result<u8, JobError> {
+    pub fn region(&mut self, tents: &[Tent]) -> Result<u16, JobError> {
         if self.axes == 0 || self.axes > AXES {
             return Err(JobError::Axes(self.axes));
         }
@@ -103,12 +108,15 @@ impl JobWriter {
                 axes: self.axes,
             });
         }
-        let number = u8::try_from(self.regions.len()).map_err(|_| JobError::RegionsFull)?;
+        if self.regions.len() == REGIONS {
+            return Err(JobError::RegionsFull);
+        }
         self.room_for(self.axes)?;
-        let like = self.regions.iter().find(|region| region.tents == tents);
+        let number = self.regions.len() as u16;
+        let first_like = *self.firsts.entry(tents.to_vec()).or_insert(number);
         self.regions.push(Region {
             tents: tents.to_vec(),
-            first_like: like.map_or(number, |region| region.first_like),
+            first_like,
         });
         Ok(number)
     }
@@ -123,14 +131,13 @@ impl JobWriter {
     /// assert_eq!(job.set(&[(bold, 1), (bold, 2)]), Err(ivs::JobError::RegionTwice(bold)));
     /// # Ok::<(), ivs::JobError>(())
     /// ```
-    pub fn set(&mut self, values: &[(u8, i32)]) -> Result<(), JobError> {
-        let mut named = [false; 256];
+    pub fn set(&mut self, values: &[(u16, i32)]) -> Result<(), JobError> {
+        let mut named = HashSet::with_capacity(values.len());
         for &(number, _) in values {
             let Some(region) = self.regions.get(usize::from(number)) else {
                 return Err(JobError::UnknownRegion(number));
             };
-            let before = &mut named[usize::from(region.first_like)];
-            if std::mem::replace(before, true) {
+            if !named.insert(region.first_like) {
                 return Err(JobError::RegionTwice(number));
             }
         }
@@ -152,7 +159,7 @@ impl JobWriter {
     /// ```
     pub fn finish(self) -> Vec<u8> {
         let mut job = Vec::with_capacity(RECORD * self.records());
-        for (number, region) in (0..=u8::MAX).zip(&self.regions) {
+        for (number, region) in (0..=u16::MAX).zip(&self.regions) {
             for (axis, &tent) in (0..=u8::MAX).zip(&region.tents) {
                 job.extend(axis_record(number, axis, tent));
             }
@@ -189,16 +196,19 @@ impl JobWriter {
 
 const END_RECORD: [u8; RECORD] = [3, 0, 0, 0, 0, 0, 0, 0, 0, 0, 0, 0];
 
-fn axis_record(region: u8, axis: u8, (start, peak, end): Tent) -> [u8; RECORD] {
-    let mut record = [1, region, axis, 0, 0, 0, 0, 0, 0, 0, 0, 0];
+/// The low byte of a region's number stands in byte 1, the high byte in byte 3 (J1).
+fn axis_record(region: u16, axis: u8, (start, peak, end): Tent) -> [u8; RECORD] {
+    let [high, low] = region.to_be_bytes();
+    let mut record = [1, low, axis, high, 0, 0, 0, 0, 0, 0, 0, 0];
     record[4..6].copy_from_slice(&start.to_be_bytes());
     record[6..8].copy_from_slice(&peak.to_be_bytes());
     record[8..10].copy_from_slice(&end.to_be_bytes());
     record
 }
 
-fn value_record(region: u8, value: i32) -> [u8; RECORD] {
-    let mut record = [2, region, 0, 0, 0, 0, 0, 0, 0, 0, 0, 0];
+fn value_record(region: u16, value: i32) -> [u8; RECORD] {
+    let [high, low] = region.to_be_bytes();
+    let mut record = [2, low, 0, high, 0, 0, 0, 0, 0, 0, 0, 0];
     record[4..8].copy_from_slice(&value.to_be_bytes());
     record
 }
@@ -211,7 +221,9 @@ impl fmt::Display for JobError {
                 f,
                 "{given} triples of start, peak, end; give one for each of the {axes} axes"
             ),
-            JobError::RegionsFull => f.write_str("more than 256 regions; a job has no room"),
+            JobError::RegionsFull => {
+                write!(f, "more than {REGIONS} regions; a job has no room")
+            }
             JobError::UnknownRegion(region) => {
                 write!(
                     f,
@@ -286,11 +298,11 @@ mod tests {
     #[test]
     fn limits() {
         let mut job = JobWriter::new(1);
-        for number in 0..=255 {
-            assert_eq!(job.region(&[(0, number, 0)]), Ok(number as u8));
+        for number in 0..32_767u16 {
+            assert_eq!(job.region(&[(0, number as i16, 0)]), Ok(number));
         }
         assert_eq!(job.region(&[R0]), Err(JobError::RegionsFull));
-        for _ in 256..RECORDS {
+        for _ in REGIONS..RECORDS {
             job.set(&[]).unwrap();
         }
         assert_eq!(job.set(&[]), Err(JobError::RecordsFull));

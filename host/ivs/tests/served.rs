@@ -43,16 +43,16 @@ impl Numbers {
 /// A job of one axis: some regions, some sets; of three one is cut off or damaged.
 fn job(numbers: &mut Numbers) -> Vec<u8> {
     let mut job = ivs::JobWriter::new(1);
-    let regions = 1 + numbers.below(6) as u8;
+    let regions = 1 + numbers.below(6) as u16;
     for region in 0..regions {
-        job.region(&[(0, i16::from(region), 0x4000)]).unwrap();
+        job.region(&[(0, region as i16, 0x4000)]).unwrap();
     }
     for _ in 0..numbers.below(40) {
         let values = [1, 300, 70_000].map(|most| numbers.below(2 * most) as i32 - most as i32);
         let named = (0..regions)
             .filter(|_| numbers.below(2) == 0)
-            .collect::<Vec<u8>>();
-        let value = |&region: &u8| (region, values[usize::from(region) % 3]);
+            .collect::<Vec<u16>>();
+        let value = |&region: &u16| (region, values[usize::from(region) % 3]);
         job.set(&named.iter().map(value).collect::<Vec<_>>())
             .unwrap();
     }

@@ -27,7 +27,7 @@ pub fn merged(count: usize) -> Job {
 pub fn behind(count: usize) -> Job {
     let mut job = Job::one_axis(2);
     let sets =
-        |region: u8, count: usize| (0..count).map(move |n| vec![(region, 70_000 + n as i32)]);
+        |region: u16, count: usize| (0..count).map(move |n| vec![(region, 70_000 + n as i32)]);
     job.sets = sets(0, count).chain(sets(1, 40)).collect();
     job
 }
@@ -49,7 +49,7 @@ pub fn made(maker: &str, count: usize) -> Option<Job> {
 pub fn shapes(count: usize) -> Job {
     const OF_WIDTH: [i32; 4] = [0, 1, 1_000, 100_000];
     let mut job = Job::one_axis(6);
-    let value = |n: usize, r: u32| (r as u8, OF_WIDTH[n / 4usize.pow(r) % 4]);
+    let value = |n: usize, r: u32| (r as u16, OF_WIDTH[n / 4usize.pow(r) % 4]);
     job.sets = (0..count)
         .map(|n| (0..6).map(|r| value(n, r)).collect())
         .collect();
@@ -60,13 +60,44 @@ pub fn shapes(count: usize) -> Job {
 /// n-th without region n mod 256.
 pub fn most_records() -> Job {
     let mut job = Job::one_axis(256);
-    let value = |n: usize, r: usize| (r as u8, (n * 7 + r * 11) as i32 % 100 + 1);
+    let value = |n: usize, r: usize| (r as u16, (n * 7 + r * 11) as i32 % 100 + 1);
     let set = |n: usize| {
         (0..256)
             .filter(move |r| *r != n % 256)
             .map(move |r| value(n, r))
     };
     job.sets = (0..4_095).map(|n| set(n).collect()).collect();
+    job
+}
+
+/// `count` regions and two sets that name all of them, the second in the other order: values of
+/// one byte, and of two for every third region.
+pub fn regions(count: usize) -> Job {
+    let mut job = Job::one_axis(count);
+    let value = |r: usize| {
+        (
+            r as u16,
+            (r % 100 + 1) as i32 * if r % 3 == 0 { 300 } else { 1 },
+        )
+    };
+    let set: Vec<(u16, i32)> = (0..count).map(value).collect();
+    let turned = set.iter().rev().map(|v| (v.0, v.1 - 1)).collect();
+    job.sets = vec![set, turned];
+    job
+}
+
+/// For mode 1: `rows` sets, of which the first names all of so many regions, the first `twos` of
+/// them with values of two bytes and the others with one byte. The other sets are empty, and
+/// their rows as long as the first.
+pub fn long_rows(axes: usize, regions: usize, twos: usize, rows: usize) -> Job {
+    let mut job = Job::one_axis(regions);
+    job.axes = axes;
+    for region in &mut job.regions {
+        region.resize(axes, [0, 0, 0]);
+    }
+    let value = |r: usize| (r as u16, if r < twos { 1_000 } else { 1 });
+    job.sets = vec![Vec::new(); rows];
+    job.sets[0] = (0..regions).map(value).collect();
     job
 }
 

@@ -14,7 +14,7 @@ pub struct Example {
 }
 
 /// `count` different sets that name one region with a value of width One.
-fn ones(region: u8, count: i32) -> impl Iterator<Item = Vec<(u8, i32)>> {
+fn ones(region: u16, count: i32) -> impl Iterator<Item = Vec<(u16, i32)>> {
     (1..=count).map(move |value| vec![(region, value)])
 }
 

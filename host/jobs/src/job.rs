@@ -3,6 +3,9 @@
 /// Bytes of a record.
 pub const RECORD: usize = 12;
 
+/// The most regions of a job (J3).
+pub const REGIONS: usize = 32_767;
+
 /// A region: start, peak, end of each axis.
 pub type Region = Vec<[i16; 3]>;
 
@@ -14,7 +17,7 @@ pub struct Job {
     /// The regions by number.
     pub regions: Vec<Region>,
     /// The sets: (region number, value), in the order of their records.
-    pub sets: Vec<Vec<(u8, i32)>>,
+    pub sets: Vec<Vec<(u16, i32)>>,
 }
 
 impl Job {
@@ -31,7 +34,7 @@ impl Job {
     }
 
     /// The job with these sets.
-    pub fn with(mut self, sets: &[&[(u8, i32)]]) -> Job {
+    pub fn with(mut self, sets: &[&[(u16, i32)]]) -> Job {
         self.sets = sets.iter().map(|set| set.to_vec()).collect();
         self
     }
@@ -47,7 +50,7 @@ impl Job {
         let mut bytes = Vec::with_capacity(RECORD * self.records());
         for (r, region) in self.regions.iter().enumerate() {
             for (a, coordinates) in region.iter().enumerate() {
-                bytes.extend(axis_record(r as u8, a as u8, *coordinates));
+                bytes.extend(axis_record(r as u16, a as u8, *coordinates));
             }
         }
         for set in &self.sets {
@@ -73,17 +76,20 @@ impl Job {
             .collect();
         let rest: Vec<&[u8]> = records().filter(|r| r[0] != 1).collect();
         let set = |part: &[&[u8]]| {
-            let value = |r: &&[u8]| (r[1], i32::from_be_bytes([r[4], r[5], r[6], r[7]]));
+            let value = |r: &&[u8]| {
+                let value = i32::from_be_bytes([r[4], r[5], r[6], r[7]]);
+                (u16::from_be_bytes([r[3], r[1]]), value)
+            };
             part.iter().map(value).collect()
         };
-        let mut sets: Vec<Vec<(u8, i32)>> = rest.split(|r| r[0] == 3).map(set).collect();
+        let mut sets: Vec<Vec<(u16, i32)>> = rest.split(|r| r[0] == 3).map(set).collect();
         sets.pop();
         let job = Job {
             axes,
             regions: coordinates.chunks(axes.max(1)).map(<[_]>::to_vec).collect(),
             sets,
         };
-        let whole = job.regions.iter().all(|r| r.len() == axes) && job.regions.len() <= 256;
+        let whole = job.regions.iter().all(|r| r.len() == axes) && job.regions.len() <= REGIONS;
         (whole && job.to_bytes() == bytes && job.names_well()).then_some(job)
     }
 
@@ -103,9 +109,10 @@ impl Job {
 /// An end record.
 pub const END_RECORD: [u8; RECORD] = [3, 0, 0, 0, 0, 0, 0, 0, 0, 0, 0, 0];
 
-/// An axis record.
-pub fn axis_record(region: u8, axis: u8, coordinates: [i16; 3]) -> [u8; RECORD] {
-    let mut record = [1, region, axis, 0, 0, 0, 0, 0, 0, 0, 0, 0];
+/// An axis record. The high byte of the region's number stands in byte 3 (J1).
+pub fn axis_record(region: u16, axis: u8, coordinates: [i16; 3]) -> [u8; RECORD] {
+    let [high, low] = region.to_be_bytes();
+    let mut record = [1, low, axis, high, 0, 0, 0, 0, 0, 0, 0, 0];
     for (i, coordinate) in coordinates.iter().enumerate() {
         record[4 + 2 * i..6 + 2 * i].copy_from_slice(&coordinate.to_be_bytes());
     }
@@ -113,8 +120,9 @@ pub fn axis_record(region: u8, axis: u8, coordinates: [i16; 3]) -> [u8; RECORD] 
 }
 
 /// A value record.
-pub fn value_record(region: u8, value: i32) -> [u8; RECORD] {
-    let mut record = [2, region, 0, 0, 0, 0, 0, 0, 0, 0, 0, 0];
+pub fn value_record(region: u16, value: i32) -> [u8; RECORD] {
+    let [high, low] = region.to_be_bytes();
+    let mut record = [2, low, 0, high, 0, 0, 0, 0, 0, 0, 0, 0];
     record[4..8].copy_from_slice(&value.to_be_bytes());
     record
 }

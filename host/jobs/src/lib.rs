@@ -21,5 +21,5 @@ pub mod random;
 mod rng;
 pub mod small;
 
-pub use job::{Job, Region, RECORD};
+pub use job::{Job, Region, RECORD, REGIONS};
 pub use rng::Rng;

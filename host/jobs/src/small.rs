@@ -71,16 +71,16 @@ impl Small {
     }
 
     /// Every set that the kind allows.
-    fn all_sets(&self) -> Vec<Vec<(u8, i32)>> {
+    fn all_sets(&self) -> Vec<Vec<(u16, i32)>> {
         let mut sets = Vec::new();
         each_sequence(self.values.len() + 1, self.peaks.len(), |choice| {
-            let mut set: Vec<(u8, i32)> = Vec::new();
+            let mut set: Vec<(u16, i32)> = Vec::new();
             for (region, &c) in choice.iter().enumerate() {
                 if let Some(&value) = self.values.get(c) {
-                    set.push((region as u8, value));
+                    set.push((region as u16, value));
                 }
             }
-            let peak = |v: &(u8, i32)| self.peaks[v.0 as usize];
+            let peak = |v: &(u16, i32)| self.peaks[v.0 as usize];
             let twice = (1..set.len()).any(|i| set[..i].iter().any(|v| peak(v) == peak(&set[i])));
             if twice {
                 return;

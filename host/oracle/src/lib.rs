@@ -46,7 +46,7 @@ pub struct Built {
 }
 
 /// A set: (number of a region, value).
-pub type Set = Vec<(u8, i32)>;
+pub type Set = Vec<(u16, i32)>;
 
 /// Builds with the source: mode 0 deduplicating, any other implicit indices. A
 /// set must name only regions that there are. None without the source.
@@ -120,7 +120,7 @@ type Given = Vec<(VariationRegion, i32)>;
 
 fn given(regions: &[Region], sets: &[Set]) -> Vec<Given> {
     let regions: Vec<VariationRegion> = regions.iter().map(region).collect();
-    let value = |v: &(u8, i32)| (regions[v.0 as usize].clone(), v.1);
+    let value = |v: &(u16, i32)| (regions[v.0 as usize].clone(), v.1);
     sets.iter()
         .map(|set| set.iter().map(value).collect())
         .collect()

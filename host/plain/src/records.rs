@@ -6,6 +6,9 @@ use crate::Profile;
 /// Bytes of a record.
 pub const RECORD: usize = 12;
 
+/// The most regions of a job (J3).
+pub const REGIONS: usize = 32_767;
+
 /// A region: start, peak, end of each axis, whatever they are (J5).
 pub type Region = Vec<[i16; 3]>;
 
@@ -82,6 +85,11 @@ fn panel(place: usize, record: &[u8]) -> Result<(), Refused> {
     Ok(())
 }
 
+/// The number of a region: its low byte stands in byte 1, its high byte in byte 3 (J1).
+fn region_of(record: &[u8]) -> usize {
+    256 * record[3] as usize + record[1] as usize
+}
+
 impl Reader<'_> {
     /// One record: its refusal, or what it says is taken in.
     fn record(&mut self, place: usize) -> Result<(), Refused> {
@@ -101,7 +109,7 @@ impl Reader<'_> {
                 return Ok(());
             }
             2 => {
-                let region = record[1] as usize;
+                let region = region_of(record);
                 if region >= self.regions() {
                     return refused(number::UNKNOWN_REGION);
                 }
@@ -131,8 +139,8 @@ impl Reader<'_> {
     /// first of them that applies (T2, T6).
     fn form(&self, record: &[u8]) -> Option<(u32, usize)> {
         let must_be_zero: &[usize] = match record[0] {
-            1 => &[3, 10, 11],
-            2 => &[2, 3, 8, 9, 10, 11],
+            1 => &[10, 11],
+            2 => &[2, 8, 9, 10, 11],
             3 => &[1, 2, 3, 4, 5, 6, 7, 8, 9, 10, 11],
             _ => return Some((number::UNKNOWN_KIND, 0)),
         };
@@ -149,10 +157,11 @@ impl Reader<'_> {
     }
 
     /// The axis record has the numbers after those of the axis records before it, wherever
-    /// it stands (J4). The 257th region's number does not fit its byte.
+    /// it stands (J4); behind the last region none is in turn.
     fn in_turn(&self, record: &[u8]) -> bool {
         let next = self.axis_records.len();
-        record[1] as usize == next / self.axes && record[2] as usize == next % self.axes
+        let region = next / self.axes;
+        region < REGIONS && region_of(record) == region && record[2] as usize == next % self.axes
     }
 
     /// Regions with all their axis records.

@@ -26,6 +26,7 @@ pub mod number {
     pub const AXIS_OUT_OF_TURN: u32 = 32;
     pub const AXIS_TOO_LATE: u32 = 33;
     pub const REGION_UNFINISHED: u32 = 34;
+    pub const STORE_TOO_BIG: u32 = 60;
     pub const ORIGINS_SHORT: u32 = 61;
     pub const NO_SET: u32 = 64;
     pub const LONG_VALUE: u32 = 70;
@@ -57,6 +58,7 @@ pub fn name(refusal: u32) -> &'static str {
         number::AXIS_OUT_OF_TURN => "AXIS_OUT_OF_TURN",
         number::AXIS_TOO_LATE => "AXIS_TOO_LATE",
         number::REGION_UNFINISHED => "REGION_UNFINISHED",
+        number::STORE_TOO_BIG => "STORE_TOO_BIG",
         number::ORIGINS_SHORT => "ORIGINS_SHORT",
         number::NO_SET => "NO_SET",
         number::LONG_VALUE => "LONG_VALUE",
