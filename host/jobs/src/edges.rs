@@ -40,6 +40,7 @@ pub fn made(maker: &str, count: usize) -> Option<Job> {
         "behind" => Some(behind(count)),
         "shapes" => Some(shapes(count)),
         "most_records" => Some(most_records()),
+        "regions" => Some(regions(count)),
         _ => None,
     }
 }
