@@ -16,7 +16,9 @@ ifdef IVS_LIB
 override IVS_LIB := $(abspath $(IVS_LIB))
 export IVS_LIB
 endif
-ARCHIVE = $(if $(IVS_LIB),$(IVS_LIB)/lib/libivs.a,target/staticlib/libivs.a)
+# The archive for this machine: on Arm, where Rattle's own is for another, the one that tools/native makes of it.
+OWN = $(firstword $(wildcard target/native/libivs.a) target/staticlib/libivs.a)
+ARCHIVE = $(if $(IVS_LIB),$(IVS_LIB)/lib/libivs.a,$(OWN))
 
 .PHONY: run install dist library program test bench check fmt
 
@@ -38,7 +40,7 @@ install: program
 dist:
 	rt check
 	@./tools/staticlib
-	./tools/dist target/dist target/staticlib/libivs.a
+	./tools/dist target/dist "$(OWN)"
 
 test:
 	./tests/run

@@ -1,4 +1,4 @@
-/* Fenikezo: item variation stores. Link with libivs.a (`make install`, or `rt staticlib ivs`), which is for x86-64.
+/* Fenikezo: item variation stores. Link with libivs.a (`make install`), which is for x86-64, and made on Arm for Arm.
  * docs/RULES.md has the rules, by labels (J1, R6), which are given below.
  *
  * A slice passes as a pointer and a length. A pointer must not be null, also where the length is 0, and must be aligned
@@ -48,11 +48,18 @@ extern "C" {
     EACH(41, GLYPH_MAP_SHORT) \
     EACH(42, BAD_GLYPH_MAP) \
     EACH(43, BAD_WIDTHS) \
+    EACH(50, REGIONS_EQUAL) \
+    EACH(51, REGIONS_OR_AXES) \
+    EACH(52, JOB_TOO_LONG) \
+    EACH(53, JOB_SHORT) \
+    EACH(60, STORE_TOO_BIG) \
     EACH(61, ORIGINS_SHORT) \
     EACH(64, NO_SET) \
     EACH(70, LONG_VALUE) \
     EACH(71, BAD_REGION) \
-    EACH(72, WIDE_SUBTABLE)
+    EACH(72, WIDE_SUBTABLE) \
+    EACH(73, PLACES_SHORT) \
+    EACH(74, KEPT_SHORT)
 
 /* The numbers by their names: IVS_DONE is 0, IVS_BAD_AXES is 1 and so on. Functions answer plain numbers. */
 enum ivs_refusal {
@@ -99,7 +106,8 @@ typedef struct {
  * answer is the refusal number, 0 for done; R1 to R61 say when each is given, T1 to T6 which one (1 BAD_AXES,
  * 2 BAD_MODE, 3 BAD_JOB_LENGTH, 4 WORK_SHORT, 6 UNKNOWN_REGION, 7 REGION_TWICE, 8 UNFINISHED, 9 SETS_FULL,
  * 10 SHAPES_FULL, 11 IDS_SHORT, 12 MAP_SHORT, 13 LOG_SHORT, 14 OUT_SHORT; of a record's form 30 UNKNOWN_KIND,
- * 31 NOT_ZERO, 32 AXIS_OUT_OF_TURN, 33 AXIS_TOO_LATE, 34 REGION_UNFINISHED; just behind 13, 61 ORIGINS_SHORT).
+ * 31 NOT_ZERO, 32 AXIS_OUT_OF_TURN, 33 AXIS_TOO_LATE, 34 REGION_UNFINISHED; just behind 13, 61 ORIGINS_SHORT, then
+ * 60 STORE_TOO_BIG: the store would have more than 4,294,967,295 bytes, which mode 0 never makes).
  *
  * Lent: work, as many words as ivs_work_words says; pairs, at least IVS_PAIRS records; out, for the store's bytes; ids,
  * a word for each set, its id; map, a word for each distinct id, outer x 65,536 + inner; log, 3 words for each shape
@@ -128,8 +136,8 @@ uint32_t ivs_build_panel(uint32_t axes, uint32_t mode, const uint8_t *job, size_
                          size_t origins_len, uint64_t *report);
 
 /* What ivs_build would say of a job, with nothing lent to write to (A4, H5): how many bytes the store takes, and how
- * much to lend for it. Answer and report are those of a build that is lent enough of all else: refusals 1 to 4, 6 to 10
- * and 30 to 34, or the ten counts. A build then needs report[2] bytes of out, a word of ids for each set (each end
+ * much to lend for it. Answer and report are those of a build that is lent enough of all else: refusals 1 to 4, 6 to 10,
+ * 30 to 34 and 60, or the ten counts. A build then needs report[2] bytes of out, a word of ids for each set (each end
  * record), report[5] words of map, 3 words of log for each shape but one (report[6]) and 2 words of origins for each.
  * Work and pairs are lent as for a build, and left as by it. */
 uint32_t ivs_forecast(uint32_t axes, uint32_t mode, const uint8_t *job, size_t job_len, uint32_t *work, size_t work_len,
@@ -176,6 +184,59 @@ uint64_t ivs_write_widths(const uint8_t *store, size_t store_len, const uint32_t
  * a major version other than 1, an offset of the store or of the map that is below 20 or not below the length; a map's
  * may be 0), then 42 BAD_GLYPH_MAP. Any bytes may be read. */
 uint64_t ivs_read_width(const uint8_t *table, size_t table_len, uint32_t glyph, uint32_t region);
+
+/* The 32-bit words of work that ivs_recover needs for a store of so many bytes (O2). */
+size_t ivs_recover_words(size_t bytes);
+
+/* A store read back into a job (O1 to O5, H8): its regions in the order of its list, then a set for each row, subtable by
+ * subtable, which names the region of each value that is not zero. Any bytes may be read. The answer is the refusal
+ * number, 0 for done: 4 WORK_SHORT, 20 BAD_STORE (also where only a subtable that nobody asks for is malformed),
+ * 50 REGIONS_EQUAL (the list has a region twice), 51 REGIONS_OR_AXES (more regions or axes than a job may have, or no
+ * axis), 52 JOB_TOO_LONG (more records than a job may have), 53 JOB_SHORT (the job does not fit in out).
+ *
+ * Lent: work, as many words as ivs_recover_words says; out, for the job's bytes. A refusal writes nothing to out, and what
+ * stands behind the job is left as it was. WORK_SHORT leaves work as it was; every other answer leaves zeros in all of it.
+ *
+ * The report has 16 words, and all are written: 0 the number, 1 the place, which is 0, 2 job bytes, 3 axes, 4 regions,
+ * 5 sets; all other words, and after a refusal all but word 0, are zero. */
+uint32_t ivs_recover(const uint8_t *store, size_t store_len, uint32_t *work, size_t work_len, uint8_t *out, size_t out_len,
+                     uint64_t *report);
+
+/* The 32-bit words of work that ivs_judge needs for a job of so many records and head regions and a store of so many bytes
+ * (Y2); 0 above the record limit. */
+size_t ivs_judge_words(size_t records, size_t regions, size_t bytes);
+
+/* Whether a store, whoever built it, gives every set of a job (Y1 to Y6, H9): word n of words is the row of set n, outer x
+ * 65,536 + inner. The store may order regions, subtables and rows as it likes, keep ones that nobody uses and leave room
+ * between its parts. The answer is the refusal number, 0 where the store was judged: 1, 3, 4 (words of work alone), 6 to 8
+ * and 30 to 34 as in a build. Work is lent as ivs_judge_words says, and left as by a build.
+ *
+ * The report has 16 words, and all are written: 0 the number, 1 the place and 12 the byte as for a build; 2 the verdict:
+ * 1 yes, 2 no by a set, 3 no by the store itself (malformed, of another axis count, or with a region twice); for 2, 3 is
+ * the first set that fails. A set without a word fails; words past the sets are not looked at. All other words are
+ * zero. */
+uint32_t ivs_judge(uint32_t axes, const uint8_t *job, size_t job_len, const uint8_t *store, size_t store_len,
+                   const uint32_t *words, size_t words_len, uint32_t *work, size_t work_len, uint64_t *report);
+
+/* The 32-bit words of work that ivs_keep needs for a store of so many bytes and a list of so many rows (K2); 0 for more than
+ * any memory holds. */
+size_t ivs_keep_words(size_t bytes, size_t rows);
+
+/* A store with only the rows of a list, outer x 65,536 + inner each, repeats allowed (K1 to K6, H10), and for each entry of
+ * the list its row's new place, in the same form. Rows and subtables keep their order, columns and word counts stay; a
+ * subtable without rows goes, and so does a region that no subtable names. The answer is the refusal number, 0 for done:
+ * 4 WORK_SHORT, 20 BAD_STORE (also where only a subtable that the list does not name is malformed), 21 NO_ROW (an entry
+ * names no row), 73 PLACES_SHORT (fewer words of places than entries), 74 KEPT_SHORT (the new store does not fit in out, or
+ * is longer than 4,294,967,295 bytes).
+ *
+ * Lent: work, as many words as ivs_keep_words says; out, for the store's bytes; places, a word for each entry. A refusal
+ * writes nothing to out and places, and what stands behind is left as it was. WORK_SHORT leaves work as it was; every other
+ * answer leaves zeros in all of it.
+ *
+ * The report has 16 words, and all are written: 0 the number, 1 the place, which is 0, 2 store bytes, 3 subtables,
+ * 4 regions kept, 5 rows kept; all other words, and after a refusal all but word 0, are zero. */
+uint32_t ivs_keep(const uint8_t *store, size_t store_len, const uint32_t *rows, size_t rows_len, uint32_t *work,
+                  size_t work_len, uint8_t *out, size_t out_len, uint32_t *places, size_t places_len, uint64_t *report);
 
 #ifdef __cplusplus
 }

@@ -4,7 +4,7 @@
 
 use std::env;
 use std::fs;
-use std::path::PathBuf;
+use std::path::{Path, PathBuf};
 use std::process::Command;
 
 /// The crate, and those that it reaches.
@@ -37,18 +37,34 @@ fn main() {
             }
         }
     }
-    let done = Command::new("rt")
-        .args(["staticlib", "merging_bench"])
-        .current_dir(&root)
-        .status()
-        .expect("Rattle's command `rt` can be run");
-    assert!(done.success(), "`rt staticlib merging_bench` refused");
+    // Rattle's own archive is for x86-64; on Arm one for that is made of the same module.
+    let folder = if env::consts::ARCH == "x86_64" {
+        run(
+            Command::new("rt").args(["staticlib", "merging_bench"]),
+            &root,
+        );
+        "staticlib"
+    } else {
+        run(Command::new("rt").args(["check", "merging_bench"]), &root);
+        run(
+            Command::new(root.join("tools/native")).arg("merging_bench"),
+            &root,
+        );
+        "native"
+    };
     // A copy, since Rattle's target folder is cleared by its verdict.
     let out = PathBuf::from(env::var_os("OUT_DIR").expect("cargo sets it"));
     let archive = "libmerging_bench.a";
-    let written = root.join("target/staticlib").join(archive);
+    let written = root.join("target").join(folder).join(archive);
     fs::copy(written, out.join(archive)).expect("Rattle has written the archive");
     println!("cargo:rustc-link-search=native={}", out.display());
     println!("cargo:rustc-link-lib=static=merging_bench");
     println!("cargo:rustc-link-arg=-Wl,--wrap=memset");
+}
+
+/// Runs a command in the repository's root, or says what is amiss.
+fn run(command: &mut Command, root: &Path) {
+    let done = command.current_dir(root).status();
+    let done = done.unwrap_or_else(|error| panic!("cannot run {command:?}: {error}"));
+    assert!(done.success(), "{command:?} refused");
 }

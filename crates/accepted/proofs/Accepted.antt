@@ -25,6 +25,7 @@ use Rattle.rule.specs.Told.{words}
 use Rattle.rule.proofs.Theorems.{words-length}
 use Rattle.store.specs.Placing.{allRuns, idWords, stored}
 use Rattle.said.specs.Records.{recordBytes}
+use Rattle.said.specs.Refusals.{mostBytes}
 use Rattle.said.specs.Sets.{Region}
 use Rattle.said.specs.Job.{Said, Outcome, refused, fine, inAxes, recordsFrom}
 use Rattle.said.specs.LentOpen.{Open}
@@ -120,13 +121,14 @@ module _ (axes mode : ℕ) (job : List ℕ) (records : ℕ) (s : Said) (e : reco
 
 -- ---- what is not refused late
 
--- each of refusals 10 to 14 and 61 is not given
+-- each of refusals 10 to 14, 60 and 61 is not given
 pub record Roomy (axes : ℕ) (coords : List (List ℕ)) (k : Packed) (l : Lengths) : Type 0 where
   pub shapes-few : k .groups ≤ maxShapes
   pub ids-fit : length (k .ids) ≤ l .ids
   pub map-fits : length (k .sets) ≤ l .map
   pub log-fits : 3 * (k .groups - 1) ≤ l .log
   pub origins-fit : 2 * k .groups ≤ l .origins
+  pub bytes-few : length (storeFor axes coords k) ≤ mostBytes
   pub out-fits : length (storeFor axes coords k) ≤ l .out
 
 roomy : (axes : ℕ) (coords : List (List ℕ)) (k : Packed) (l : Lengths) → lateNo axes coords k l ≡ 0 → Roomy axes coords k l
@@ -137,19 +139,22 @@ roomy axes coords k l z =
     let t₃ = leb (length (k .sets)) (l .map) in
     let t₄ = leb (3 * (k .groups - 1)) (l .log) in
     let t₅ = leb (2 * k .groups) (l .origins) in
-    let t₆ = leb (length (storeFor axes coords k)) (l .out) in
-    let a = first-passed t₁ 9 ((t₂, 11) ∷ (t₃, 12) ∷ (t₄, 13) ∷ (t₅, 61) ∷ (t₆, 14) ∷ []) z in
-    let b = first-passed t₂ 10 ((t₃, 12) ∷ (t₄, 13) ∷ (t₅, 61) ∷ (t₆, 14) ∷ []) (a .1) in
-    let c = first-passed t₃ 11 ((t₄, 13) ∷ (t₅, 61) ∷ (t₆, 14) ∷ []) (b .1) in
-    let d = first-passed t₄ 12 ((t₅, 61) ∷ (t₆, 14) ∷ []) (c .1) in
-    let o = first-passed t₅ 60 ((t₆, 14) ∷ []) (d .1) in
-    let f = first-passed t₆ 13 [] (o .1) in
+    let t₆ = leb (length (storeFor axes coords k)) mostBytes in
+    let t₇ = leb (length (storeFor axes coords k)) (l .out) in
+    let a = first-passed t₁ 9 ((t₂, 11) ∷ (t₃, 12) ∷ (t₄, 13) ∷ (t₅, 61) ∷ (t₆, 60) ∷ (t₇, 14) ∷ []) z in
+    let b = first-passed t₂ 10 ((t₃, 12) ∷ (t₄, 13) ∷ (t₅, 61) ∷ (t₆, 60) ∷ (t₇, 14) ∷ []) (a .1) in
+    let c = first-passed t₃ 11 ((t₄, 13) ∷ (t₅, 61) ∷ (t₆, 60) ∷ (t₇, 14) ∷ []) (b .1) in
+    let d = first-passed t₄ 12 ((t₅, 61) ∷ (t₆, 60) ∷ (t₇, 14) ∷ []) (c .1) in
+    let o = first-passed t₅ 60 ((t₆, 60) ∷ (t₇, 14) ∷ []) (d .1) in
+    let s = first-passed t₆ 59 ((t₇, 14) ∷ []) (o .1) in
+    let f = first-passed t₇ 13 [] (s .1) in
     record {
       shapes-few = leb-true (k .groups) maxShapes (a .0);
       ids-fit = leb-true (length (k .ids)) (l .ids) (b .0);
       map-fits = leb-true (length (k .sets)) (l .map) (c .0);
       log-fits = leb-true (3 * (k .groups - 1)) (l .log) (d .0);
       origins-fit = leb-true (2 * k .groups) (l .origins) (o .0);
+      bytes-few = leb-true (length (storeFor axes coords k)) mostBytes (s .0);
       out-fits = leb-true (length (storeFor axes coords k)) (l .out) (f .0);
     }
 

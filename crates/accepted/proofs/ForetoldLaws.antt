@@ -25,7 +25,7 @@ module _ (c : Lending) (s : Said) (e : outcomeOf c ≡ fine s) (b : Bytes (c .jo
   abbrev k : Packed
   k = packedOf (c .mode) s
 
-  sizes : Sized (c .axes) (length (s .used)) (coordsInUse s) (s .sets)
+  pub sizes : Sized (c .axes) (length (s .used)) (coordsInUse s) (s .sets)
   sizes =
       let w = fine-walk (c .axes) (c .mode) (c .job) (length (c .work)) (length (c .pairs)) s e in
       sized (c .axes) (c .mode) (c .job) (length (c .job) / recordBytes) s (w .1) (w .0 .some) b (w .0 .most) (w .0 .few)

@@ -14,10 +14,12 @@ use Rattle.groups.specs.Groups.{groupsOf}
 use Rattle.stores.specs.Stores.{Bytes}
 use Rattle.encoder.specs.Packed.{Packed, shared, own}
 use Rattle.encoder.proofs.DenseIds.{set-of-id}
+use Rattle.said.specs.Refusals.{mostBytes}
+use Rattle.finishing.specs.Late.{storeFor}
 use Rattle.limits.specs.Limits.{mostRecords, mostAxes, maxRegions, maxShapes}
 use Rattle.accepted.proofs.PackedLaws.{Words, shared-good, own-good, WellPacked}
 use Rattle.accepted.proofs.RowsBack.{RowsBack, rows-back}
-use Rattle.accepted.proofs.ShortLaws.{Storable, fit, store-short}
+use Rattle.accepted.proofs.ShortLaws.{Storable, fit}
 use Rattle.accepted.proofs.ListBack.{ListBack, list-back}
 
 -- word n of ids is set n's id (S6)
@@ -83,23 +85,23 @@ module _ (axes regions : ℕ) (coords : List (List ℕ)) (jobs : List Set) (s : 
     sets-few = sets;
   }
 
-  back : (k : Packed) → Storable axes regions coords k → ((n : ℕ) → n < length jobs → IdOf jobs k n) → GivesBack axes regions coords jobs k
-  back k f ids = record {
+  back : (k : Packed) → Storable axes regions coords k → length (storeFor axes coords k) ≤ mostBytes → ((n : ℕ) → n < length jobs → IdOf jobs k n) → GivesBack axes regions coords jobs k
+  back k f short ids = record {
     ids = ids;
-    reads = rows-back axes regions coords k (f .good) (f .coords-are) (fit axes regions coords k f) (store-short axes regions coords k f);
-    list = list-back axes regions coords k (f .coords-are) (fit axes regions coords k f) (store-short axes regions coords k f);
+    reads = rows-back axes regions coords k (f .good) (f .coords-are) (fit axes regions coords k f) (omega arith);
+    list = list-back axes regions coords k (f .coords-are) (fit axes regions coords k f) (omega arith);
   }
 
   pub shared-storable : length (groupsOf regions jobs) ≤ 1024 → Storable axes regions coords (shared regions jobs)
   shared-storable h = storable (shared regions jobs) (shared-good regions jobs (s .proper) (s .words)) (shared-groups h) shared-sets
 
-  -- THE LAW of mode 0: where no more than 1,024 shapes are there
-  pub shared-back : length (groupsOf regions jobs) ≤ maxShapes → GivesBack axes regions coords jobs (shared regions jobs)
-  shared-back h = back (shared regions jobs) (shared-storable h) shared-ids
+  -- THE LAW of mode 0: where no more than 1,024 shapes are there, and the store is not too big
+  pub shared-back : length (groupsOf regions jobs) ≤ maxShapes → length (storeFor axes coords (shared regions jobs)) ≤ mostBytes → GivesBack axes regions coords jobs (shared regions jobs)
+  shared-back h short = back (shared regions jobs) (shared-storable h) short shared-ids
 
   pub own-storable : Storable axes regions coords (own regions jobs)
   own-storable = storable (own regions jobs) (own-good regions jobs (s .proper) (s .words)) own-groups own-sets
 
   -- THE LAW of mode 1
-  pub own-back : GivesBack axes regions coords jobs (own regions jobs)
-  own-back = back (own regions jobs) own-storable own-ids
+  pub own-back : length (storeFor axes coords (own regions jobs)) ≤ mostBytes → GivesBack axes regions coords jobs (own regions jobs)
+  own-back short = back (own regions jobs) own-storable short own-ids

@@ -22,7 +22,7 @@ use Rattle.finishing.specs.Late.{storeFor}
 use Rattle.limits.specs.Limits.{maxShapes}
 use Rattle.call.specs.Lending.{Lending}
 use Rattle.call.specs.Build.{coordsInUse, packedOf, after}
-use Rattle.accepted.proofs.ShortLaws.{Storable, fit, store-short}
+use Rattle.accepted.proofs.ShortLaws.{Storable, fit}
 use Rattle.accepted.proofs.ReadBack.{Sized, shared-storable, own-storable}
 use Rattle.accepted.proofs.Accepted.{Accepted, packedIn, accepted-sized, store-front}
 
@@ -56,4 +56,4 @@ module _ (c : Lending) (r : Report) (a : Accepted c r) where
       let f = storable (c .axes) (c .mode) (a .said) (accepted-sized c r a bytes) (a .room .shapes-few) in
       ap parse (store-front c r a)
       ∙ made-parsed (c .axes) (coordsInUse (a .said)) (λ x. getD (k .sets) x []) (k .finals)
-      (fit (c .axes) (length (a .said .used)) (coordsInUse (a .said)) k f) (store-short (c .axes) (length (a .said .used)) (coordsInUse (a .said)) k f)
+      (fit (c .axes) (length (a .said .used)) (coordsInUse (a .said)) k f) (omega (arith, a .room .bytes-few))

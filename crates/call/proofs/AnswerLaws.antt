@@ -10,8 +10,8 @@ use Rattle.said.specs.Refusals.{shapesFull, firstFailed}
 use Rattle.groups.specs.Groups.{groupsOf, maxShapes}
 use borrow.Author.Tests.{eq-eqb, le-leb, lt-leb, ne-eqb}
 use Rattle.encoder.specs.Packed.{Packed, shared}
-use Rattle.finishing.specs.declared.answers.Built.the-variants.{Refused, Done}
-use Rattle.finishing.specs.Late.{reportOf, lateForecast, lateNo, lateAnswer, buffersLeft}
+use Rattle.finishing.specs.declared.answers.Built.the-variants.{Refused}
+use Rattle.finishing.specs.Late.{reportOf, sizeTold, lateForecast, lateNo, lateAnswer, buffersLeft}
 use Rattle.call.specs.Foretold.{foretoldFrom}
 use Rattle.call.specs.Build.{coordsInUse, packedOf}
 use Rattle.finishing.specs.Buffers.{Buffers, Lengths, lengths}
@@ -44,9 +44,9 @@ pub told-refused : (axes mode : ℕ) (o : Outcome) (n i : ℕ) → o ≡ refused
 unfolding foretoldFrom
 told-refused axes mode o n i e = sym (ap (foretoldFrom axes mode) e)
 
-pub told-done : (axes mode : ℕ) (o : Outcome) (x : Said) → o ≡ fine x → packedOf mode x .groups ≤ maxShapes → Done (reportOf axes (coordsInUse x) (packedOf mode x)) ≡ foretoldFrom axes mode o
+pub told-sized : (axes mode : ℕ) (o : Outcome) (x : Said) → o ≡ fine x → packedOf mode x .groups ≤ maxShapes → sizeTold (reportOf axes (coordsInUse x) (packedOf mode x)) ≡ foretoldFrom axes mode o
 unfolding foretoldFrom lateForecast
-told-done axes mode o x e few = rw (e, le-leb (packedOf mode x .groups) maxShapes few) refl
+told-sized axes mode o x e few = rw (e, le-leb (packedOf mode x .groups) maxShapes few) refl
 
 pub told-full : (axes mode : ℕ) (x : Said) → mode ≡ 0 → maxShapes < length (groupsOf (length (x .used)) (x .sets)) → Refused shapesFull 0 ≡ foretoldFrom axes mode (fine x)
 unfolding foretoldFrom lateForecast packedOf shared

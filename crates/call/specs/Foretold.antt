@@ -8,7 +8,7 @@ use Rattle.finishing.specs.Late.{lateForecast}
 use Rattle.call.specs.Lending.{Lending}
 use Rattle.call.specs.Build.{coordsInUse, packedOf, outcomeOf}
 
--- a refusal of the records as it is; then too many shapes (R10), or the report
+-- a refusal of the records as it is; then too many shapes (R10), too big a store (R60), or the report
 unfoldable pub foretoldFrom : ℕ → ℕ → Outcome → Built
 foretoldFrom axes mode (refused n i) = Refused n i
 foretoldFrom axes mode (fine s) = lateForecast axes (coordsInUse s) (packedOf mode s)

@@ -8,7 +8,7 @@ use lib.ListN.{length, replicate}
 use Rattle.merging.specs.declared.optimizing.Merged.{Merged}
 use Rattle.said.specs.Job.{Said, Outcome, refused, fine, inAxes, recordsFrom, outcome, outcomeFrom}
 use Rattle.said.specs.Records.{recordCount}
-use Rattle.said.specs.Refusals.{shapesFull, wideSubtable, earlyNo}
+use Rattle.said.specs.Refusals.{mostBytes, shapesFull, storeTooBig, wideSubtable, earlyNo}
 use Rattle.panel.specs.declared.Profile.{Profile}
 use Rattle.panel.specs.declared.Profile.the-variants.{Plain}
 use Rattle.panel.specs.Panelled.{panelled}
@@ -17,7 +17,7 @@ use Rattle.narrow.specs.Columns.{tooWide}
 use Rattle.job.specs.Check.{workLeft}
 use Rattle.job.proofs.CheckLaws.{left-early, left-zeros, early-first, none-early}
 use Rattle.groups.specs.Groups.{groupsOf, maxShapes}
-use borrow.Author.Tests.{eq-eqb}
+use borrow.Author.Tests.{eq-eqb, le-leb, lt-leb}
 use Rattle.encoder.specs.Packed.{Packed, shared, own}
 use Rattle.encoder.specs.Lent.{PackedAt}
 use Rattle.encoder.proofs.ReadyLaws.{idle}
@@ -26,7 +26,7 @@ use Rattle.finishing.specs.declared.answers.Built.{Built}
 use Rattle.finishing.specs.declared.answers.Built.the-variants.{Refused, Done}
 use Rattle.finishing.specs.declared.answers.Report.{Report}
 use Rattle.finishing.specs.declared.measuring.Packing.{Packing}
-use Rattle.finishing.specs.Late.{reportOf}
+use Rattle.finishing.specs.Late.{reportOf, sizeTold}
 use Rattle.opening.specs.declared.opening.Stage.{Stage}
 use Rattle.call.specs.Foretold.{foretoldFrom}
 use Rattle.call.specs.Build.{coordsInUse, packedOf, answerFrom, leftFrom}
@@ -38,7 +38,7 @@ use Rattle.closing.specs.LentClosed.{RecordsBuilt, Closed, Foreseen}
 use Rattle.opening.specs.LentOpened.{Read, OpenedAt}
 use Rattle.arranging.specs.LentArranged.{Joined, ArrangedAs, PackFit}
 use Rattle.limits.specs.Limits.{mostAxes}
-use Rattle.call.proofs.AnswerLaws.{pack-full, told-refused, told-done, told-full}
+use Rattle.call.proofs.AnswerLaws.{pack-full, told-refused, told-sized, told-full}
 use Rattle.arranging.proofs.StageLaws.{SaidBy, said-by, none-packed}
 
 -- ---- answers
@@ -92,13 +92,14 @@ module _ (axes mode : ℕ) (job : List ℕ) (s : Stage) {w : List ℕ} {m : Merg
         (subst (λ (x : List (List ℕ)). Finished axes x (own 0 []) b old new) (sym (empty .1))
         (subst (λ (x : ℕ). Finished x [] (own 0 []) b old new) (by .grouped .axes-is z) f)))
 
-    pub none-told : (d : Report) → d ≡ reportOf (s .axes) [] (own 0 []) → Done d ≡ foretoldFrom axes mode o
+    pub none-told : (d : Report) → d ≡ reportOf (s .axes) [] (own 0 []) → {b : Built} → b ≡ sizeTold d → b ≡ foretoldFrom axes mode o
     unfolding own
-    none-told d f =
+    none-told d f t =
         let k = packedOf mode (by .said) in
         let few : k .groups ≤ maxShapes = subst (λ (x : Packed). x .groups ≤ maxShapes) (sym (empty .0)) (omega arith) in
-        ap Done (f ∙ ap (λ (a : ℕ). reportOf a [] (own 0 [])) (by .grouped .axes-is z) ∙ ap₂ (reportOf axes) (sym (empty .1)) (sym (empty .0)))
-        ∙ told-done axes mode o (by .said) (by .is) few
+        t
+        ∙ ap sizeTold (f ∙ ap (λ (a : ℕ). reportOf a [] (own 0 [])) (by .grouped .axes-is z) ∙ ap₂ (reportOf axes) (sym (empty .1)) (sym (empty .0)))
+        ∙ told-sized axes mode o (by .said) (by .is) few
 
 -- ---- from what is arranged
 
@@ -122,11 +123,12 @@ module _ {axes mode : ℕ} {job : List ℕ} {o : Outcome} {k : Packing} {w : Lis
   pub arranged-told : (d : Report)
       → ((job : List ℕ) (x : Packed) → FinishFit (k .axes) (k .starts) job (k .places) (k .encoded) w → PackedAt x (k .places) (k .encoded) w
       → d ≡ reportOf (k .axes) (store.coordsIn job (k .axes) w (k .starts) (k .places .regions)) x)
-      → Done d ≡ foretoldFrom axes mode o
-  arranged-told d f =
+      → {b : Built} → b ≡ sizeTold d → b ≡ foretoldFrom axes mode o
+  arranged-told d f t =
       let x = packedOf mode (a .said) in
-      ap Done (f job x (a .fit) (a .packed) ∙ ap₂ (λ (n : ℕ) (l : List (List ℕ)). reportOf n l x) (a .axes-is) (a .coords-are))
-      ∙ told-done axes mode o (a .said) (a .said-is) (omega (arith, a .packed .groups-is, a .packed .groups-few))
+      t
+      ∙ ap sizeTold (f job x (a .fit) (a .packed) ∙ ap₂ (λ (n : ℕ) (l : List (List ℕ)). reportOf n l x) (a .axes-is) (a .coords-are))
+      ∙ told-sized axes mode o (a .said) (a .said-is) (omega (arith, a .packed .groups-is, a .packed .groups-few))
 
 -- ---- the whole
 
@@ -195,3 +197,13 @@ module _ {axes mode : ℕ} {job w : List ℕ} {s : Stage} {m : Merged} (old : Li
         answer = f axes mode job (panelled Plain job records) mid (p .after e .1) j ∙ ap (foretoldFrom axes mode) (panelled-plain job records ∙ sym (outcome-is old pairs mid p j e));
         work-is = work-late old pairs mid p j e long l w′ c;
       }
+
+-- ---- the size of what was measured
+
+pub told-big : (d : Report) → mostBytes < d .bytes → Refused storeTooBig 0 ≡ sizeTold d
+unfolding sizeTold
+told-big d h = simp (lt-leb (d .bytes) mostBytes h)
+
+pub told-small : (d : Report) → (mostBytes < d .bytes → ⊥) → Done d ≡ sizeTold d
+unfolding sizeTold
+told-small d h = let f : d .bytes ≤ mostBytes = omega arith in simp (le-leb (d .bytes) mostBytes f)

@@ -8,12 +8,14 @@ use finishing::foretell;
 use job::clear_work;
 use merging::Merged;
 use opening::Stage;
+use said::Refusal;
+use said::STORE_BYTES;
 ghost use mathlib.Core.Path.{_≡_};
 ghost use mathlib.Core.List.{List, []};
 ghost use Prim.Native.Nat.{ℕ, _≤_};
 ghost use Rattle.said.specs.Job.{Outcome};
 ghost use Rattle.encoder.specs.Packed.{own};
-ghost use Rattle.finishing.specs.Late.{reportOf};
+ghost use Rattle.finishing.specs.Late.{reportOf, sizeTold};
 ghost use Rattle.limits.specs.Limits.{mostAxes};
 ghost use Rattle.panel.specs.declared.Profile.the-variants.{Plain};
 ghost use Rattle.call.specs.Foretold.{foretoldFrom};
@@ -31,6 +33,16 @@ fn foretell_none(axes: usize) -> Report
     foretell(&null, null_packing(axes))
 }
 
+// What was measured is answered, unless the store would be too big.
+fn tell_size(done: Report) -> Built
+    ensures { λ r. ⌜ r ≡ sizeTold done ⌝ }
+{
+    if STORE_BYTES < done.bytes {
+        return Built::Refused(Refusal::STORE_TOO_BIG, 0);
+    }
+    Built::Done(done)
+}
+
 // Packs the sets by their mode, and measures.
 fn foretell_sets(work: &mut [u32], s: Stage, m: Merged) -> Built
     requires { ⌜ ForetellFit s m (now work) ⌝ }
@@ -40,10 +52,10 @@ fn foretell_sets(work: &mut [u32], s: Stage, m: Merged) -> Built
         return Built::Refused(s.no, s.at);
     }
     if is_null(s) {
-        return Built::Done(foretell_none(s.axes));
+        return tell_size(foretell_none(s.axes));
     }
     let k = arrange(work, s, m);
-    Built::Done(foretell(work, k))
+    tell_size(foretell(work, k))
 }
 
 // Answers, and clears work unless nothing was written there.

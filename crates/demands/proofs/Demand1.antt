@@ -9,7 +9,7 @@ use Rattle.demands.proofs.OutcomeRows.{numbers}
 use Rattle.demands.proofs.EarlyRows.{bad-axes, bad-mode, bad-job-length, work-short}
 use Rattle.demands.proofs.RecordRows.{earliest-bad, old-five, unknown-kind, not-zero, byte-elsewhere, axis-out-of-turn, axis-too-late, region-unfinished, unknown-region, region-twice, sets-full}
 use Rattle.demands.proofs.EndRow.{unfinished, taken}
-use Rattle.demands.proofs.LateRows.{shapes-full, ids-short, map-short, log-short, origins-short, out-short, is-done}
+use Rattle.demands.proofs.LateRows.{shapes-full, ids-short, map-short, log-short, origins-short, store-too-big, out-short, is-done}
 use Rattle.demands.proofs.Buffers.{untouched, work-kept, pairs-kept, work-cleared, pairs-cleared, work-done, pairs-done}
 use Rattle.demands.proofs.PastBack.{past-kept}
 
@@ -34,6 +34,7 @@ module _ (c : Lending) where
     map-short = map-short c;
     log-short = log-short c;
     origins-short = origins-short c;
+    store-too-big = store-too-big c;
     out-short = out-short c;
     is-done = is-done c;
     numbers = λ n p e. let h = numbers c n p e in (h .0, h .1, ⊎-elim (λ (l : n ≤ 14). inl (omega arith)) inr (h .2));

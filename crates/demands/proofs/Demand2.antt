@@ -22,6 +22,7 @@ use Rattle.said.proofs.SoundLaws.{Bytes}
 use Rattle.encoder.specs.Packed.{Packed, shared, own}
 use Rattle.finishing.specs.declared.answers.Report.{Report}
 use Rattle.finishing.specs.declared.answers.Built.the-variants.{Done}
+use Rattle.said.specs.Refusals.{mostBytes}
 use Rattle.finishing.specs.Late.{storeFor}
 use Rattle.call.specs.Lending.{Lending}
 use Rattle.call.specs.Build.{coordsInUse, packedOf, answerOf, after}
@@ -110,14 +111,15 @@ module _ (mode : ℕ) (s : Said) where
   shared-groups n all h = h
 
   packed-back : (axes : ℕ) → Sized axes (length (s .used)) (coordsInUse s) (s .sets) → packedOf mode s .groups ≤ maxShapes
-      → GivesBack axes (length (s .used)) (coordsInUse s) (s .sets) (packedOf mode s)
+      → length (storeFor axes (coordsInUse s) (packedOf mode s)) ≤ mostBytes → GivesBack axes (length (s .used)) (coordsInUse s) (s .sets) (packedOf mode s)
   unfolding packedOf
-  packed-back axes z h = go (which (eqb mode 0)) h
+  packed-back axes z h short = go (which (eqb mode 0)) h short
     where
       go : Which (eqb mode 0) → pick (eqb mode 0) (shared (length (s .used)) (s .sets)) (own (length (s .used)) (s .sets)) .groups ≤ 1024
+          → length (storeFor axes (coordsInUse s) (pick (eqb mode 0) (shared (length (s .used)) (s .sets)) (own (length (s .used)) (s .sets)))) ≤ mostBytes
           → GivesBack axes (length (s .used)) (coordsInUse s) (s .sets) (pick (eqb mode 0) (shared (length (s .used)) (s .sets)) (own (length (s .used)) (s .sets)))
-      go (holds e) h = rw e (shared-back axes (length (s .used)) (coordsInUse s) (s .sets) z (shared-groups (length (s .used)) (s .sets) (rw e at h)))
-      go (fails e) h = rw e (own-back axes (length (s .used)) (coordsInUse s) (s .sets) z)
+      go (holds e) h b = rw e (shared-back axes (length (s .used)) (coordsInUse s) (s .sets) z (shared-groups (length (s .used)) (s .sets) (rw e at h)) (rw e at b))
+      go (fails e) h b = rw e (own-back axes (length (s .used)) (coordsInUse s) (s .sets) z (rw e at b))
 
 -- THE LAW
 pub demand2 : (c : Lending) (r : Report) → Bytes (c .job) → answerOf c ≡ Done r → Demand2 c r
@@ -153,7 +155,7 @@ demand2 c r bytes e =
     once = coords-once (c .axes) (c .mode) (c .job) (length (c .job) / recordBytes) s (a .walked) (a .entered .some) bytes
 
     back : GivesBack (c .axes) (length (s .used)) coords (s .sets) k
-    back = packed-back (c .mode) s (c .axes) size (a .room .shapes-few)
+    back = packed-back (c .mode) s (c .axes) size (a .room .shapes-few) (a .room .bytes-few)
 
     id-here : (n : ℕ) → n < length (s .sets) → getD (after c .lent .ids) n 0 ≡ getD (k .ids) n 0
     id-here n h = id-at c r a n (omega (arith, ids-long (c .mode) s))

@@ -1,4 +1,4 @@
--- Rows 10 to 14 of the refusal table, each exactly where it says, at place 0, in the order T4; and done exactly where no row holds. Assumes nothing.
+-- Rows 10 to 14, 60 and 61 of the refusal table, each exactly where it says, at place 0, in the order T4; and done exactly where no row holds. Assumes nothing.
 use mathlib.Core.Path.{_≡_, refl, sym, ap, _∙_}
 use mathlib.Core.Bool.{Bool}
 use mathlib.Core.List.{[], _∷_}
@@ -7,10 +7,11 @@ use Prim.Native.Nat.{ℕ, _-_, _*_, _≤_, _<_}
 use native.Mathlib.Omega.{arith}
 use lib.ListN.{length}
 use lib.Dec.{leb}
-use borrow.Author.Tests.{leb-true, leb-false, le-leb, lt-leb, ne-eqb}
+use borrow.Author.Tests.{leb-true, leb-false, le-leb, lt-leb, eq-eqb, ne-eqb}
 use Rattle.laws.proofs.Cases.{same-or-not}
+use Rattle.sets.proofs.IdLaws.{distinct-most}
 use Rattle.groups.specs.Groups.{groupsOf}
-use Rattle.said.specs.Refusals.{firstFailed}
+use Rattle.said.specs.Refusals.{firstFailed, mostBytes}
 use Rattle.said.specs.Job.{Said, fine}
 use Rattle.told.proofs.Bytes.{told}
 use Rattle.encoder.specs.Packed.{Packed, shared, own}
@@ -23,7 +24,7 @@ use Rattle.call.specs.Build.{coordsInUse, packedOf, outcomeOf, answerOf}
 use Rattle.accepted.proofs.PastLaws.{ids-long}
 use Rattle.refusing.specs.Exactly.{Exactly}
 use Rattle.refusing.specs.Counts.{endRecords}
-use Rattle.demands.specs.Rooms.{Taken, shapeCount, distinctIds, storeBytes, ShapesFit, IdsFit, MapFit, LogFit, OriginsFit, OutFit}
+use Rattle.demands.specs.Rooms.{Taken, shapeCount, distinctIds, storeBytes, ShapesFit, IdsFit, MapFit, LogFit, OriginsFit, BytesFit, OutFit}
 use Rattle.refusing.proofs.FailedLaws.{this-alone, Tests, this, failed, other, later, passed, none-failed}
 use Rattle.demands.proofs.OutcomeRows.{LateNo, no-low, no-high, late, answer-late, answer-done, late-only, Answers, answers}
 use Rattle.demands.proofs.OutcomeRows.Answers.{by-job, by-late, done}
@@ -41,7 +42,15 @@ shapes-none mode s d = rw (ne-eqb mode 0 d, shapeCount)
 shapes-mode : (mode : ℕ) (s : Said) → 0 < shapeCount mode s → mode ≡ 0
 shapes-mode mode s h = ⊎-elim (λ (e : mode ≡ 0). e) (λ d. let n = shapes-none mode s d in absurd (omega arith)) (same-or-not mode 0)
 
--- ---- the six tests
+-- there are no more ids than sets
+pub ids-most : (mode : ℕ) (s : Said) → distinctIds mode s ≤ length (s .sets)
+unfolding packedOf shared own
+ids-most mode s = ⊎-elim
+    (λ (e : mode ≡ 0). rw (eq-eqb mode 0 e) (distinct-most (s .sets)))
+    (λ d. rw (ne-eqb mode 0 d) (omega arith))
+    (same-or-not mode 0)
+
+-- ---- the seven tests
 
 module _ (c : Lending) (s : Said) (ends : length (s .sets) ≡ endRecords (c .job)) where
   abbrev axes : ℕ
@@ -63,6 +72,9 @@ module _ (c : Lending) (s : Said) (ends : length (s .sets) ≡ endRecords (c .jo
   abbrev outOk : Bool
   outOk = leb (length (storeFor axes (coordsInUse s) k)) (l .out)
 
+  abbrev bytesOk : Bool
+  bytesOk = leb (length (storeFor axes (coordsInUse s) k)) mostBytes
+
   abbrev logOk : Bool
   logOk = leb (3 * (k .groups - 1)) (l .log)
 
@@ -81,8 +93,11 @@ module _ (c : Lending) (s : Said) (ends : length (s .sets) ≡ endRecords (c .jo
   abbrev at14 : Tests
   at14 = (outOk, 14) ∷ []
 
+  abbrev at60 : Tests
+  at60 = (bytesOk, 60) ∷ at14
+
   abbrev at61 : Tests
-  at61 = (originsOk, 61) ∷ at14
+  at61 = (originsOk, 61) ∷ at60
 
   abbrev at13 : Tests
   at13 = (logOk, 13) ∷ at61
@@ -119,10 +134,15 @@ module _ (c : Lending) (s : Said) (ends : length (s .sets) ≡ endRecords (c .jo
         let a = past12 d d′ d″ in
         (record { map-fit = a .0; log-room = leb-true (3 * (k .groups - 1)) (l .log) (other 13 at61 n logOk d‴ (a .1)) }, later 13 at61 n logOk d‴ (a .1))
 
-    past61 : (10 ≡ n → ⊥) → (11 ≡ n → ⊥) → (12 ≡ n → ⊥) → (13 ≡ n → ⊥) → (61 ≡ n → ⊥) → OriginsFit c s × (firstFailed at14 ≡ n)
+    past61 : (10 ≡ n → ⊥) → (11 ≡ n → ⊥) → (12 ≡ n → ⊥) → (13 ≡ n → ⊥) → (61 ≡ n → ⊥) → OriginsFit c s × (firstFailed at60 ≡ n)
     past61 d d′ d″ d‴ f =
         let a = past13 d d′ d″ d‴ in
-        (record { log-fit = a .0; origins-room = leb-true (2 * k .groups) (l .origins) (other 61 at14 n originsOk f (a .1)) }, later 61 at14 n originsOk f (a .1))
+        (record { log-fit = a .0; origins-room = leb-true (2 * k .groups) (l .origins) (other 61 at60 n originsOk f (a .1)) }, later 61 at60 n originsOk f (a .1))
+
+    past60 : (10 ≡ n → ⊥) → (11 ≡ n → ⊥) → (12 ≡ n → ⊥) → (13 ≡ n → ⊥) → (61 ≡ n → ⊥) → (60 ≡ n → ⊥) → BytesFit c s × (firstFailed at14 ≡ n)
+    past60 d d′ d″ d‴ f g =
+        let a = past61 d d′ d″ d‴ f in
+        (record { origins-fit = a .0; bytes-few = omega (arith, leb-true (length (storeFor axes (coordsInUse s) k)) mostBytes (other 60 at14 n bytesOk g (a .1))) }, later 60 at14 n bytesOk g (a .1))
 
   to10 : (n : ℕ) → ShapesFit mode s → firstFailed at11 ≡ n → late c s ≡ n
   to10 n a e = late-is ∙ passed 10 at11 n shapesOk (le-leb (k .groups) 1024 (a .shapes-few)) e
@@ -138,14 +158,17 @@ module _ (c : Lending) (s : Said) (ends : length (s .sets) ≡ endRecords (c .jo
   to13 : (n : ℕ) → LogFit c s → firstFailed at61 ≡ n → late c s ≡ n
   to13 n a e = to12 n (a .map-fit) (passed 13 at61 n logOk (le-leb (3 * (k .groups - 1)) (l .log) (a .log-room)) e)
 
-  to61 : (n : ℕ) → OriginsFit c s → firstFailed at14 ≡ n → late c s ≡ n
-  to61 n a e = to13 n (a .log-fit) (passed 61 at14 n originsOk (le-leb (2 * k .groups) (l .origins) (a .origins-room)) e)
+  to61 : (n : ℕ) → OriginsFit c s → firstFailed at60 ≡ n → late c s ≡ n
+  to61 n a e = to13 n (a .log-fit) (passed 61 at60 n originsOk (le-leb (2 * k .groups) (l .origins) (a .origins-room)) e)
+
+  to60 : (n : ℕ) → BytesFit c s → firstFailed at14 ≡ n → late c s ≡ n
+  to60 n a e = to61 n (a .origins-fit) (passed 60 at14 n bytesOk (le-leb (length (storeFor axes (coordsInUse s) k)) mostBytes (omega (arith, a .bytes-few))) e)
 
   late-shapes : Exactly (late c s ≡ 10) ((mode ≡ 0) × (1024 < shapeCount mode s))
   late-shapes = record {
     given = λ b. late-is ∙ failed 10 at11 shapesOk (lt-leb (k .groups) 1024 (b .1));
     only = λ e.
-        let h = leb-false (k .groups) 1024 (this 10 at11 shapesOk (omega arith) (omega arith, (omega arith, (omega arith, (omega arith, (omega arith, tt))))) (sym late-is ∙ e)) in
+        let h = leb-false (k .groups) 1024 (this 10 at11 shapesOk (omega arith) (omega arith, (omega arith, (omega arith, (omega arith, (omega arith, (omega arith, tt)))))) (sym late-is ∙ e)) in
         (shapes-mode mode s (omega arith), h);
   }
 
@@ -156,7 +179,7 @@ module _ (c : Lending) (s : Said) (ends : length (s .sets) ≡ endRecords (c .jo
         to10 11 (b .0) (failed 11 at12 idsOk (lt-leb (length (k .ids)) (l .ids) (omega (arith, ids-are))));
     only = λ e.
         let a = past10 11 e (λ z. omega arith) in
-        let h = leb-false (length (k .ids)) (l .ids) (this 11 at12 idsOk (omega arith) (omega arith, (omega arith, (omega arith, (omega arith, tt)))) (a .1)) in
+        let h = leb-false (length (k .ids)) (l .ids) (this 11 at12 idsOk (omega arith) (omega arith, (omega arith, (omega arith, (omega arith, (omega arith, tt))))) (a .1)) in
         (a .0, omega (arith, ids-are));
   }
 
@@ -165,7 +188,7 @@ module _ (c : Lending) (s : Said) (ends : length (s .sets) ≡ endRecords (c .jo
     given = λ b. to11 12 (b .0) (failed 12 at13 mapOk (lt-leb (length (k .sets)) (l .map) (b .1)));
     only = λ e.
         let a = past11 12 e (λ z. omega arith) (λ z. omega arith) in
-        (a .0, leb-false (length (k .sets)) (l .map) (this 12 at13 mapOk (omega arith) (omega arith, (omega arith, (omega arith, tt))) (a .1)));
+        (a .0, leb-false (length (k .sets)) (l .map) (this 12 at13 mapOk (omega arith) (omega arith, (omega arith, (omega arith, (omega arith, tt)))) (a .1)));
   }
 
   late-log : Exactly (late c s ≡ 13) (MapFit c s × (mode ≡ 0) × (1 ≤ shapeCount mode s) × (l .log < 3 * (shapeCount mode s - 1)))
@@ -173,40 +196,48 @@ module _ (c : Lending) (s : Said) (ends : length (s .sets) ≡ endRecords (c .jo
     given = λ b. to12 13 (b .0) (failed 13 at61 logOk (lt-leb (3 * (k .groups - 1)) (l .log) (b .3)));
     only = λ e.
         let a = past12 13 e (λ z. omega arith) (λ z. omega arith) (λ z. omega arith) in
-        let h = leb-false (3 * (k .groups - 1)) (l .log) (this 13 at61 logOk (omega arith) (omega arith, (omega arith, tt)) (a .1)) in
+        let h = leb-false (3 * (k .groups - 1)) (l .log) (this 13 at61 logOk (omega arith) (omega arith, (omega arith, (omega arith, tt))) (a .1)) in
         let some : 1 ≤ shapeCount mode s = omega arith in
         (a .0, shapes-mode mode s (omega arith), some, h);
   }
 
   late-origins : Exactly (late c s ≡ 61) (LogFit c s × (mode ≡ 0) × (l .origins < 2 * shapeCount mode s))
   late-origins = record {
-    given = λ b. to13 61 (b .0) (failed 61 at14 originsOk (lt-leb (2 * k .groups) (l .origins) (b .2)));
+    given = λ b. to13 61 (b .0) (failed 61 at60 originsOk (lt-leb (2 * k .groups) (l .origins) (b .2)));
     only = λ e.
         let a = past13 61 e (λ z. omega arith) (λ z. omega arith) (λ z. omega arith) (λ z. omega arith) in
-        let h = leb-false (2 * k .groups) (l .origins) (this-alone 61 at14 originsOk (omega arith) ((λ z. omega arith), tt) (a .1)) in
+        let h = leb-false (2 * k .groups) (l .origins) (this-alone 61 at60 originsOk (omega arith) ((λ z. omega arith), ((λ z. omega arith), tt)) (a .1)) in
         (a .0, shapes-mode mode s (omega arith), h);
   }
 
-  late-out : Exactly (late c s ≡ 14) (OriginsFit c s × (l .out < storeBytes axes mode s))
-  late-out = record {
-    given = λ b. to61 14 (b .0) (failed 14 [] outOk (lt-leb (length (storeFor axes (coordsInUse s) k)) (l .out) (b .1)));
+  late-big : Exactly (late c s ≡ 60) (OriginsFit c s × (mostBytes < storeBytes axes mode s))
+  late-big = record {
+    given = λ b. to61 60 (b .0) (failed 60 at14 bytesOk (lt-leb (length (storeFor axes (coordsInUse s) k)) mostBytes (b .1)));
     only = λ e.
-        let a = past61 14 e (λ z. omega arith) (λ z. omega arith) (λ z. omega arith) (λ z. omega arith) (λ z. omega arith) in
+        let a = past61 60 e (λ z. omega arith) (λ z. omega arith) (λ z. omega arith) (λ z. omega arith) (λ z. omega arith) in
+        (a .0, leb-false (length (storeFor axes (coordsInUse s) k)) mostBytes (this-alone 60 at14 bytesOk (omega arith) ((λ z. omega arith), tt) (a .1)));
+  }
+
+  late-out : Exactly (late c s ≡ 14) (BytesFit c s × (l .out < storeBytes axes mode s))
+  late-out = record {
+    given = λ b. to60 14 (b .0) (failed 14 [] outOk (lt-leb (length (storeFor axes (coordsInUse s) k)) (l .out) (b .1)));
+    only = λ e.
+        let a = past60 14 e (λ z. omega arith) (λ z. omega arith) (λ z. omega arith) (λ z. omega arith) (λ z. omega arith) (λ z. omega arith) in
         (a .0, leb-false (length (storeFor axes (coordsInUse s) k)) (l .out) (this 14 [] outOk (omega arith) tt (a .1)));
   }
 
   late-none : Exactly (late c s ≡ 0) (OutFit c s)
   late-none = record {
-    given = λ b. to61 0 (b .origins-fit) (passed 14 [] 0 outOk (le-leb (length (storeFor axes (coordsInUse s) k)) (l .out) (b .out-room)) none-failed);
+    given = λ b. to60 0 (b .bytes-fit) (passed 14 [] 0 outOk (le-leb (length (storeFor axes (coordsInUse s) k)) (l .out) (b .out-room)) none-failed);
     only = λ e.
-        let a = past61 0 e (λ z. omega arith) (λ z. omega arith) (λ z. omega arith) (λ z. omega arith) (λ z. omega arith) in
-        record { origins-fit = a .0; out-room = leb-true (length (storeFor axes (coordsInUse s) k)) (l .out) (other 14 [] 0 outOk (λ z. omega arith) (a .1)) };
+        let a = past60 0 e (λ z. omega arith) (λ z. omega arith) (λ z. omega arith) (λ z. omega arith) (λ z. omega arith) (λ z. omega arith) in
+        record { bytes-fit = a .0; out-room = leb-true (length (storeFor axes (coordsInUse s) k)) (l .out) (other 14 [] 0 outOk (λ z. omega arith) (a .1)) };
   }
 
 -- ---- the rows
 
 -- a set for each end record
-ends-of : (c : Lending) (s : Said) → outcomeOf c ≡ fine s → length (s .sets) ≡ endRecords (c .job)
+pub ends-of : (c : Lending) (s : Said) → outcomeOf c ≡ fine s → length (s .sets) ≡ endRecords (c .job)
 ends-of c s e = told (c .axes) (c .mode) (c .job) (length (c .work)) (length (c .pairs)) s e .sets-are
 
 module _ (c : Lending) where
@@ -239,13 +270,17 @@ module _ (c : Lending) where
 
     -- R61 ORIGINS_SHORT
     pub origins-short : Exactly (answerOf c ≡ Refused 61 p) ((p ≡ 0) × Taken c (λ s. LogFit c s × ((c .mode) ≡ 0) × (length (c .lent .origins) < 2 * shapeCount (c .mode) s)))
-    origins-short = row 61 (λ s. LogFit c s × ((c .mode) ≡ 0) × (length (c .lent .origins) < 2 * shapeCount (c .mode) s)) (no-high refl) (late-origins c)
+    origins-short = row 61 (λ s. LogFit c s × ((c .mode) ≡ 0) × (length (c .lent .origins) < 2 * shapeCount (c .mode) s)) (no-high (omega arith) (omega arith)) (late-origins c)
+
+    -- R60 STORE_TOO_BIG
+    pub store-too-big : Exactly (answerOf c ≡ Refused 60 p) ((p ≡ 0) × Taken c (λ s. OriginsFit c s × (mostBytes < storeBytes (c .axes) (c .mode) s)))
+    store-too-big = row 60 (λ s. OriginsFit c s × (mostBytes < storeBytes (c .axes) (c .mode) s)) (no-high (omega arith) (omega arith)) (late-big c)
 
     -- R14 OUT_SHORT
-    pub out-short : Exactly (answerOf c ≡ Refused 14 p) ((p ≡ 0) × Taken c (λ s. OriginsFit c s × (length (c .lent .out) < storeBytes (c .axes) (c .mode) s)))
-    out-short = row 14 (λ s. OriginsFit c s × (length (c .lent .out) < storeBytes (c .axes) (c .mode) s)) (no-low (omega arith) (omega arith)) (late-out c)
+    pub out-short : Exactly (answerOf c ≡ Refused 14 p) ((p ≡ 0) × Taken c (λ s. BytesFit c s × (length (c .lent .out) < storeBytes (c .axes) (c .mode) s)))
+    out-short = row 14 (λ s. BytesFit c s × (length (c .lent .out) < storeBytes (c .axes) (c .mode) s)) (no-low (omega arith) (omega arith)) (late-out c)
 
-  -- done: the job is sound, and none of 10 to 14 and 61 is given
+  -- done: the job is sound, and none of 10 to 14, 60 and 61 is given
   pub is-done : (r : Report) → Exactly (answerOf c ≡ Done r)
       (Taken c (λ s. OutFit c s × (r ≡ reportOf (c .axes) (coordsInUse s) (packedOf (c .mode) s))))
   is-done r = record {

@@ -10,6 +10,7 @@ pub mod Examples
 pub mod ForetoldLaws
 pub mod JoinSteps
 pub mod LateRows
+pub mod NeverLaws
 pub mod OutcomeRows
 pub mod PastBack
 pub mod PlainRows

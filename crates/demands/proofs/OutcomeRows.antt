@@ -29,23 +29,23 @@ early-few axes mode bytes work pairs =
     ⊎-elim (λ (z : earlyNo axes mode bytes work pairs ≡ 0). omega arith) (λ (z : (1 ≤ earlyNo axes mode bytes work pairs) × (earlyNo axes mode bytes work pairs ≤ 4)). z .1)
     (early-some axes mode bytes work pairs)
 
--- those of the tests after the records: 10 to 14, and 61
+-- those of the tests after the records: 10 to 14, 60 and 61
 pub record LateNo (n : ℕ) : Type 0 where
   pub some : 10 ≤ n
-  pub few : (n ≤ 14) ⊎ (n ≡ 61)
+  pub few : (n ≤ 14) ⊎ ((60 ≤ n) × (n ≤ 61))
 
 pub no-low : {n : ℕ} → 10 ≤ n → n ≤ 14 → LateNo n
 no-low p q = record { some = p; few = inl q }
 
-pub no-high : {n : ℕ} → n ≡ 61 → LateNo n
-no-high e = record { some = omega arith; few = inr e }
+pub no-high : {n : ℕ} → 60 ≤ n → n ≤ 61 → LateNo n
+no-high p q = record { some = omega arith; few = inr (p, q) }
 
 pub late-many : (axes : ℕ) (s : Said) (mode : ℕ) (l : Lengths)
     → (lateNo axes (coordsInUse s) (packedOf mode s) l ≡ 0) ⊎ LateNo (lateNo axes (coordsInUse s) (packedOf mode s) l)
 unfolding lateNo
 late-many axes s mode l =
     among-such LateNo _
-    (no-low (omega arith) (omega arith), (no-low (omega arith) (omega arith), (no-low (omega arith) (omega arith), (no-low (omega arith) (omega arith), (no-high refl, (no-low (omega arith) (omega arith), tt))))))
+    (no-low (omega arith) (omega arith), (no-low (omega arith) (omega arith), (no-low (omega arith) (omega arith), (no-low (omega arith) (omega arith), (no-high (omega arith) (omega arith), (no-high (omega arith) (omega arith), (no-low (omega arith) (omega arith), tt)))))))
 
 -- ---- the outcome
 
@@ -122,17 +122,20 @@ module _ (c : Lending) where
     by-late : (s : Said) → outcomeOf c ≡ fine s → LateNo (late s) → answerOf c ≡ Refused (late s) 0 → Answers
     done : (s : Said) → outcomeOf c ≡ fine s → late s ≡ 0 → answerOf c ≡ Done (reportOf (c .axes) (coordsInUse s) (packedOf (c .mode) s)) → Answers
 
+  job-no : (n p : ℕ) → outcomeOf c ≡ refused n p → JobNo n
+  job-no n p e =
+      ⊎-elim (λ z. let w = walk-no (c .axes) (c .mode) (c .job) (length (c .job) / 12) n p (sym (outcome-walked c z) ∙ e) in let l = w .low in record { some = omega arith; most = w .high; gap = w .gap; not-five = λ x. omega arith })
+      (λ f. let g = f .1 in let a : early c ≡ n = cc in let b = early-few (c .axes) (c .mode) (length (c .job)) (length (c .work)) (length (c .pairs)) in let h = f .0 in record { some = omega arith; most = omega arith; gap = λ x. omega arith; not-five = λ x. omega arith })
+      (outcome-by c)
+
+  pub job-numbers : (n p : ℕ) → outcomeOf c ≡ refused n p → n ≤ 34
+  job-numbers n p e = job-no n p e .most
+
   pub answers : Answers
   answers = go (outcomeOf c) refl
     where
-      few : (n p : ℕ) → outcomeOf c ≡ refused n p → JobNo n
-      few n p e =
-          ⊎-elim (λ z. let w = walk-no (c .axes) (c .mode) (c .job) (length (c .job) / 12) n p (sym (outcome-walked c z) ∙ e) in let l = w .low in record { some = omega arith; most = w .high; gap = w .gap; not-five = λ x. omega arith })
-          (λ f. let g = f .1 in let a : early c ≡ n = cc in let b = early-few (c .axes) (c .mode) (length (c .job)) (length (c .work)) (length (c .pairs)) in let h = f .0 in record { some = omega arith; most = omega arith; gap = λ x. omega arith; not-five = λ x. omega arith })
-          (outcome-by c)
-
       go : (o : Outcome) → outcomeOf c ≡ o → Answers
-      go (refused n p) e = by-job n p e (answer-refused n p e) (few n p e)
+      go (refused n p) e = by-job n p e (answer-refused n p e) (job-no n p e)
       go (fine s) e =
           ⊎-elim (λ z. done s e z (answer-done s e z)) (λ h. by-late s e h (let l = h .some in answer-late s (late s) e refl (omega arith)))
           (late-many (c .axes) s (c .mode) (lengths (c .lent)))
@@ -146,7 +149,7 @@ module _ (c : Lending) where
           let z : late s ≡ n = cc in
           let l = b .some in
           let k = h (omega arith) in
-          absurd (⊎-elim (λ (m : late s ≤ 14). omega (arith, k .0)) (λ (m : late s ≡ 61). omega (arith, k .1)) (b .few))
+          absurd (⊎-elim (λ (m : late s ≤ 14). omega (arith, k .0)) (λ (m : (60 ≤ late s) × (late s ≤ 61)). omega (arith, k .1, m .0)) (b .few))
       go (done s f b g) = let z : _≡_ {A = ℕ} 0 1 = cc in absurd (omega arith)
 
   pub late-only : (n p : ℕ) → LateNo n → answerOf c ≡ Refused n p → (p ≡ 0) × (s : Said) × (outcomeOf c ≡ fine s) × (late s ≡ n)
@@ -158,15 +161,15 @@ module _ (c : Lending) where
           let l = ok .some in
           let k = b .gap (omega arith) in
           let t = b .most in
-          absurd (⊎-elim (λ (x : n ≤ 14). omega arith) (λ (x : n ≡ 61). omega arith) (ok .few))
+          absurd (⊎-elim (λ (x : n ≤ 14). omega arith) (λ (x : (60 ≤ n) × (n ≤ 61)). omega (arith, x .0)) (ok .few))
       go (by-late s f b g) = let z : late s ≡ n = cc in let y : p ≡ 0 = cc in (y, s, f, z)
       go (done s f b g) = let z : _≡_ {A = ℕ} 0 1 = cc in absurd (omega arith)
 
   -- there are no numbers but those of the table
-  pub numbers : (n p : ℕ) → answerOf c ≡ Refused n p → (1 ≤ n) × (n ≡ 5 → ⊥) × ((n ≤ 14) ⊎ (((30 ≤ n) × (n ≤ 34)) ⊎ (n ≡ 61)))
+  pub numbers : (n p : ℕ) → answerOf c ≡ Refused n p → (1 ≤ n) × (n ≡ 5 → ⊥) × ((n ≤ 14) ⊎ (((30 ≤ n) × (n ≤ 34)) ⊎ ((60 ≤ n) × (n ≤ 61))))
   numbers n p e = go answers
     where
-      go : Answers → (1 ≤ n) × (n ≡ 5 → ⊥) × ((n ≤ 14) ⊎ (((30 ≤ n) × (n ≤ 34)) ⊎ (n ≡ 61)))
+      go : Answers → (1 ≤ n) × (n ≡ 5 → ⊥) × ((n ≤ 14) ⊎ (((30 ≤ n) × (n ≤ 34)) ⊎ ((60 ≤ n) × (n ≤ 61))))
       go (by-job m q f g b) =
           let z : m ≡ n = cc in
           let s = b .some in
@@ -175,9 +178,9 @@ module _ (c : Lending) where
       go (by-late s f b g) =
           let z : late s ≡ n = cc in
           let l = b .some in
-          (omega arith, λ x. omega arith, ⊎-elim (λ (h : late s ≤ 14). inl (omega arith)) (λ (h : late s ≡ 61). inr (inr (sym z ∙ h))) (b .few))
+          (omega arith, λ x. omega arith, ⊎-elim (λ (h : late s ≤ 14). inl (omega arith)) (λ (h : (60 ≤ late s) × (late s ≤ 61)). inr (inr (omega (arith, h .0), omega (arith, h .1)))) (b .few))
       go (done s f b g) = let z : _≡_ {A = ℕ} 0 1 = cc in absurd (omega arith)
 
   pub numbers-most : (n p : ℕ) → answerOf c ≡ Refused n p → n ≤ 61
   numbers-most n p e =
-      ⊎-elim (λ (h : n ≤ 14). omega arith) (λ k. ⊎-elim (λ (h : (30 ≤ n) × (n ≤ 34)). omega (arith, h .1)) (λ (h : n ≡ 61). omega arith) k) (numbers n p e .2)
+      ⊎-elim (λ (h : n ≤ 14). omega arith) (λ k. ⊎-elim (λ (h : (30 ≤ n) × (n ≤ 34)). omega (arith, h .1)) (λ (h : (60 ≤ n) × (n ≤ 61)). h .1) k) (numbers n p e .2)

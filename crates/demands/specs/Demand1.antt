@@ -1,4 +1,4 @@
--- D1: every call is answered, and is refused exactly where the refusal table says (R1 to R4, R6 to R14, R30 to R34), by that number, place and byte; and
+-- D1: every call is answered, and is refused exactly where the refusal table says (R1 to R4, R6 to R14, R30 to R34, R60, R61), by that number, place and byte; and
 -- what everything lent holds afterwards (L1 to L4). Assumes nothing.
 use mathlib.Core.Path.{_≡_}
 use mathlib.Core.Logic.{_⊎_}
@@ -7,7 +7,7 @@ use lib.ListN.{length, replicate}
 use Rattle.said.specs.Records.{recordAt, recordCount, spareBytes}
 use Rattle.limits.specs.Limits.{mostRecords, mostAxes, maxShapes}
 use Rattle.said.specs.Refusals as refusals
-use Rattle.said.specs.Refusals.{publishedWork, pairRecords, badAxes, badMode, badJobLength, workShort, unknownRegion, regionTwice, setsFull, shapesFull, idsShort, mapShort, logShort, originsShort, outShort, unknownKind, notZero, axisOutOfTurn, axisTooLate, regionUnfinished}
+use Rattle.said.specs.Refusals.{publishedWork, pairRecords, mostBytes, badAxes, badMode, badJobLength, workShort, unknownRegion, regionTwice, setsFull, shapesFull, idsShort, mapShort, logShort, originsShort, storeTooBig, outShort, unknownKind, notZero, axisOutOfTurn, axisTooLate, regionUnfinished}
 use Rattle.said.specs.Job.{Said, fine}
 use Rattle.finishing.specs.declared.answers.Report.{Report}
 use Rattle.finishing.specs.declared.answers.Built.{Built}
@@ -23,7 +23,7 @@ use Rattle.refusing.specs.BadRecord.{BadRecord}
 use Rattle.refusing.specs.Fine.{Fine}
 use Rattle.reporting.specs.Answers.{byteTold}
 use Rattle.demands.specs.Rows.{EarliestBad, AllPass}
-use Rattle.demands.specs.Rooms.{Taken, shapeCount, distinctIds, storeBytes, ShapesFit, IdsFit, MapFit, LogFit, OriginsFit, OutFit}
+use Rattle.demands.specs.Rooms.{Taken, shapeCount, distinctIds, storeBytes, ShapesFit, IdsFit, MapFit, LogFit, OriginsFit, BytesFit, OutFit}
 use Rattle.demands.specs.Past.{PastKept}
 
 -- the refusal n at place p is given exactly for this reason
@@ -58,11 +58,12 @@ pub record Table (c : Lending) : Type 0 where
       ((p ≡ 0) × Taken c (λ s. MapFit c s × (c .mode ≡ 0) × (1 ≤ shapeCount (c .mode) s) × (length (c .lent .log) < 3 * (shapeCount (c .mode) s - 1))))
   pub origins-short : (p : ℕ) → Row c originsShort p
       ((p ≡ 0) × Taken c (λ s. LogFit c s × (c .mode ≡ 0) × (length (c .lent .origins) < 2 * shapeCount (c .mode) s)))
-  pub out-short : (p : ℕ) → Row c outShort p ((p ≡ 0) × Taken c (λ s. OriginsFit c s × (length (c .lent .out) < storeBytes (c .axes) (c .mode) s)))
+  pub store-too-big : (p : ℕ) → Row c storeTooBig p ((p ≡ 0) × Taken c (λ s. OriginsFit c s × (mostBytes < storeBytes (c .axes) (c .mode) s)))
+  pub out-short : (p : ℕ) → Row c outShort p ((p ≡ 0) × Taken c (λ s. BytesFit c s × (length (c .lent .out) < storeBytes (c .axes) (c .mode) s)))
   -- done exactly where no row is given
   pub is-done : (r : Report) → Exactly (answerOf c ≡ Done r) (Taken c (λ s. OutFit c s × (r ≡ reportOf (c .axes) (coordsInUse s) (packedOf (c .mode) s))))
   -- and there are no other numbers
-  pub numbers : (n p : ℕ) → answerOf c ≡ Refused n p → (1 ≤ n) × (n ≡ 5 → ⊥) × ((n ≤ outShort) ⊎ (((unknownKind ≤ n) × (n ≤ regionUnfinished)) ⊎ (n ≡ originsShort)))
+  pub numbers : (n p : ℕ) → answerOf c ≡ Refused n p → (1 ≤ n) × (n ≡ 5 → ⊥) × ((n ≤ outShort) ⊎ (((unknownKind ≤ n) × (n ≤ regionUnfinished)) ⊎ ((storeTooBig ≤ n) × (n ≤ originsShort))))
   -- no other refusal names a byte
   pub byte-elsewhere : (n p : ℕ) → (n ≡ notZero → ⊥) → answerOf c ≡ Refused n p → byteTold (c .job) (answerOf c) ≡ 0
   -- a job is taken exactly where it is sound

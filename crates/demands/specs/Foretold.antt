@@ -1,11 +1,14 @@
 -- A forecast and the build of the same job. The forecast of a done build is the length of its store; a build that is lent as much as the forecast says
--- is done with the same report; and what the forecast refuses the build refuses alike. Assumes nothing.
+-- is done with the same report; what the forecast refuses the build refuses alike, whatever it is lent to write to, but for too big a store, which is
+-- tested behind ids, map, log and origins (T4). Assumes nothing.
 use mathlib.Core.Path.{_≡_}
 use mathlib.Core.List.{List}
 use Prim.Native.Nat.{ℕ, _-_, _*_, _≤_}
 use lib.ListN.{length}
 use Rattle.pairs.specs.declared.Pair.{Pair}
+use Rattle.said.specs.Refusals.{storeTooBig}
 use Rattle.said.specs.Job.{Said, fine}
+use Rattle.limits.specs.Limits.{maxShapes}
 use Rattle.finishing.specs.declared.answers.Report.{Report}
 use Rattle.finishing.specs.declared.answers.Built.the-variants.{Refused, Done}
 use Rattle.finishing.specs.Buffers.{Buffers}
@@ -46,8 +49,11 @@ pub record Foretold (c : Lending) : Type 0 where
   pub builds : (r : Report) → foretold c ≡ Done r → (work : List ℕ) (pairs : List Pair) (lent : Buffers) → AsMuch c work pairs
       → RoomFor (c .job) (r .ids) (r .groups) (r .bytes) lent → answerOf (building c work pairs lent) ≡ Done r
   -- whatever is lent to write to
-  pub refuses : (n p : ℕ) → foretold c ≡ Refused n p → (work : List ℕ) (pairs : List Pair) (lent : Buffers) → AsMuch c work pairs
+  pub refuses : (n p : ℕ) → (n ≡ storeTooBig → ⊥) → foretold c ≡ Refused n p → (work : List ℕ) (pairs : List Pair) (lent : Buffers) → AsMuch c work pairs
       → answerOf (building c work pairs lent) ≡ Refused n p
+  -- with room for as many ids, merges and origins as any job of so many sets can have; the output is not looked at
+  pub too-big : (p : ℕ) → foretold c ≡ Refused storeTooBig p → (work : List ℕ) (pairs : List Pair) (lent : Buffers) → AsMuch c work pairs
+      → RoomFor (c .job) (endRecords (c .job)) maxShapes 0 lent → answerOf (building c work pairs lent) ≡ Refused storeTooBig p
   -- and no build is done that was not forecast
   pub foreseen : (r : Report) (work : List ℕ) (pairs : List Pair) (lent : Buffers) → AsMuch c work pairs → answerOf (building c work pairs lent) ≡ Done r
       → foretold c ≡ Done r

@@ -3,6 +3,7 @@ pub mod Demand2
 pub mod Demand3
 pub mod Fits
 pub mod Foretold
+pub mod Never
 pub mod Past
 pub mod Plain
 pub mod Rooms

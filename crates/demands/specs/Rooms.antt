@@ -1,4 +1,4 @@
--- R10 to R14 and R61 in plain numbers, of a job that is sound, in the order T4. Each record says what holds where
+-- R10 to R14, R60 and R61 in plain numbers, of a job that is sound, in the order T4. Each record says what holds where
 -- the numbers up to its own are not given. Assumes nothing.
 use mathlib.Core.Path.{_≡_}
 use Prim.Native.Nat.{ℕ, _-_, _*_, _≤_}
@@ -8,6 +8,7 @@ use Rattle.finishing.specs.Late.{storeFor}
 use Rattle.call.specs.Lending.{Lending}
 use Rattle.call.specs.Build.{coordsInUse, packedOf, outcomeOf}
 use Rattle.limits.specs.Limits.{maxShapes}
+use Rattle.said.specs.Refusals.{mostBytes}
 use Rattle.refusing.specs.Counts.{endRecords}
 
 -- the job is sound, and this holds of what it says
@@ -45,6 +46,10 @@ pub record OriginsFit (c : Lending) (s : Said) : Type 0 where
   pub log-fit : LogFit c s
   pub origins-room : 2 * shapeCount (c .mode) s ≤ length (c .lent .origins)
 
-pub record OutFit (c : Lending) (s : Said) : Type 0 where
+pub record BytesFit (c : Lending) (s : Said) : Type 0 where
   pub origins-fit : OriginsFit c s
+  pub bytes-few : storeBytes (c .axes) (c .mode) s ≤ mostBytes
+
+pub record OutFit (c : Lending) (s : Said) : Type 0 where
+  pub bytes-fit : BytesFit c s
   pub out-room : storeBytes (c .axes) (c .mode) s ≤ length (c .lent .out)

@@ -22,15 +22,13 @@ use Rattle.rule.proofs.Theorems.{words-length}
 use Rattle.store.specs.Placing.{Final, allRuns, idWords, names, keptOf, storeOf, forecastOf, stored}
 use Rattle.rows.specs.Lent.{setAt}
 use Rattle.store.specs.Lent.{Drafted, Planned, Ready, coordsAt, coordsIn, finalAt, finalsAt, markedIn, sizesAt}
-use Rattle.store.proofs.RegionLaws.{kept-most}
 use Rattle.store.proofs.PlacedLaws.{coords-length, planned, draft-exact, tables-count}
 use Rattle.store.proofs.ForecastLaws.{Short, forecast-exact}
-use Rattle.said.specs.Refusals.{firstFailed, shapesFull, idsShort, mapShort, logShort, originsShort, outShort}
+use Rattle.said.specs.Refusals.{firstFailed, mostBytes, shapesFull, idsShort, mapShort, logShort, originsShort, storeTooBig, outShort}
 use Rattle.encoder.specs.declared.places.Places.{Places}
 use Rattle.encoder.specs.declared.encoded.Encoded.{Encoded}
 use Rattle.encoder.specs.Packed.{Packed}
 use Rattle.encoder.specs.Lent.{relabel, originsIn, PackedAt}
-use Rattle.limits.specs.Limits.{maxRegions}
 use Rattle.finishing.specs.declared.answers.Report.{Report}
 use Rattle.finishing.specs.declared.measuring.Packing.{Packing}
 use Rattle.finishing.specs.declared.answers.Built.the-variants.{Refused, Done}
@@ -39,7 +37,7 @@ use Rattle.finishing.specs.Late.{storeFor, regionsKept, originWords, lat
 use Rattle.finishing.specs.Lent.{FinishFit, Finished, MeasuredAs, RoomFor, WordsFit, WordsWritten, originsTold, reportIn, shortNo, storeIn}
 use Rattle.finishing.proofs.LoopLaws.{told-long, room-for}
 use Rattle.finishing.proofs.WordsLaws.{groups-to, handed, small}
-use Rattle.finishing.proofs.StoreLaws.{set-same, runs-count, kept-relabel, store-relabel, store-small}
+use Rattle.finishing.proofs.StoreLaws.{set-same, runs-count, kept-relabel, store-relabel}
 
 all-tabulate : {A : Type 0} (P : A → Type 0) (a n : ℕ) (f : ℕ → A) → ((k : ℕ) → a ≤ k → k < a + n → P (f k)) → All P (tabulate a n f)
 unfolding tabulate
@@ -49,7 +47,7 @@ all-tabulate P a (suc n) f h = (h a (omega arith) (omega arith), all-tabulate P 
 -- with so few groups, the first test of the definition holds
 late-same : (sets distinct groups bytes out ids map log origins : ℕ) → groups ≤ maxShapes
     → shortNo sets distinct groups bytes out ids map log origins
-    ≡ firstFailed ((leb groups maxShapes, shapesFull) ∷ (leb sets ids, idsShort) ∷ (leb distinct map, mapShort) ∷ (leb (3 * (groups - 1)) log, logShort) ∷ (leb (2 * groups) origins, originsShort) ∷ (leb bytes out, outShort) ∷ [])
+    ≡ firstFailed ((leb groups maxShapes, shapesFull) ∷ (leb sets ids, idsShort) ∷ (leb distinct map, mapShort) ∷ (leb (3 * (groups - 1)) log, logShort) ∷ (leb (2 * groups) origins, originsShort) ∷ (leb bytes mostBytes, storeTooBig) ∷ (leb bytes out, outShort) ∷ [])
 unfolding shortNo firstFailed
 late-same sets distinct groups bytes out ids map log origins h = rw (le-leb groups maxShapes h)
 
@@ -93,23 +91,19 @@ module _ {axes starts : ℕ} {job : List ℕ} {p : Places} {e : Encoded} {w : Li
   -- ---- what was drafted
 
   module _ {marks numbers : List ℕ} {bytes runs kept : ℕ} (d : Drafted axes w (p .regions) (p .finals) (e .count) marks numbers bytes runs kept) where
-    pub kept-few : kept ≤ maxRegions
-    kept-few = omega (arith, d .numbered .all, kept-most (markedIn marks) (p .regions), fit .packed .regions-few)
-
-    bytes-few : bytes < 4294967296
-    bytes-few = omega (arith, d .bytes-is, store-small (fit .packed-as) p e w (fit .packed) axes kept runs (fit .axes-few) kept-few (d .runs-is))
-
-    pub plan : Planned axes w (p .regions) (p .finals) (e .count) marks numbers runs kept
-    plan = planned job axes starts w (p .regions) (p .finals) (e .count) 0 marks numbers bytes runs kept ready d bytes-few
-
     pub bytes-are : bytes ≡ length (storeIn axes starts job p e w)
-    bytes-are = draft-exact job axes starts w (p .regions) (p .finals) (e .count) 0 marks numbers bytes runs kept ready d bytes-few
+    bytes-are = draft-exact job axes starts w (p .regions) (p .finals) (e .count) 0 marks numbers bytes runs kept ready d
 
     -- none of the tests fails: there is room for the store
     pub room : {code out ids map log origins : ℕ} → code ≡ shortNo (p .sets) (e .distinct) (e .groups) bytes out ids map log origins → code ≡ 0
         → RoomFor (p .sets) (e .distinct) (e .groups) (length (storeIn axes starts job p e w)) out ids map log origins
     room {code} {out} {ids} {map} {log} {origins} q z =
         rw bytes-are at (room-for (p .sets) (e .distinct) (e .groups) bytes out ids map log origins (sym q ∙ z))
+
+    -- and its offsets fit 32 bits
+    pub plan : {out ids map log origins : ℕ} → RoomFor (p .sets) (e .distinct) (e .groups) (length (storeIn axes starts job p e w)) out ids map log origins
+        → Planned axes w (p .regions) (p .finals) (e .count) marks numbers runs kept
+    plan r = planned job axes starts w (p .regions) (p .finals) (e .count) 0 marks numbers bytes runs kept ready d (omega (arith, bytes-are, r .bytes-few))
 
     -- ---- the definition's words for it
 

@@ -16,7 +16,7 @@ use Rattle.laws.proofs.Cases.{lt-or-ge}
 use Rattle.laws.proofs.BoundedLaws.{length-tabulate, tabulate-snoc}
 use Rattle.laws.proofs.RangeLaws.{length-seg, seg-none, seg-snoc}
 use Rattle.rows.proofs.OverLaws.{over-none, over-join, set-over}
-use Rattle.said.specs.Refusals.{idsShort, mapShort, logShort, originsShort, outShort, firstFailed}
+use Rattle.said.specs.Refusals.{mostBytes, idsShort, mapShort, logShort, originsShort, storeTooBig, outShort, firstFailed}
 use Rattle.encoder.specs.declared.places.Places.{Places}
 use Rattle.encoder.specs.Lent.{originsIn}
 use Rattle.finishing.specs.Late.{originWords}
@@ -198,20 +198,30 @@ module _ (sets distinct groups bytes out ids map log origins : ℕ) where
         let i : distinct ≤ map = omega arith in
         simp (le-leb sets ids h, le-leb distinct map i, le-leb (3 * (groups - 1)) log c, lt-leb (2 * groups) origins o)
 
-    pub out-short : 3 * (groups - 1) ≤ log → 2 * groups ≤ origins → out < bytes → outShort ≡ shorts
-    unfolding shortNo firstFailed
-    out-short c o d =
-        let h : sets ≤ ids = omega arith in
-        let i : distinct ≤ map = omega arith in
-        simp (le-leb sets ids h, le-leb distinct map i, le-leb (3 * (groups - 1)) log c, le-leb (2 * groups) origins o, lt-leb bytes out d)
+    module _ (c : 3 * (groups - 1) ≤ log) (o : 2 * groups ≤ origins) where
+      pub too-big : mostBytes < bytes → storeTooBig ≡ shorts
+      unfolding shortNo firstFailed
+      too-big d =
+          let h : sets ≤ ids = omega arith in
+          let i : distinct ≤ map = omega arith in
+          simp (le-leb sets ids h, le-leb distinct map i, le-leb (3 * (groups - 1)) log c, le-leb (2 * groups) origins o, lt-leb bytes mostBytes d)
 
-    pub none-short : 3 * (groups - 1) ≤ log → 2 * groups ≤ origins → (out < bytes → ⊥) → 0 ≡ shorts
-    unfolding shortNo firstFailed
-    none-short c o d =
-        let h : sets ≤ ids = omega arith in
-        let i : distinct ≤ map = omega arith in
-        let j : bytes ≤ out = omega arith in
-        simp (le-leb sets ids h, le-leb distinct map i, le-leb (3 * (groups - 1)) log c, le-leb (2 * groups) origins o, le-leb bytes out j)
+      pub out-short : (mostBytes < bytes → ⊥) → out < bytes → outShort ≡ shorts
+      unfolding shortNo firstFailed
+      out-short s d =
+          let h : sets ≤ ids = omega arith in
+          let i : distinct ≤ map = omega arith in
+          let f : bytes ≤ mostBytes = omega arith in
+          simp (le-leb sets ids h, le-leb distinct map i, le-leb (3 * (groups - 1)) log c, le-leb (2 * groups) origins o, le-leb bytes mostBytes f, lt-leb bytes out d)
+
+      pub none-short : (mostBytes < bytes → ⊥) → (out < bytes → ⊥) → 0 ≡ shorts
+      unfolding shortNo firstFailed
+      none-short s d =
+          let h : sets ≤ ids = omega arith in
+          let i : distinct ≤ map = omega arith in
+          let f : bytes ≤ mostBytes = omega arith in
+          let j : bytes ≤ out = omega arith in
+          simp (le-leb sets ids h, le-leb distinct map i, le-leb (3 * (groups - 1)) log c, le-leb (2 * groups) origins o, le-leb bytes mostBytes f, le-leb bytes out j)
 
   -- where none applies, there is room
   pub room-for : shorts ≡ 0 → RoomFor sets distinct groups bytes out ids map log origins
@@ -220,6 +230,7 @@ module _ (sets distinct groups bytes out ids map log origins : ℕ) where
     map-room = two;
     log-room = three;
     origins-room = more;
+    bytes-few = few;
     out-room = four;
   }
     where
@@ -235,5 +246,8 @@ module _ (sets distinct groups bytes out ids map log origins : ℕ) where
       more : 2 * groups ≤ origins
       more = ⊎-elim (λ (h : origins < 2 * groups). absurd (omega (arith, origins-short (λ x. omega (arith, one)) (λ x. omega (arith, two)) three h))) (λ h. h) (lt-or-ge origins (2 * groups))
 
+      few : bytes ≤ mostBytes
+      few = ⊎-elim (λ (h : mostBytes < bytes). absurd (omega (arith, too-big (λ x. omega (arith, one)) (λ x. omega (arith, two)) three more h))) (λ h. h) (lt-or-ge mostBytes bytes)
+
       four : bytes ≤ out
-      four = ⊎-elim (λ (h : out < bytes). absurd (omega (arith, out-short (λ x. omega (arith, one)) (λ x. omega (arith, two)) three more h))) (λ h. h) (lt-or-ge out bytes)
+      four = ⊎-elim (λ (h : out < bytes). absurd (omega (arith, out-short (λ x. omega (arith, one)) (λ x. omega (arith, two)) three more (λ x. omega (arith, few)) h))) (λ h. h) (lt-or-ge out bytes)

@@ -1,18 +1,15 @@
 -- From packed sets in work to the store of the definition: the same groups by the numbers of sets or by ids have one store, as many runs and one
--- forecast; rows that were replaced by ids are those groups; and the store of a build fits 32 bits. Assumes nothing.
+-- forecast; and rows that were replaced by ids are those groups. Assumes nothing.
 use mathlib.Core.Path.{_≡_, refl, sym, ap, ap₂, _∙_}
 use mathlib.Core.Bool.{Bool, not, _||_}
 use mathlib.Core.List.{List, [], _∷_, _++_, map}
-use mathlib.Core.Logic.{⊎-elim}
 use mathlib.Core.Option.{Option, some}
-use Prim.Native.Nat.{ℕ, zero, suc, _+_, _-_, _*_, _≤_, _<_, min}
-use native.Mathlib.Nat.{mul-le-mul-left}
-use native.Mathlib.Numerals.{add-one}
+use Prim.Native.Nat.{ℕ, zero, suc, _+_, _-_, _*_, _≤_, _<_}
 use native.Mathlib.Omega.{arith}
 use lib.Dec.{eqb}
-use lib.ListN.{length, getD, take, drop, length-append, length-map, length-take}
+use lib.ListN.{length, getD, take, drop, length-map}
 use lib.Seq.{ext-getD}
-use Rattle.laws.specs.Bag.{weigh, sum}
+use Rattle.laws.specs.Bag.{weigh}
 use Rattle.laws.specs.Pick.{pick}
 use Rattle.laws.specs.Every.{All}
 use Rattle.laws.specs.Bounded.{tabulate, upTo}
@@ -20,32 +17,22 @@ use Rattle.laws.specs.LentRange.{seg}
 use Rattle.laws.proofs.EveryLaws.{all, all-append, all-take, all-drop}
 use Rattle.laws.specs.Joining.{joinAll}
 use Rattle.laws.proofs.ListLaws.{map-append, getD-map-in, map-same}
-use Rattle.laws.proofs.JoinLaws.{join-snoc}
-use Rattle.laws.proofs.BoundedLaws.{tabulate-same, tabulate-snoc, length-tabulate, map-tabulate}
-use Rattle.laws.proofs.BagLaws.{weigh-append, weigh-map, weigh-same}
+use Rattle.laws.proofs.BoundedLaws.{tabulate-same, map-tabulate}
+use Rattle.laws.proofs.BagLaws.{weigh-map, weigh-same}
 use Rattle.laws.proofs.SortLaws.{keep-same}
-use Rattle.laws.proofs.Cases.{same-or-not}
-use Rattle.laws.proofs.Products.{product}
 use Rattle.laws.proofs.RangeLaws.{length-seg, getD-seg, only-seg, seg-all}
 use Rattle.shapes.specs.Shape.{Shape}
 use Rattle.shapes.specs.Group.{maxItems}
 use Rattle.sets.specs.Lent.{entries, setOf}
-use Rattle.reader.specs.Store.{columnAt}
 use Rattle.stores.specs.Stores.{Table, place}
 use Rattle.rows.specs.Columns.{columnsOf, wordCount}
 use Rattle.rows.specs.Row.{Set, rowOf}
 use Rattle.rows.specs.Subtable.{runCount}
 use Rattle.store.specs.Placing.{Final, runsOf, allRuns, names, keptOf, newIndex, slotOf, madeOf, storeOf, rowBytes, runBytes, forecastOf}
 use Rattle.rows.specs.Lent.{entriesAt, setAt}
-use Rattle.store.specs.Lent.{chain, finalAt, finalsAt, groupSizes, runSizes, sizesAt, tableSize, sumOf}
-use Rattle.rows.proofs.CollectLaws.{columns-count, columns-most}
-use Rattle.reader.proofs.ColumnLaws.{at-zero, at-step, bytes-range}
-use Rattle.store.proofs.SizeLaws.{size-none, size-some, runs-few}
+use Rattle.store.specs.Lent.{finalAt, finalsAt}
 use Rattle.encoder.specs.declared.places.Places.{Places}
-use Rattle.encoder.specs.declared.encoded.Encoded.{Encoded}
-use Rattle.encoder.specs.Packed.{Packed}
-use Rattle.encoder.specs.Lent.{relabel, groupAt, FinalIn, PackedAt}
-use Rattle.limits.specs.Limits.{mostRecords, mostAxes, maxRegions}
+use Rattle.encoder.specs.Lent.{relabel, groupAt, FinalIn}
 use Rattle.finishing.specs.Lent.{RowsNamed}
 
 -- ---- sets in work, by either definition
@@ -212,107 +199,3 @@ module _ (p : Places) (count : ℕ) (old new : List ℕ) (named : RowsNamed (p .
   finals-named =
       tabulate-same 0 count (λ g. finalAt (p .regions) new (p .finals + 3 * g)) (λ g. labelled id-of (finalAt (p .regions) old (p .finals + 3 * g))) (λ g q r. group-named g (omega arith))
       ∙ sym (map-tabulate (labelled id-of) 0 count (λ g. finalAt (p .regions) old (p .finals + 3 * g)))
-
--- ---- the store fits 32 bits
-
--- a column has at most 4 bytes
-pub row-most : (word n : ℕ) → columnAt word n ≤ 4 * n
-row-most word zero = omega (arith, at-zero word)
-row-most word (suc n) = omega (arith, ap (columnAt word) (add-one n), at-step word n, bytes-range word n .1, row-most word n)
-
--- the most bytes of a subtable's head and of a row
-abbrev pub headMost : ℕ
-headMost = 6 + 2 * maxRegions
-
-abbrev pub rowMost : ℕ
-rowMost = 4 * maxRegions
-
-pub table-most : (n row items : ℕ) → n ≤ maxRegions → row ≤ rowMost → tableSize n row items ≤ headMost + rowMost * items
-table-most n row items a b = ⊎-elim
-    (λ (e : items ≡ 0). omega (arith, size-none n row items e))
-    (λ d. omega (arith, size-some n row items d, mul-le-mul-left items b))
-    (same-or-not items 0)
-
-module _ (n row count : ℕ) (few : n ≤ maxRegions) (short : row ≤ rowMost) where
-  abbrev run-size : ℕ → ℕ
-  run-size k = tableSize n row (min maxItems (count - maxItems * k))
-
-  -- the items of the runs from k on add up to what is left
-  runs-most : (m k : ℕ) → sumOf (tabulate k m run-size) ≤ headMost * m + rowMost * (count - maxItems * k)
-  unfolding tabulate weigh
-  runs-most zero k = omega arith
-  runs-most (suc m) k = omega (arith, runs-most m (suc k), table-most n row (min maxItems (count - maxItems * k)) few short)
-
-  sizes-most : count ≤ mostRecords → sumOf (runSizes n row count) ≤ 17 * headMost + rowMost * count
-  unfolding runSizes
-  sizes-most h = omega (arith, runs-most (runCount count) 0, runs-few count h)
-
-  sizes-few : count ≤ mostRecords → length (runSizes n row count) ≤ 17
-  unfolding runSizes
-  sizes-few h = omega (arith, length-tabulate 0 (runCount count) run-size, runs-few count h)
-
-chain-snoc : (f : ℕ → List ℕ) (n : ℕ) → chain f (suc n) ≡ chain f n ++ f n
-unfolding chain
-chain-snoc f n =
-    let e : 0 + n ≡ n = omega arith in
-    ap (λ (k : ℕ). joinAll (tabulate 0 k f)) (sym (add-one n))
-    ∙ ap joinAll (tabulate-snoc 0 n f)
-    ∙ join-snoc (tabulate 0 n f) (f (0 + n))
-    ∙ ap (λ (k : ℕ). joinAll (tabulate 0 n f) ++ f k) e
-
-module _ (f : ℕ → List ℕ) (c : ℕ → ℕ) where
-  chain-most : (n : ℕ) → ((g : ℕ) → g < n → sumOf (f g) ≤ 17 * headMost + rowMost * c g) → sumOf (chain f n) ≤ 17 * headMost * n + rowMost * sum c n
-  unfolding sum
-  chain-most zero h = unfold chain in unfold tabulate in unfold joinAll in unfold weigh in omega arith
-  chain-most (suc n) h =
-      omega (arith, ap sumOf (chain-snoc f n) ∙ weigh-append (λ (x : ℕ). x) (chain f n) (f n), h n (omega arith), chain-most n (λ g l. h g (omega arith)))
-
-  chain-few : (n : ℕ) → ((g : ℕ) → g < n → length (f g) ≤ 17) → length (chain f n) ≤ 17 * n
-  chain-few zero h = unfold chain in unfold tabulate in unfold joinAll in omega arith
-  chain-few (suc n) h = omega (arith, ap length (chain-snoc f n) ∙ length-append (chain f n) (f n), h n (omega arith), chain-few n (λ g l. h g (omega arith)))
-
-module _ (k : Packed) (p : Places) (e : Encoded) (w : List ℕ) (packed : PackedAt k p e w) where
-  abbrev the-group : ℕ → Final
-  the-group g = finalAt (p .regions) w (p .finals + 3 * g)
-
-  abbrev sets-of : ℕ → ℕ
-  sets-of g = getD w (p .finals + 3 * g + 2) 0
-
-  module _ (g : ℕ) (h : g < e .count) where
-    group-sets : length (the-group g .ids) ≡ sets-of g
-    unfolding finalAt
-    group-sets = length-seg (getD w (p .finals + 3 * g + 1) 0) (sets-of g) w (omega (arith, packed .finals-in g h .rows-to, packed .rows-to))
-
-    sets-few : length (the-group g .ids) ≤ mostRecords
-    sets-few = omega (arith, group-sets, packed .finals-in g h .rows-from, packed .finals-in g h .rows-to, packed .sets-few)
-
-    columns-few : length (columnsOf (the-group g .shape)) ≤ maxRegions
-    columns-few = omega (arith, columns-count (the-group g .shape), columns-most (the-group g .shape), shape-few, packed .regions-few)
-      where
-        shape-few : length (the-group g .shape) ≤ p .regions
-        shape-few = unfold finalAt in unfold seg in omega (arith, length-take (p .regions) (drop (getD w (p .finals + 3 * g) 0) w))
-
-    row-few : columnAt (wordCount (the-group g .shape)) (length (columnsOf (the-group g .shape))) ≤ rowMost
-    row-few = omega (arith, row-most (wordCount (the-group g .shape)) (length (columnsOf (the-group g .shape))), columns-few)
-
-    group-most : sumOf (groupSizes (the-group g)) ≤ 17 * headMost + rowMost * sets-of g
-    unfolding groupSizes
-    group-most =
-        let s = the-group g .shape in
-        let n = length (the-group g .ids) in
-        omega (arith, sizes-most (length (columnsOf s)) (columnAt (wordCount s) (length (columnsOf s))) n columns-few row-few sets-few, group-sets)
-
-    group-few : length (groupSizes (the-group g)) ≤ 17
-    unfolding groupSizes
-    group-few =
-        let s = the-group g .shape in
-        sizes-few (length (columnsOf s)) (columnAt (wordCount s) (length (columnsOf s))) (length (the-group g .ids)) columns-few row-few sets-few
-
-  pub store-small : (axes kept runs : ℕ) → axes ≤ mostAxes → kept ≤ maxRegions → runs ≡ length (sizesAt (p .regions) (p .finals) (e .count) w)
-      → 8 + 4 * runs + (4 + 6 * axes * kept) + sumOf (sizesAt (p .regions) (p .finals) (e .count) w) < 4294967296
-  unfolding sizesAt
-  store-small axes kept runs a b r =
-      let most = chain-most (λ g. groupSizes (the-group g)) sets-of (e .count) group-most in
-      let few = chain-few (λ g. groupSizes (the-group g)) sets-of (e .count) group-few in
-      let list = product (6 * mostAxes) maxRegions {a = 6 * axes} {b = kept} (omega arith) b in
-      omega (arith, packed .rows-few, packed .sets-few, packed .finals-few)

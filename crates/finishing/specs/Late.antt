@@ -1,5 +1,5 @@
--- What is written of a sound job, once its sets are packed, and when it is refused after all (RULES R10 to R14 and
--- R61, in the order T4). Assumes nothing.
+-- What is written of a sound job, once its sets are packed, and when it is refused after all (RULES R10 to R14, R60
+-- and R61, in the order T4). Assumes nothing.
 use mathlib.Core.List.{List, [], _∷_}
 use Prim.Native.Nat.{ℕ, suc, _-_, _*_}
 use lib.Dec.{eqb, leb}
@@ -9,7 +9,7 @@ use Rattle.laws.specs.Bytes.{over}
 use Rattle.groups.specs.Groups.{maxShapes}
 use Rattle.rule.specs.Told.{words}
 use Rattle.store.specs.Placing.{storeOf, allRuns, idWords, keptOf, forecastOf, stored}
-use Rattle.said.specs.Refusals.{firstFailed, shapesFull, idsShort, mapShort, logShort, originsShort, outShort}
+use Rattle.said.specs.Refusals.{firstFailed, mostBytes, shapesFull, idsShort, mapShort, logShort, originsShort, storeTooBig, outShort}
 use Rattle.encoder.specs.Packed.{Packed}
 use Rattle.finishing.specs.Buffers.{Buffers, Lengths, lengths}
 use Rattle.finishing.specs.declared.answers.Report.{Report}
@@ -26,8 +26,8 @@ storeFor axes coords k = storeOf axes coords (λ x. getD (k .sets) x []) (k .fin
 unfoldable pub regionsKept : List (List ℕ) → Packed → ℕ
 regionsKept coords k = length (keptOf (length coords) (k .finals))
 
--- R10 to R13, R61 and R14, in this order: too many shapes; then ids, map, log, origins and output too short. (In mode 1 N
--- is 0, so none of R10, R13 and R61 is given.)
+-- R10 to R13, R61, R60 and R14, in this order: too many shapes; then ids, map, log and origins too short; then a store
+-- of too many bytes, and the output too short. (In mode 1 N is 0, so none of R10, R13 and R61 is given.)
 unfoldable pub lateNo : ℕ → List (List ℕ) → Packed → Lengths → ℕ
 lateNo axes coords k l =
     firstFailed
@@ -36,6 +36,7 @@ lateNo axes coords k l =
     ∷ (leb (length (k .sets)) (l .map), mapShort)
     ∷ (leb (3 * (k .groups - 1)) (l .log), logShort)
     ∷ (leb (2 * k .groups) (l .origins), originsShort)
+    ∷ (leb (length (storeFor axes coords k)) mostBytes, storeTooBig)
     ∷ (leb (length (storeFor axes coords k)) (l .out), outShort)
     ∷ [])
 
@@ -58,9 +59,13 @@ reportOf axes coords k = record {
 unfoldable pub lateAnswer : ℕ → List (List ℕ) → Packed → Lengths → Built
 lateAnswer axes coords k l = pick (eqb (lateNo axes coords k l) 0) (Done (reportOf axes coords k)) (Refused (lateNo axes coords k l) 0)
 
--- the forecast of a build: R10, or the report of one that is done. Nothing is lent to write to, so R11 to R14 and R61 are not given
+-- R60 by a report, whose bytes are the store's
+unfoldable pub sizeTold : Report → Built
+sizeTold r = pick (leb (r .bytes) mostBytes) (Done r) (Refused storeTooBig 0)
+
+-- the forecast of a build: R10, R60, or the report of one that is done. Nothing is lent to write to, so R11 to R14 and R61 are not given
 unfoldable pub lateForecast : ℕ → List (List ℕ) → Packed → Built
-lateForecast axes coords k = pick (leb (k .groups) maxShapes) (Done (reportOf axes coords k)) (Refused shapesFull 0)
+lateForecast axes coords k = pick (leb (k .groups) maxShapes) (sizeTold (reportOf axes coords k)) (Refused shapesFull 0)
 
 -- ---- what is left in the buffers
 

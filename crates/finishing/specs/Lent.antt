@@ -9,7 +9,7 @@ use Rattle.laws.specs.LentRange.{Only, seg}
 use Rattle.store.specs.Placing.{storeOf, allRuns, idWords, stored}
 use Rattle.rows.specs.Lent.{setAt}
 use Rattle.store.specs.Lent.{Drafted, Sourced, coordsIn, finalsAt}
-use Rattle.said.specs.Refusals.{firstFailed, idsShort, mapShort, logShort, originsShort, outShort}
+use Rattle.said.specs.Refusals.{firstFailed, mostBytes, idsShort, mapShort, logShort, originsShort, storeTooBig, outShort}
 use Rattle.encoder.specs.Packed.{Packed}
 use Rattle.encoder.specs.Lent.{PackedAt, relabel, originsIn}
 use Rattle.encoder.specs.declared.places.Places.{Places}
@@ -42,7 +42,7 @@ pub record RowsNamed (rows n ids : ℕ) (old new : List ℕ) : Type 0 where
   pub only : Only ((rows, n) ∷ []) old new
   pub at : (q : ℕ) → q < n → getD old (rows + q) 0 < n → getD new (rows + q) 0 ≡ getD old (ids + getD old (rows + q) 0) 0
 
--- Tests 11 to 13, 61 and 14 over plain numbers: the sets, distinct ids, N and bytes of a store, and how long is what is lent for them.
+-- Tests 11 to 13, 61, 60 and 14 over plain numbers: the sets, distinct ids, N and bytes of a store, and how long is what is lent for them.
 unfoldable pub shortNo : ℕ → ℕ → ℕ → ℕ → ℕ → ℕ → ℕ → ℕ → ℕ → ℕ
 shortNo sets distinct groups bytes out ids map log origins =
     firstFailed
@@ -50,6 +50,7 @@ shortNo sets distinct groups bytes out ids map log origins =
     ∷ (leb distinct map, mapShort)
     ∷ (leb (3 * (groups - 1)) log, logShort)
     ∷ (leb (2 * groups) origins, originsShort)
+    ∷ (leb bytes mostBytes, storeTooBig)
     ∷ (leb bytes out, outShort)
     ∷ [])
 
@@ -59,6 +60,7 @@ pub record RoomFor (sets distinct groups bytes out ids map log origins : ℕ) : 
   pub map-room : distinct ≤ map
   pub log-room : 3 * (groups - 1) ≤ log
   pub origins-room : 2 * groups ≤ origins
+  pub bytes-few : bytes ≤ mostBytes
   pub out-room : bytes ≤ out
 
 -- the store of what is packed in work, by the numbers of sets

@@ -1,4 +1,4 @@
-// The last part of a build: sizes, refusals 11 to 14 and 61, and only then the first word and byte written.
+// The last part of a build: sizes, refusals 11 to 14, 60 and 61, and only then the first word and byte written.
 use crate::answers::Built;
 use crate::answers::Report;
 use crate::measuring::Packing;
@@ -9,6 +9,7 @@ use encoder::log_words;
 use limits::Limits;
 use planning::Plan;
 use said::Refusal;
+use said::STORE_BYTES;
 use store::Coords;
 use store::Finals;
 use writing::write_map;
@@ -71,7 +72,7 @@ fn write_origins(work: &[u32], p: Places, groups: usize, to: &mut [u32])
     }
 }
 
-// The first of refusals 11 to 13, 61 and 14 that applies, 0 where none does.
+// The first of refusals 11 to 13, 61, 60 and 14 that applies, 0 where none does.
 fn short_no(
     p: Places,
     e: Encoded,
@@ -96,6 +97,9 @@ fn short_no(
     }
     if origins < 2 * e.groups {
         return Refusal::ORIGINS_SHORT;
+    }
+    if STORE_BYTES < bytes {
+        return Refusal::STORE_TOO_BIG;
     }
     if out < bytes {
         return Refusal::OUT_SHORT;

@@ -1,10 +1,13 @@
 -- The numbers of an answer are small, and the byte that it names is one of the job's: of a build and of a forecast. Assumes nothing.
 use mathlib.Core.Path.{_≡_, refl, sym, ap, _∙_}
+use mathlib.Core.Logic.{⊎-elim}
 use Prim.Native.Nat.{ℕ}
 use native.Mathlib.Omega.{arith}
 use Rattle.finishing.specs.declared.answers.Built.{Built}
 use Rattle.finishing.specs.declared.answers.Built.the-variants.{Refused, Done}
 use Rattle.finishing.specs.declared.answers.Built.the-variants as built
+use Rattle.laws.proofs.Cases.{same-or-not}
+use Rattle.said.specs.Refusals.{storeTooBig}
 use Rattle.call.specs.Lending.{Lending}
 use Rattle.call.specs.Build.{answerOf}
 use Rattle.call.specs.Profiled.{answerBy}
@@ -43,11 +46,12 @@ panel-answer-within c (built.Done d) e = tt
 pub foretold-few : (c : Lending) (b : Built) → b ≡ foretold c → numberFew b
 foretold-few c (built.Refused n at) e =
     let same : AsMuch c (c .work) (c .pairs) = record { work-long = refl; pairs-long = refl } in
-    answer-few c (Refused n at) (sym (foretold-law c .refuses n at (sym e) (c .work) (c .pairs) (c .lent) same))
+    ⊎-elim (λ (s : n ≡ storeTooBig). omega arith) (λ s. answer-few c (Refused n at) (sym (foretold-law c .refuses n at s (sym e) (c .work) (c .pairs) (c .lent) same)))
+    (same-or-not n storeTooBig)
 foretold-few c (built.Done d) e = tt
 
 pub foretold-within : (c : Lending) (b : Built) → b ≡ foretold c → byteWithin (c .job) b
 foretold-within c (built.Refused n at) e =
     let same : AsMuch c (c .work) (c .pairs) = record { work-long = refl; pairs-long = refl } in
-    answer-within c (Refused n at) (sym (foretold-law c .refuses n at (sym e) (c .work) (c .pairs) (c .lent) same))
+    λ z. answer-within c (Refused n at) (sym (foretold-law c .refuses n at (λ s. omega arith) (sym e) (c .work) (c .pairs) (c .lent) same)) z
 foretold-within c (built.Done d) e = tt

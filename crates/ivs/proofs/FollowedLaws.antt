@@ -2,9 +2,14 @@
 -- nothing.
 use mathlib.Core.Path.{_≡_, refl, sym, ap, subst, _∙_}
 use mathlib.Core.List.{List}
+use mathlib.Core.Logic.{⊎-elim}
 use Prim.Native.Nat.{ℕ}
 use native.Mathlib.Omega.{arith}
 use lib.ListN.{length, getD}
+use Rattle.laws.proofs.Cases.{same-or-not}
+use Rattle.limits.specs.Limits.{maxShapes}
+use Rattle.said.specs.Refusals.{storeTooBig}
+use Rattle.refusing.specs.Counts.{endRecords}
 use Rattle.pairs.specs.declared.Pair.{Pair}
 use Rattle.finishing.specs.declared.answers.Report.{Report}
 use Rattle.finishing.specs.declared.answers.Built.{Built}
@@ -37,17 +42,27 @@ module _ (c : Lending) (work : List ℕ) (pairs : List Pair) (lent : Buffers) (m
       → Followed (c .job) lent number report number′ report′
   unfolding numberOf reportWords
   follows (built.Refused n p) e {number} {number′} {report} {report′} f g h i =
-      let a : answerOf d ≡ Refused n p = foretold-law c .refuses n p e work pairs lent m in
-      let low = numbers d n p a .0 in
       record {
-        done = λ z room. absurd (omega arith);
-        refused-alike = λ z. (h ∙ ap numberOf a ∙ sym f, i ∙ ap (reportWords (c .job)) a ∙ sym g);
+        done = λ z room. absurd (⊎-elim (λ (s : n ≡ storeTooBig). omega arith) (λ s. omega (arith, numbers d n p (alike s) .0)) (same-or-not n storeTooBig));
+        refused-alike = λ z s. tells (alike (λ q. s (f ∙ q)));
+        too-big = λ s room. tells (big (sym f ∙ s) room);
       }
+    where
+      alike : (n ≡ storeTooBig → ⊥) → answerOf (building c work pairs lent) ≡ Refused n p
+      alike s = foretold-law c .refuses n p s e work pairs lent m
+
+      big : n ≡ storeTooBig → RoomFor (c .job) (endRecords (c .job)) maxShapes 0 lent → answerOf (building c work pairs lent) ≡ Refused n p
+      big q room =
+          foretold-law c .too-big p (e ∙ ap (λ (k : ℕ). Refused k p) q) work pairs lent m room ∙ ap (λ (k : ℕ). Refused k p) (sym q)
+
+      tells : answerOf (building c work pairs lent) ≡ Refused n p → (number′ ≡ number) × (report′ ≡ report)
+      tells a = (h ∙ ap numberOf a ∙ sym f, i ∙ ap (reportWords (c .job)) a ∙ sym g)
   follows (built.Done r) e {number} {number′} {report} {report′} f g h i = record {
     done = λ z room.
         let a : answerOf d ≡ Done r = foretold-law c .builds r e work pairs lent m (room-of (c .job) r report lent g room) in
         (h ∙ ap numberOf a, i ∙ ap (reportWords (c .job)) a ∙ sym g);
-    refused-alike = λ z. absurd (z f);
+    refused-alike = λ z s. absurd (z f);
+    too-big = λ s room. absurd (omega arith);
   }
 
   -- THE LAW

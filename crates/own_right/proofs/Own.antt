@@ -38,6 +38,8 @@ use Rattle.said.proofs.SoundLaws.{Bytes}
 use Rattle.encoder.specs.Packed.{Packed, shared, own}
 use Rattle.finishing.specs.declared.answers.Report.{Report}
 use Rattle.finishing.specs.declared.answers.Built.the-variants.{Done}
+use Rattle.said.specs.Refusals.{mostBytes}
+use Rattle.finishing.specs.Late.{storeFor}
 use Rattle.call.specs.Lending.{Lending}
 use Rattle.call.specs.Build.{coordsInUse, packedOf, outcomeOf, answerOf, after}
 use Rattle.accepted.proofs.RunSound.{Spot, id-spot, ids-once}
@@ -73,14 +75,15 @@ module _ (axes mode : ℕ) (s : Said) (z : Sized axes (length (s .used)) (coords
       go (holds e) h = rw e (shared-storable axes (length (s .used)) (coordsInUse s) (s .sets) z (shared-groups (length (s .used)) (s .sets) (rw e at h)))
       go (fails e) h = rw e (own-storable axes (length (s .used)) (coordsInUse s) (s .sets) z)
 
-  gives-back : GivesBack axes (length (s .used)) (coordsInUse s) (s .sets) (packedOf mode s)
+  gives-back : length (storeFor axes (coordsInUse s) (packedOf mode s)) ≤ mostBytes → GivesBack axes (length (s .used)) (coordsInUse s) (s .sets) (packedOf mode s)
   unfolding packedOf
-  gives-back = go (which (eqb mode 0)) h
+  gives-back short = go (which (eqb mode 0)) h short
     where
       go : Which (eqb mode 0) → pick (eqb mode 0) (shared (length (s .used)) (s .sets)) (own (length (s .used)) (s .sets)) .groups ≤ 1024
+          → length (storeFor axes (coordsInUse s) (pick (eqb mode 0) (shared (length (s .used)) (s .sets)) (own (length (s .used)) (s .sets)))) ≤ mostBytes
           → GivesBack axes (length (s .used)) (coordsInUse s) (s .sets) (pick (eqb mode 0) (shared (length (s .used)) (s .sets)) (own (length (s .used)) (s .sets)))
-      go (holds e) h = rw e (shared-back axes (length (s .used)) (coordsInUse s) (s .sets) z (shared-groups (length (s .used)) (s .sets) (rw e at h)))
-      go (fails e) h = rw e (own-back axes (length (s .used)) (coordsInUse s) (s .sets) z)
+      go (holds e) h b = rw e (shared-back axes (length (s .used)) (coordsInUse s) (s .sets) z (shared-groups (length (s .used)) (s .sets) (rw e at h)) (rw e at b))
+      go (fails e) h b = rw e (own-back axes (length (s .used)) (coordsInUse s) (s .sets) z (rw e at b))
 
 slot-rows : (number : ℕ → ℕ) (set : ℕ → Set) (sh : List ℕ) (ids : List ℕ) → rowCount (slotOf number set sh ids) ≡ length ids
 unfolding slotOf rowCount
@@ -207,7 +210,7 @@ module _ (c : Lending) (r : Report) (bytes : Bytes (c .job)) (done : answerOf c 
     kept = storable (c .axes) (c .mode) s size few
 
     id : IdOf (s .sets) k n
-    id = gives-back (c .axes) (c .mode) s size few .ids n h
+    id = gives-back (c .axes) (c .mode) s size few (accepted c r done .room .bytes-few) .ids n h
 
     spot : Spot (allRuns (k .finals)) (getD (k .ids) n 0)
     spot = id-spot (length (s .used)) k (kept .good) (getD (k .ids) n 0) (id .below)

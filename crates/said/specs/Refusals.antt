@@ -1,4 +1,4 @@
--- Refusals: their numbers, and the tests of one record (RULES R1 to R14, R30 to R34, R61, T1, T2; those of R70 to R72 stand with the panel's profile).
+-- Refusals: their numbers, and the tests of one record (RULES R1 to R14, R30 to R34, R60, R61, T1, T2; those of R70 to R72 stand with the panel's profile).
 use mathlib.Core.Bool.{Bool, true, false, not, _&&_, _||_}
 use mathlib.Core.List.{List, [], _∷_}
 use mathlib.Core.Path.{_≡_}
@@ -66,6 +66,9 @@ axisTooLate = 33
 abbrev pub regionUnfinished : ℕ
 regionUnfinished = 34
 
+abbrev pub storeTooBig : ℕ
+storeTooBig = 60
+
 abbrev pub originsShort : ℕ
 originsShort = 61
 
@@ -82,6 +85,10 @@ abbrev pub wideSubtable : ℕ
 wideSubtable = 72
 
 -- ---- their tests
+
+-- the bytes of a store: its offsets are of 32 bits
+abbrev pub mostBytes : ℕ
+mostBytes = 4294967295
 
 -- Tests in their order, each with its number: the number of the first that fails, 0 where all hold.
 unfoldable pub firstFailed : List (Bool × ℕ) → ℕ

@@ -3,6 +3,9 @@
 // code, as specs/Refusals has them.
 pub struct Refusal {}
 
+// The most bytes of a store: its offsets are of 32 bits.
+pub const STORE_BYTES: usize = 4294967295;
+
 impl Refusal {
     // Before the first record.
     pub const BAD_AXES: usize = 1;
@@ -43,6 +46,9 @@ impl Refusal {
     pub const AXIS_TOO_LATE: usize = 33;
 
     pub const REGION_UNFINISHED: usize = 34;
+
+    // Of a job whose records are all right: its store's offsets would not fit 32 bits.
+    pub const STORE_TOO_BIG: usize = 60;
 
     // Of a job whose records are all right, by what mode 0 is lent beside its log.
     pub const ORIGINS_SHORT: usize = 61;

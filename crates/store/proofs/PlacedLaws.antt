@@ -5,6 +5,7 @@ use mathlib.Core.List.{List, [], _∷_, _++_, map}
 use Prim.Native.Nat.{ℕ, zero, suc, _+_, _-_, _*_, _≤_, _<_, min}
 use Rattle.limits.specs.Limits.{maxRegions}
 use Rattle.said.specs.Records.{axisCoords, coordsLong}
+use Rattle.said.specs.Refusals.{mostBytes}
 use native.Mathlib.Nat.{add-zero, suc-mul, zero-mul, mul-comm}
 use native.Mathlib.Omega.{arith}
 use lib.ListN.{length, getD, drop, length-append, length-map, length-take, length-drop}
@@ -29,7 +30,7 @@ use Rattle.rows.specs.Row.{Set}
 use Rattle.rows.specs.Subtable.{runCount}
 use Rattle.store.specs.Placing.{Final, runsOf, allRuns, names, keptOf, newIndex, storeOf}
 use Rattle.rows.specs.Lent.{Put, setAt, numberIn, runAt, runsBytes}
-use Rattle.store.specs.Lent.{Drafted, Marks, Planned, Ready, Sourced, Spotted, headerBytes, chain, coordsAt, coordsIn, finalAt, finalsAt, groupBytes, groupSizes, keptBytes, listBytes, markedIn, runSizes, sizesAt, spotsOf, subtableOf, tableSize, sumOf}
+use Rattle.store.specs.Lent.{Drafted, Marks, Numbered, Planned, Ready, Sourced, Spotted, headerBytes, chain, coordsAt, coordsIn, finalAt, finalsAt, groupBytes, groupSizes, keptBytes, listBytes, markedIn, runSizes, sizesAt, spotsOf, subtableOf, tableSize, sumOf}
 use Rattle.laws.proofs.RangeLaws.{length-seg}
 use Rattle.store.proofs.RegionLaws.{kept-most}
 use Rattle.store.proofs.SpotLaws.{spots-length}
@@ -166,8 +167,14 @@ shape-within : (regions : ℕ) (w : List ℕ) (group : ℕ) → length (finalAt 
 unfolding finalAt seg
 shape-within regions w group = omega (arith, length-take regions (drop (getD w group 0) w))
 
+-- what the pieces of a store rest on, whatever its size
+pub record Laid (axes : ℕ) (w : List ℕ) (regions groups count : ℕ) (marks numbers : List ℕ) (runs kept : ℕ) : Type 0 where
+  pub marked : Marks (finalsAt regions groups count w) marks
+  pub numbered : Numbered marks regions numbers kept
+  pub runs-is : runs ≡ length (sizesAt regions groups count w)
+
 module _ (src : List ℕ) (axes starts : ℕ) (w : List ℕ) (regions groups count index : ℕ) (marks numbers : List ℕ) (runs kept : ℕ)
-    (ready : Ready src axes starts w regions groups count index) (plan : Planned axes w regions groups count marks numbers runs kept) where
+    (ready : Ready src axes starts w regions groups count index) (plan : Laid axes w regions groups count marks numbers runs kept) where
   abbrev pub store : List ℕ
   store = storeOf axes (coordsIn src axes w starts regions) (setAt index w) (finalsAt regions groups count w)
 
@@ -185,14 +192,11 @@ module _ (src : List ℕ) (axes starts : ℕ) (w : List ℕ) (regions groups cou
       plan .numbered .at r h
       ∙ sym (ap length (keep-same (λ q. names q (finalsAt regions groups count w)) (markedIn marks) (upTo r) (all (λ q. sym (plan .marked .is q)) (upTo r))))
 
-  pub list-long : length list ≡ 4 + 6 * axes * kept
-  list-long =
+  coords-long : length list ≡ 4 + 6 * axes * kept
+  coords-long =
       let k = kept-length src axes w starts regions (markedIn marks) (ready .sourced) in
       let e = ap (λ (n : ℕ). 6 * axes * n) (plan .numbered .all) in
       omega (arith, list-length axes kept (keptBytes src axes w starts (keep (markedIn marks) (upTo regions))))
-
-  pub kept-few : kept ≤ maxRegions
-  kept-few = omega (arith, plan .numbered .all, kept-most (markedIn marks) regions, ready .regions-most)
 
   body-is : joinAll (tables (newIndex (finalsAt regions groups count w)) (setAt index w) (λ g. finalAt regions w (groups + 3 * g)) count) ≡ body
   unfolding chain
@@ -203,7 +207,7 @@ module _ (src : List ℕ) (axes starts : ℕ) (w : List ℕ) (regions groups cou
       ∙ ap joinAll (tabulate-same 0 count (λ g. groupBytes (newIndex gs) (setAt index w) (f g)) (λ g. groupBytes (numberIn numbers) (setAt index w) (f g))
       (λ g p q. group-same (newIndex gs) (numberIn numbers) (setAt index w) (f g) (λ r h. sym (number-is r (omega (arith, shape-within regions w (groups + 3 * g)))))))
 
-  pub store-is : store ≡ headerBytes runs ++ (spotsOf (8 + 4 * runs + (4 + 6 * axes * kept)) sizes ++ (list ++ body))
+  store-is : store ≡ headerBytes runs ++ (spotsOf (8 + 4 * runs + (4 + 6 * axes * kept)) sizes ++ (list ++ body))
   unfolding finalsAt sizesAt
   store-is =
       let gs = tabulate 0 count (λ g. finalAt regions w (groups + 3 * g)) in
@@ -213,7 +217,7 @@ module _ (src : List ℕ) (axes starts : ℕ) (w : List ℕ) (regions groups cou
       let n = tables-count number (setAt index w) f count few ∙ sym (plan .runs-is) in
       let l = list-is src axes w starts regions gs marks (plan .marked) ∙ ap (λ (k : ℕ). listBytes axes k (keptBytes src axes w starts (keep (markedIn marks) (upTo regions)))) (sym (plan .numbered .all)) in
       store-pieces axes (coordsIn src axes w starts regions) (setAt index w) gs
-      ∙ rw (l, n, list-long, tables-sized number (setAt index w) f count few, body-is)
+      ∙ rw (l, n, coords-long, tables-sized number (setAt index w) f count few, body-is)
 
   header-long : length (headerBytes runs) ≡ 8
   header-long = length-append (bytesOf 2 1) (bytesOf 4 (8 + 4 * runs) ++ bytesOf 2 runs)
@@ -222,44 +226,78 @@ module _ (src : List ℕ) (axes starts : ℕ) (w : List ℕ) (regions groups cou
   spots-long : (first : ℕ) → length (spotsOf first sizes) ≡ 4 * runs
   spots-long first = spots-length first sizes ∙ ap (λ (n : ℕ). 4 * n) (sym (plan .runs-is))
 
-  pub store-long : length store ≡ 8 + 4 * runs + (4 + 6 * axes * kept) + length body
-  store-long =
+  laid-long : length store ≡ 8 + 4 * runs + (4 + 6 * axes * kept) + length body
+  laid-long =
       let first = 8 + 4 * runs + (4 + 6 * axes * kept) in
       ap length store-is
       ∙ length-append (headerBytes runs) (spotsOf first sizes ++ (list ++ body))
-      ∙ omega (arith, header-long, length-append (spotsOf first sizes) (list ++ body), spots-long first, length-append list body, list-long)
+      ∙ omega (arith, header-long, length-append (spotsOf first sizes) (list ++ body), spots-long first, length-append list body, coords-long)
+
+module _ (src : List ℕ) (axes starts : ℕ) (w : List ℕ) (regions groups count index : ℕ) (marks numbers : List ℕ) (runs kept : ℕ)
+    (ready : Ready src axes starts w regions groups count index) (plan : Planned axes w regions groups count marks numbers runs kept) where
+  abbrev pub lay : Laid axes w regions groups count marks numbers runs kept
+  lay = record { marked = plan .marked; numbered = plan .numbered; runs-is = plan .runs-is }
+
+  abbrev pub first : ℕ
+  first = 8 + 4 * runs + (4 + 6 * axes * kept)
+
+  abbrev pub whole : List ℕ
+  whole = store src axes starts w regions groups count index marks numbers runs kept ready lay
+
+  abbrev pub coords : List ℕ
+  coords = list src axes starts w regions groups count index marks numbers runs kept ready lay
+
+  abbrev pub sized : List ℕ
+  sized = sizes src axes starts w regions groups count index marks numbers runs kept ready lay
+
+  abbrev pub tail : List ℕ
+  tail = body src axes starts w regions groups count index marks numbers runs kept ready lay
+
+  pub store-long : length whole ≡ first + length tail
+  store-long = laid-long src axes starts w regions groups count index marks numbers runs kept ready lay
+
+  pub kept-few : kept ≤ maxRegions
+  kept-few = omega (arith, plan .numbered .all, kept-most (markedIn marks) regions, ready .regions-most)
+
+  head : length (headerBytes runs) ≡ 8
+  head = header-long src axes starts w regions groups count index marks numbers runs kept ready lay
+
+  spots : length (spotsOf first sized) ≡ 4 * runs
+  spots = spots-long src axes starts w regions groups count index marks numbers runs kept ready lay first
+
+  list-long : length coords ≡ 4 + 6 * axes * kept
+  list-long = coords-long src axes starts w regions groups count index marks numbers runs kept ready lay
 
   -- the pieces, one after another
-  module _ (o : List ℕ) (room : length store ≤ length o) where
+  module _ (o : List ℕ) (room : length whole ≤ length o) where
     pub spots-room : (p : List ℕ) (at : ℕ) → Put 0 (headerBytes runs) o p at
-        → (at + length (spotsOf (8 + 4 * runs + (4 + 6 * axes * kept)) sizes) ≤ length p) × (length p ≡ length o)
+        → (at + length (spotsOf first sized) ≤ length p) × (length p ≡ length o)
     spots-room p at h =
-        let l = put-long 0 (headerBytes runs) o p at h (omega (arith, header-long, store-long)) in
-        (omega (arith, h .end, header-long, spots-long (8 + 4 * runs + (4 + 6 * axes * kept)), store-long), l)
+        let l = put-long 0 (headerBytes runs) o p at h (omega (arith, head, store-long)) in
+        (omega (arith, h .end, head, spots, store-long), l)
 
-    pub list-room : (p q : List ℕ) (at b next : ℕ) → Put 0 (headerBytes runs) o p at → Spotted at (8 + 4 * runs + (4 + 6 * axes * kept)) sizes p q b next
-        → (b + length list ≤ length q) × (length q ≡ length o)
+    pub list-room : (p q : List ℕ) (at b next : ℕ) → Put 0 (headerBytes runs) o p at → Spotted at first sized p q b next
+        → (b + length coords ≤ length q) × (length q ≡ length o)
     list-room p q at b next h s =
         let r = spots-room p at h in
-        let l = put-long at (spotsOf (8 + 4 * runs + (4 + 6 * axes * kept)) sizes) p q b (s .put) (r .0) in
-        (omega (arith, h .end, s .put .end, header-long, spots-long (8 + 4 * runs + (4 + 6 * axes * kept)), list-long, store-long, r .1), omega (arith, r .1))
+        let l = put-long at (spotsOf first sized) p q b (s .put) (r .0) in
+        (omega (arith, h .end, s .put .end, head, spots, list-long, store-long, r .1), omega (arith, r .1))
 
-    pub body-room : (p q r : List ℕ) (at b next c : ℕ) → Put 0 (headerBytes runs) o p at → Spotted at (8 + 4 * runs + (4 + 6 * axes * kept)) sizes p q b next
-        → Put b list q r c → (c + length body ≤ length r) × (length r ≡ length o)
+    pub body-room : (p q r : List ℕ) (at b next c : ℕ) → Put 0 (headerBytes runs) o p at → Spotted at first sized p q b next
+        → Put b coords q r c → (c + length tail ≤ length r) × (length r ≡ length o)
     body-room p q r at b next c h s k =
         let m = list-room p q at b next h s in
-        let l = put-long b list q r c k (m .0) in
-        (omega (arith, h .end, s .put .end, k .end, header-long, spots-long (8 + 4 * runs + (4 + 6 * axes * kept)), list-long, store-long, m .1), omega (arith, m .1))
+        let l = put-long b coords q r c k (m .0) in
+        (omega (arith, h .end, s .put .end, k .end, head, spots, list-long, store-long, m .1), omega (arith, m .1))
 
-    pub store-put : (p q r t : List ℕ) (at b next c e : ℕ) → Put 0 (headerBytes runs) o p at → Spotted at (8 + 4 * runs + (4 + 6 * axes * kept)) sizes p q b next
-        → Put b list q r c → Put c body r t e → Put 0 store o t e
+    pub store-put : (p q r t : List ℕ) (at b next c e : ℕ) → Put 0 (headerBytes runs) o p at → Spotted at first sized p q b next
+        → Put b coords q r c → Put c tail r t e → Put 0 whole o t e
     store-put p q r t at b next c e h s k j =
-        let first = 8 + 4 * runs + (4 + 6 * axes * kept) in
         let m1 = spots-room p at h in
         let m2 = list-room p q at b next h s in
-        let j1 : Put b (list ++ body) q t e = put-join b list body q r t c e k j (omega (arith, h .end, s .put .end, header-long, spots-long first, list-long, store-long, m2 .1)) in
-        let j2 : Put at (spotsOf first sizes ++ (list ++ body)) p t e = put-join at (spotsOf first sizes) (list ++ body) p q t b e (s .put) j1 (omega (arith, h .end, header-long, spots-long first, list-long, store-long, m1 .1, length-append list body)) in
-        rw store-is (put-join 0 (headerBytes runs) (spotsOf first sizes ++ (list ++ body)) o p t at e h j2 (omega (arith, header-long, spots-long first, list-long, store-long, length-append list body, length-append (spotsOf first sizes) (list ++ body))))
+        let j1 : Put b (coords ++ tail) q t e = put-join b coords tail q r t c e k j (omega (arith, h .end, s .put .end, head, spots, list-long, store-long, m2 .1)) in
+        let j2 : Put at (spotsOf first sized ++ (coords ++ tail)) p t e = put-join at (spotsOf first sized) (coords ++ tail) p q t b e (s .put) j1 (omega (arith, h .end, head, spots, list-long, store-long, m1 .1, length-append coords tail)) in
+        rw (store-is src axes starts w regions groups count index marks numbers runs kept ready lay) (put-join 0 (headerBytes runs) (spotsOf first sized ++ (coords ++ tail)) o p t at e h j2 (omega (arith, head, spots, list-long, store-long, length-append coords tail, length-append (spotsOf first sized) (coords ++ tail))))
 
 -- ---- what was drafted is what is written
 
@@ -269,9 +307,9 @@ join-total [] = refl
 join-total (t ∷ ts) = length-append t (joinAll ts) ∙ rw (join-total ts)
 
 module _ (src : List ℕ) (axes starts : ℕ) (w : List ℕ) (regions groups count index : ℕ) (marks numbers : List ℕ) (bytes runs kept : ℕ)
-    (ready : Ready src axes starts w regions groups count index) (d : Drafted axes w regions groups count marks numbers bytes runs kept) (h : bytes < 4294967296) where
-  pub planned : Planned axes w regions groups count marks numbers runs kept
-  planned = record {
+    (ready : Ready src axes starts w regions groups count index) (d : Drafted axes w regions groups count marks numbers bytes runs kept) where
+  pub planned : bytes ≤ mostBytes → Planned axes w regions groups count marks numbers runs kept
+  planned h = record {
     marks-room = d .marks-room;
     numbers-room = d .numbers-room;
     marked = d .marked;
@@ -288,5 +326,6 @@ module _ (src : List ℕ) (axes starts : ℕ) (w : List ℕ) (regions groups cou
       let f : ℕ → Final = (λ g. finalAt regions w (groups + 3 * g)) in
       let number = newIndex (finalsAt regions groups count w) in
       let few : (g : ℕ) → g < count → length (f g .shape) < 32768 = (λ g l. omega (arith, shape-few regions w (groups + 3 * g) (ready .regions-most))) in
-      let b = sym (ap length (body-is src axes starts w regions groups count index marks numbers runs kept ready planned)) ∙ join-total (tables number (setAt index w) f count) ∙ ap sumOf (tables-sized number (setAt index w) f count few) in
-      omega (arith, d .bytes-is, store-long src axes starts w regions groups count index marks numbers runs kept ready planned)
+      let laid : Laid axes w regions groups count marks numbers runs kept = record { marked = d .marked; numbered = d .numbered; runs-is = d .runs-is } in
+      let b = sym (ap length (body-is src axes starts w regions groups count index marks numbers runs kept ready laid)) ∙ join-total (tables number (setAt index w) f count) ∙ ap sumOf (tables-sized number (setAt index w) f count few) in
+      omega (arith, d .bytes-is, laid-long src axes starts w regions groups count index marks numbers runs kept ready laid)

@@ -1,1 +1,2 @@
 pub mod VerdictWords
+pub mod Told

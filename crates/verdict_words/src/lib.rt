@@ -1,4 +1,5 @@
-// A verdict told in a report.
+// A store judged, and the verdict told in a report.
+mod told;
 mod verdict;
 
-pub use verdict::tell_judged;
+pub use crate::told::judge_told;

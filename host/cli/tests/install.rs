@@ -1,6 +1,5 @@
 //! `make install` and `make dist`: what they write is whole, may be moved, and C and Rust link
-//! it without `rt`. On other machines than x86-64 there is nothing to link.
-#![cfg(target_arch = "x86_64")]
+//! it without `rt`. Where the library is emulated there is nothing to link.
 
 mod common;
 
@@ -43,6 +42,9 @@ fn install(prefix: &Path, program: &str) {
 
 #[test]
 fn what_is_installed_is_whole_and_links() {
+    if ivs::EMULATED {
+        return;
+    }
     let folder = folder("install");
     let (first, prefix) = (folder.join("first"), folder.join("moved here"));
     install(&first, env!("CARGO_BIN_EXE_fenikezo"));
@@ -67,6 +69,9 @@ fn what_is_installed_is_whole_and_links() {
 /// A prefix with a space would be two words of the compiler's line, so this one has none.
 #[test]
 fn examples_against_the_installed_files() {
+    if ivs::EMULATED {
+        return;
+    }
     let prefix = folder("install_c");
     install(&prefix, env!("CARGO_BIN_EXE_fenikezo"));
     let value = said(&mut Command::new(linked(&prefix, "value.c")));
@@ -82,7 +87,7 @@ fn examples_against_the_installed_files() {
 fn without_the_prover() {
     let folder = folder("dist");
     // A library that was made before comes without the kit that can be named.
-    if Command::new("rt").arg("version").output().is_err() {
+    if ivs::EMULATED || Command::new("rt").arg("version").output().is_err() {
         return;
     }
     let mut dist = Command::new(root().join("tools/dist"));
@@ -93,13 +98,19 @@ fn without_the_prover() {
             .arg(tar.trim_end())
             .current_dir(&folder),
     );
-    let name = format!("ivs-{}-x86_64-linux", env!("CARGO_PKG_VERSION"));
+    let (version, machine) = (env!("CARGO_PKG_VERSION"), std::env::consts::ARCH);
+    let name = format!("ivs-{version}-{machine}-linux");
     let unpacked = folder.join(name);
 
     let page = fs::read_to_string(unpacked.join("WHAT-IS-PROVED.md")).unwrap();
     let kit = said(Command::new("rt").arg("version"));
     assert!(page.contains(&format!("| kit (`rt version`) | {} |\n", kit.trim_end())));
     assert!(page.contains("\n    ivs: ") && page.contains("| commit | "));
+    let compiled = match machine {
+        "x86_64" => "by Rattle, for x86-64",
+        _ => "by Rattle's compiler, for Arm (aarch64), of the module that Rattle wrote for x86-64",
+    };
+    assert!(page.contains(&format!("| lib/libivs.a is compiled | {compiled} |\n")));
     let proved = fs::read_to_string(root().join("docs/PROVED.md")).unwrap();
     assert!(proved
         .lines()

@@ -1,6 +1,7 @@
-//! As raw.rs, for machines other than x86-64, where `libivs.a` cannot be linked: the
-//! calls go through a pipe to src/served.c, which runs under the emulator of Rattle's kit.
-//! Slow, and meant for trying and testing only.
+//! As raw.rs, for machines other than x86-64: the calls go through a pipe to src/served.c,
+//! which has Rattle's own archive and runs under the emulator of Rattle's kit. Slow, and meant
+//! for trying and testing only: where there is no archive to link (build.rs), and in
+//! tests/served.rs beside the one that is.
 //!
 //! Pair records are 12 MiB for every build, and mostly zeros before and after it: zeros are
 //! told by a word and not sent.

@@ -51,7 +51,7 @@ mod glyphs;
 mod job;
 mod kept;
 mod part;
-#[cfg_attr(not(target_arch = "x86_64"), path = "emulated.rs")]
+#[cfg_attr(not(ivs_linked), path = "emulated.rs")]
 mod raw;
 mod reading;
 mod refusal;
@@ -77,9 +77,9 @@ pub use store::{Column, Row, Store, Subtable};
 pub use widths::{read_width, set_words, write_widths, write_widths_into};
 pub use writer::{JobError, JobWriter, Tent};
 
-/// The library runs under an emulator, since this machine is no x86-64: slow, so that
+/// The library runs under an emulator, since there is none for this machine: slow, so that
 /// tests take fewer jobs.
-pub const EMULATED: bool = cfg!(not(target_arch = "x86_64"));
+pub const EMULATED: bool = cfg!(not(ivs_linked));
 
 /// The archive that is linked, or emulated: for tests.
 #[doc(hidden)]

@@ -76,6 +76,7 @@ refusals! {
     41 GlyphMapShort GLYPH_MAP_SHORT
     42 BadGlyphMap BAD_GLYPH_MAP
     43 BadWidths BAD_WIDTHS
+    60 StoreTooBig STORE_TOO_BIG
     61 OriginsShort ORIGINS_SHORT
     64 NoSet NO_SET
     70 LongValue LONG_VALUE

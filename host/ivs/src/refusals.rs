@@ -55,7 +55,7 @@ pub(crate) const NO_SET: u32 = 64;
 /// ```
 #[derive(Clone, Copy, Debug, PartialEq, Eq)]
 pub struct Refused {
-    /// The refusal number: 1 to 14, 30 to 34 and 61 of a job, 70 to 72 by the panel's profile, 20
+    /// The refusal number: 1 to 14, 30 to 34, 60 and 61 of a job, 70 to 72 by the panel's profile, 20
     /// to 22 of a reading, 40 to 42 of a glyph map, 43 of a width table, 64 of a set.
     pub number: u32,
     /// The record's index from 0 for 6, 7, 9, 30 to 34, 70 and 71; the record count for 8; else 0.

@@ -1,5 +1,5 @@
-/* The library's calls, answered over a pipe: for machines other than x86-64, where the
- * library cannot be linked and this program runs under the emulator of Rattle's kit
+/* The library's calls, answered over a pipe: for machines other than x86-64, where Rattle's
+ * own archive cannot be linked and this program runs under the emulator of Rattle's kit
  * (src/emulated.rs asks). It has no C library: three system calls, memset and memcpy.
  *
  * A question is 13 words of 64 bits (what is asked, three numbers, the lengths of job,

@@ -124,6 +124,11 @@ pub fn of(number: u32) -> (&'static str, &'static str, &'static str) {
             "the bytes are no width table, or its store or its map stands outside them",
             "look whether the table was cut off or damaged",
         ),
+        60 => (
+            "STORE_TOO_BIG",
+            "the store would have more than 4,294,967,295 bytes",
+            "use mode 0, or split the sets over several stores",
+        ),
         61 => (
             "ORIGINS_SHORT",
             "the origins lent are too few",

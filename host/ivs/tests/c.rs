@@ -1,6 +1,6 @@
 //! The library from C: examples/pack.c, compiled against include/ivs.h and linked with the
 //! archive, as README says. Where the archive is emulated there is nothing to link.
-#![cfg(target_arch = "x86_64")]
+#![cfg(ivs_linked)]
 
 use std::fs;
 use std::path::{Path, PathBuf};

@@ -1,6 +1,6 @@
 //! include/ivs.h beside what Rust says: the version, the refusals' numbers and names, and
 //! that the library has no memory of its own, on which calls from many threads rest.
-#![cfg(target_arch = "x86_64")]
+#![cfg(ivs_linked)]
 
 use std::fmt::Write;
 use std::fs;
@@ -87,6 +87,30 @@ fn no_memory_of_its_own() {
             .all(|name| ["memcpy", "memmove", "memset"].contains(name)),
         "{called:?}"
     );
+}
+
+/// No path of the machine that it was made on stands in the archive.
+#[test]
+fn no_path_of_the_machine() {
+    let archive = fs::read(env!("IVS_ARCHIVE")).unwrap();
+    let kit = Command::new("rt").arg("doc").output();
+    let kit = kit.map_or(String::new(), |said| {
+        String::from_utf8(said.stdout).unwrap()
+    });
+    let home = std::env::var("HOME").unwrap_or_default();
+    let folders = [
+        root().canonicalize().unwrap(),
+        std::env::temp_dir(),
+        PathBuf::from(home),
+        Path::new(kit.trim()).components().take(2).collect(),
+    ];
+    for folder in folders.iter().map(|path| path.to_string_lossy()) {
+        let found = |at: &[u8]| at == folder.as_bytes();
+        assert!(
+            folder.len() < 4 || !archive.windows(folder.len()).any(found),
+            "{folder}"
+        );
+    }
 }
 
 /// The same job from eight threads at once, each with memory of its own: one answer.

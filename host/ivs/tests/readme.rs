@@ -64,7 +64,7 @@ fn refusals() {
         .chain(20..=22)
         .chain(30..=34)
         .chain(40..=43)
-        .chain([61, 64])
+        .chain([60, 61, 64])
     {
         let name = ivs::Refused::bare(number).name();
         assert!(

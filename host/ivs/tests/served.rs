@@ -1,17 +1,24 @@
-//! The way for machines other than x86-64 (src/emulated.rs and src/served.c), tried on x86-64,
-//! where its program needs no emulator: every call goes that way and by the linked library,
-//! and both must answer the same and leave the same in all that is lent.
-#![cfg(target_arch = "x86_64")]
+//! The library in two ways: linked, and by src/emulated.rs and src/served.c. On x86-64 both are
+//! Rattle's own archive, and the program needs no emulator. On Arm the linked one was compiled
+//! for that of Rattle's module (tools/native), and the other, which is Rattle's own under the
+//! kit's emulator, judges it. Every call goes both ways with the same memory, which held noise,
+//! and must answer the same and leave the same in every byte that is lent.
+#![cfg(ivs_linked)]
 
 #[path = "../src/emulated.rs"]
 mod emulated;
 
 use ivs::{Lent, Pair, Profile};
-use std::path::Path;
+use jobs::Rng;
+use std::env;
+use std::path::{Path, PathBuf};
 use std::process::Command;
 
-/// The program, by the flags of build.rs.
-fn program() -> std::path::PathBuf {
+/// The program: as build.rs made it for the emulator, or by its flags for x86-64 itself.
+fn program() -> Option<PathBuf> {
+    if cfg!(not(target_arch = "x86_64")) {
+        return option_env!("IVS_SERVER").map(PathBuf::from);
+    }
     let program = Path::new(env!("CARGO_TARGET_TMPDIR")).join("ivs-served");
     let made = Command::new("cc")
         .args(["-O2", "-Wall", "-Werror", "-ffreestanding", "-fno-builtin"])
@@ -24,52 +31,32 @@ fn program() -> std::path::PathBuf {
         .expect("cc can be run, as Rust links by it");
     let said = String::from_utf8_lossy(&made.stderr);
     assert!(made.status.success(), "{said}");
-    program
+    Some(program)
 }
 
-/// Numbers that look random.
-struct Numbers(u64);
-
-impl Numbers {
-    fn below(&mut self, bound: u64) -> u64 {
-        self.0 = self
-            .0
-            .wrapping_mul(6_364_136_223_846_793_005)
-            .wrapping_add(1);
-        (self.0 >> 33) % bound
-    }
+/// Jobs with their axes: the examples, some at the limits, random ones, and of these some
+/// damaged.
+fn jobs() -> Vec<(u32, Vec<u8>)> {
+    let examples = jobs::examples::all().into_iter().map(|e| e.job);
+    let edges = [
+        jobs::edges::shapes(300),
+        jobs::edges::shapes(1_025),
+        jobs::edges::merged(2_000),
+        jobs::edges::behind(65_536),
+    ];
+    let random = (0..90).map(jobs::random::job);
+    let all = examples
+        .chain(edges)
+        .chain(random)
+        .chain((0..6).map(jobs::random::large));
+    let sound: Vec<_> = all.map(|job| (job.axes as u32, job.to_bytes())).collect();
+    let rng = &mut Rng::new(28);
+    let damaged = |(axes, job): &(u32, Vec<u8>)| (*axes, jobs::damage::any(rng, job).1);
+    let damaged: Vec<_> = sound.iter().step_by(3).map(damaged).collect();
+    sound.into_iter().chain(damaged).collect()
 }
 
-/// A job of one axis: some regions, some sets; of three one is cut off or damaged.
-fn job(numbers: &mut Numbers) -> Vec<u8> {
-    let mut job = ivs::JobWriter::new(1);
-    let regions = 1 + numbers.below(6) as u16;
-    for region in 0..regions {
-        job.region(&[(0, region as i16, 0x4000)]).unwrap();
-    }
-    for _ in 0..numbers.below(40) {
-        let values = [1, 300, 70_000].map(|most| numbers.below(2 * most) as i32 - most as i32);
-        let named = (0..regions)
-            .filter(|_| numbers.below(2) == 0)
-            .collect::<Vec<u16>>();
-        let value = |&region: &u16| (region, values[usize::from(region) % 3]);
-        job.set(&named.iter().map(value).collect::<Vec<_>>())
-            .unwrap();
-    }
-    let mut job = job.finish();
-    match numbers.below(6) {
-        0 => job.truncate(12 * numbers.below(job.len() as u64 / 12) as usize),
-        1 => {
-            let at = numbers.below(job.len() as u64) as usize;
-            job[at] ^= 1 << numbers.below(8);
-        }
-        _ => {}
-    }
-    job
-}
-
-/// All that a build is lent, the same for who goes by the same number; of pairs every second
-/// time zeros.
+/// All that a build is lent.
 #[derive(Clone, Debug, PartialEq)]
 struct Memory {
     work: Vec<u32>,
@@ -80,20 +67,37 @@ struct Memory {
 }
 
 impl Memory {
-    fn of(numbers: &mut Numbers, work: usize) -> Memory {
-        let noise = numbers.below(2) as u32;
-        let pair = Pair {
-            gain: noise,
-            first: noise,
-            second: noise,
+    /// Noise, as much of it as the job asks for and some more; of anything one time in twenty
+    /// one too few. Pairs are every second time zeros, which go the other way by a word.
+    fn of(rng: &mut Rng, axes: u32, mode: u32, job: &[u8]) -> Memory {
+        let done = ivs::forecast(axes, mode, job).unwrap_or_default();
+        let mut room = |needed: u64| match rng.below(20) {
+            0 => needed.saturating_sub(1) as usize,
+            _ => needed as usize + rng.below(9),
         };
-        let mut words = || vec![0xA5A5_0000; numbers.below(200) as usize];
-        let words = [words(), words(), words(), words()];
+        let sizes = [
+            job.len() as u64 / 12,
+            done.distinct_ids,
+            3 * done.shapes,
+            2 * done.shapes,
+        ];
+        let sizes = sizes.map(&mut room);
+        let work = room(ivs::work_words(job.len() / 12) as u64);
+        let (out, pairs) = (room(done.store_bytes), room(ivs::PAIRS as u64));
+        let noise = rng.below(2) as u32 * 0xA5A5_A5A5;
+        let mut words = |size| (0..size).map(|_| rng.bits() as u32).collect::<Vec<u32>>();
         Memory {
-            work: vec![0xA5A5_A5A5; work],
-            pairs: vec![pair; ivs::PAIRS - (numbers.below(8) == 0) as usize],
-            out: vec![0xA5; numbers.below(1_500) as usize],
-            words,
+            work: words(work),
+            words: sizes.map(&mut words),
+            out: words(out).into_iter().map(|word| word as u8).collect(),
+            pairs: vec![
+                Pair {
+                    gain: noise,
+                    first: noise,
+                    second: noise
+                };
+                pairs
+            ],
             report: [7; 16],
         }
     }
@@ -112,45 +116,68 @@ impl Memory {
         };
         call(&mut lent, &mut self.report)
     }
+
+    /// A call both ways, from this memory: the answer, which is one.
+    fn both(
+        &self,
+        what: &str,
+        linked: impl Fn(&mut Lent<'_>, &mut [u64; 16]) -> u32,
+        served: impl Fn(&mut Lent<'_>, &mut [u64; 16]) -> u32,
+    ) -> u32 {
+        let (mut one, mut other) = (self.clone(), self.clone());
+        let answers = (one.lent(linked), other.lent(served));
+        assert_eq!(answers.0, answers.1, "{what}");
+        assert!(one.report == other.report, "{what}: report");
+        assert!(one.out == other.out, "{what}: out");
+        for (i, name) in ["ids", "map", "log", "origins"].iter().enumerate() {
+            assert!(one.words[i] == other.words[i], "{what}: {name}");
+        }
+        assert!(one.work == other.work, "{what}: work");
+        assert!(one.pairs == other.pairs, "{what}: pairs");
+        answers.0
+    }
 }
 
 /// One test, since the program is named by a variable of the whole process.
 #[test]
 fn the_same_both_ways() {
-    std::env::set_var("IVS_SERVER", program());
-    let mut numbers = Numbers(28);
-    let mut done = 0;
-    for round in 0..60 {
-        let job = job(&mut numbers);
-        let mode = numbers.below(2) as u32;
-        let words = ivs::work_words(job.len() / 12);
-        assert_eq!(emulated::work_words(job.len() / 12), words);
-        let mut linked = Memory::of(&mut numbers, words);
-        let mut served = linked.clone();
+    let Some(program) = program() else {
+        eprintln!("there is nothing to run Rattle's own archive with: only one way was gone");
+        return;
+    };
+    env::set_var("IVS_SERVER", program);
+    let rng = &mut Rng::new(28);
+    let (mut done, mut refused) = (0, 0);
+    for (number, (axes, job)) in jobs().iter().enumerate() {
+        let (axes, mode) = (*axes, rng.below(2) as u32);
+        let records = job.len() / 12;
+        assert_eq!(emulated::work_words(records), ivs::work_words(records));
+        let memory = Memory::of(rng, axes, mode, job);
         for profile in [Profile::Panel, Profile::Plain] {
-            let answer = linked
-                .lent(|lent, report| ivs::build_report_for(profile, 1, mode, &job, lent, report));
-            let other =
-                served.lent(|lent, report| emulated::build(profile, 1, mode, &job, lent, report));
-            assert!(answer == other && linked == served, "{round}: {profile:?}");
+            let answer = memory.both(
+                &format!("job {number}, {profile:?}"),
+                |lent, report| ivs::build_report_for(profile, axes, mode, job, lent, report),
+                |lent, report| emulated::build(profile, axes, mode, job, lent, report),
+            );
             done += usize::from(answer == 0);
+            refused += usize::from(answer != 0);
         }
-
-        let answer = linked.lent(|lent, report| {
-            ivs::forecast_report(1, mode, &job, lent.work, lent.pairs, report)
-        });
-        let other = served
-            .lent(|lent, report| emulated::forecast(1, mode, &job, lent.work, lent.pairs, report));
-        assert!(answer == other && linked == served, "{round}: forecast");
-
-        let answer = linked.lent(|lent, report| ivs::part_report(1, &job, 0, 1, lent.work, report));
-        let other = served.lent(|lent, report| emulated::part(1, &job, 0, 1, lent.work, report));
-        assert!(answer == other && linked == served, "{round}: part");
-        if let Ok(packed) = ivs::pack(1, mode, &job) {
+        memory.both(
+            &format!("job {number}, forecast"),
+            |lent, report| ivs::forecast_report(axes, mode, job, lent.work, lent.pairs, report),
+            |lent, report| emulated::forecast(axes, mode, job, lent.work, lent.pairs, report),
+        );
+        let (first, second) = (rng.below(4) as u32, rng.below(4) as u32);
+        memory.both(
+            &format!("job {number}, part"),
+            |lent, report| ivs::part_report(axes, job, first, second, lent.work, report),
+            |lent, report| emulated::part(axes, job, first, second, lent.work, report),
+        );
+        if let Ok(packed) = ivs::pack(axes, mode, job) {
             tables(&packed);
         }
     }
-    assert!(done > 5, "{done}");
+    assert!(done > 100 && refused > 50, "{done} {refused}");
 }
 
 /// The word that a reading stands for (include/ivs.h).

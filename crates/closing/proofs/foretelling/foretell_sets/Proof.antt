@@ -11,6 +11,7 @@ use Rattle.finishing.proofs.foretell.Reads as foretell-reads
 use Rattle.arranging.proofs.arrange.Reads as arrange-reads
 use Rattle.arranging.proofs.is_null.Reads as is-null-reads
 use Rattle.closing.proofs.foretelling.foretell_none.Reads as foretell-none-reads
+use Rattle.closing.proofs.foretelling.tell_size.Reads as tell-size-reads
 
 returns : tie.Need-returns
 returns c = λ axes mode job o mid r j. foretell-refused axes mode job o _ mid r (c .if1 .taken)
@@ -26,8 +27,11 @@ foretell-none-requires c κs =
 
 returns-2 : tie.Need-returns-2
 returns-2 c = λ axes mode job o mid r j.
-    let t = c .before .before .is-null .ensures .0 (c .before .if2 .taken) in
-    none-told axes mode job (c .before .before .before .before .before .before .args .s) o mid r j (c .before .before .before .if1 .left) (t .0) (t .1) _ (c .foretell-none .ensures)
+    let t = c .before .before .before .is-null .ensures .0 (c .before .before .if2 .taken) in
+    none-told axes mode job (c .before .before .before .before .before .before .before .args .s) o mid r j (c .before .before .before .before .if1 .left) (t .0) (t .1) _ (c .before .foretell-none .ensures) (c .tell-size .ensures)
+
+tell-size-requires : tie.Need-tell-size-requires
+tell-size-requires c κs = search needs
 
 arrange-requires : tie.Need-arrange-requires
 arrange-requires c κs =
@@ -41,11 +45,14 @@ foretell-requires c κs =
     let a = c .before .before .before .arrange .ensures (f .axes) (f .mode) (q .job) (f .outcome) (f .mid) (f .read) (f .joined) in
     (arranged-few a, words-fit (a .fit))
 
+tell-size-requires-2 : tie.Need-tell-size-requires-2
+tell-size-requires-2 c κs = search needs
+
 same-length : tie.Need-same-length
 same-length c = search needs
 
 returns-3 : tie.Need-returns-3
-returns-3 c = λ axes mode job o mid r j. arranged-told (c .before .before .before .before .arrange .ensures axes mode job o mid r j) _ (c .foretell .ensures)
+returns-3 c = λ axes mode job o mid r j. arranged-told (c .before .before .before .before .before .arrange .ensures axes mode job o mid r j) _ (c .before .foretell .ensures) (c .tell-size2 .ensures)
 
 pub foretell-sets-spec : {M : Type 1} → statement M
 foretell-sets-spec =
@@ -54,8 +61,10 @@ foretell-sets-spec =
     returns
     is-null-requires
     foretell-none-requires
+    tell-size-requires
     returns-2
     arrange-requires
     foretell-requires
+    tell-size-requires-2
     same-length
     returns-3)

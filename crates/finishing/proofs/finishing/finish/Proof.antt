@@ -38,7 +38,8 @@ write-out-requires : tie.Need-write-out-requires
 write-out-requires c κs =
     let q = c .before .before .before .before .before .before .before .before .before .before .before .before .before .before .before .before .before .before .before .before .before .pre in
     let d = c .before .before .before .before .before .before .before .before .before .before .measure .ensures .drafted in
-    (q, (plan q d, room q d (c .before .before .before .before .before .short-no .ensures) (c .before .before .before .before .if1 .left) .out-room))
+    let r = room q d (c .before .before .before .before .before .short-no .ensures) (c .before .before .before .before .if1 .left) in
+    (q, (plan q d r, r .out-room))
 
 write-words-requires : tie.Need-write-words-requires
 write-words-requires c κs =

@@ -1,0 +1,2 @@
+pub mod StoreWords
+pub mod Told
