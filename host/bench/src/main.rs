@@ -11,6 +11,7 @@ mod fonts;
 mod fresh;
 mod inputs;
 mod library;
+mod memory;
 mod merging;
 mod table;
 mod whole;

@@ -75,6 +75,8 @@ fn table(lines: &mut Lines, name: &str, all: impl Iterator<Item = Workload>) -> 
         "source / fresh",
         "source / rest",
         "rest, ns a record",
+        "source, MB",
+        "lent, MB",
     ];
     lines.add("");
     lines.add(&format!("| {} |", columns.join(" | ")));
@@ -104,7 +106,7 @@ fn row(line: &Line, sets: usize, measured: &Measured) -> String {
         fresh,
     } = line.best;
     let done = &measured.done;
-    let cells: [&dyn Display; 16] = [
+    let cells: [&dyn Display; 18] = [
         &line.name,
         &line.records,
         &sets,
@@ -121,6 +123,8 @@ fn row(line: &Line, sets: usize, measured: &Measured) -> String {
         &format!("{:.2}", ratio(source, fresh)),
         &format!("{:.2}", line.ratio()),
         &format!("{:.0}", line.each()),
+        &mb(measured.source_bytes),
+        &mb(measured.lent_bytes),
     ];
     let cells: String = cells.iter().map(|cell| format!(" {cell} |")).collect();
     format!("|{cells}")
@@ -150,6 +154,11 @@ fn growth(all: &[Line]) -> String {
         "Growth: {least:.0} to {most:.0} ns a record, {:.2} times.",
         most / least
     )
+}
+
+/// Megabytes.
+fn mb(bytes: u64) -> String {
+    format!("{:.1}", bytes as f64 / 1e6)
 }
 
 fn ms(time: Duration) -> String {

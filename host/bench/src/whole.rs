@@ -1,5 +1,6 @@
 //! The times of one workload: whole builds by the source and by the library.
 
+use std::mem::size_of;
 use std::time::{Duration, Instant};
 
 use differential::known::Source;
@@ -8,6 +9,7 @@ use ivs::{Done, Lent, Packed, Pair, PAIRS};
 use crate::clearing::split;
 use crate::clock::{cpu_time, time};
 use crate::fresh::Fresh;
+use crate::memory;
 use crate::workloads::Workload;
 
 /// The best of at least so many runs is told, and of more where they are short.
@@ -42,6 +44,10 @@ pub struct Measured {
     pub done: Done,
     /// The times.
     pub best: Best,
+    /// Bytes that the source holds at once at the most, beyond the sets that it is given.
+    pub source_bytes: u64,
+    /// Bytes that are lent to the library, the store's among them.
+    pub lent_bytes: u64,
 }
 
 /// Measures a workload, once the source and the library have given the same.
@@ -62,7 +68,17 @@ pub fn measure(workload: &Workload) -> Measured {
         records,
         done,
         best,
+        source_bytes: source_bytes(workload),
+        lent_bytes: buffers.bytes() + (size_of::<u32>() * work + size_of::<Pair>() * PAIRS) as u64,
     }
+}
+
+/// The most memory that the source holds, in a run of its own: counting takes time.
+fn source_bytes(workload: &Workload) -> u64 {
+    let Workload { mode, job, .. } = workload;
+    let clock = memory::clock;
+    let shown = oracle::build_whole(job.axes as u16, *mode, &job.regions, &job.sets, clock);
+    memory::bytes(shown.expect("the source is there"))
 }
 
 /// Store, ids, map, log, N and sizes are the source's.
@@ -99,6 +115,11 @@ impl Buffers {
             log: vec![0; 3 * 1_023],
             origins: vec![0; 2 * 1_024],
         }
+    }
+
+    fn bytes(&self) -> u64 {
+        let words = [&self.ids, &self.map, &self.log, &self.origins].map(Vec::len);
+        (self.out.len() + size_of::<u32>() * words.iter().sum::<usize>()) as u64
     }
 
     fn lent<'a>(&'a mut self, work: &'a mut [u32], pairs: &'a mut [Pair]) -> Lent<'a> {

@@ -27,7 +27,7 @@ pub fn fonts() -> impl Iterator<Item = Workload> {
 
 /// Large jobs. Each is made when it is asked for, since each takes much memory.
 pub fn large() -> impl Iterator<Item = Workload> {
-    let makers: [fn() -> Workload; 12] = [
+    let makers: [fn() -> Workload; 14] = [
         || shared("60,000 sets over 12 regions", twelve_regions()),
         || own("60,000 sets over 12 regions, mode 1", twelve_regions()),
         || shared("200,000 sets, under 2,000 distinct", few_distinct()),
@@ -46,6 +46,8 @@ pub fn large() -> impl Iterator<Item = Workload> {
             shared("the record limit, values in any order", job)
         },
         || shared("the record limit, 1,024 shapes", most_and_shapes()),
+        || shared("20,000 sets over 5,000 regions", five_thousand()),
+        || shared("2,000 sets over 32,767 regions", most_regions()),
     ];
     makers.into_iter().map(|make| make())
 }
@@ -108,6 +110,16 @@ fn eight_dense() -> Job {
 fn most_and_shapes() -> Job {
     let sets = (1_048_576 - 64) / 13;
     of_shapes(&shapes(64, 1_024, 12, &[1, 1, 2, 4]), sets)
+}
+
+/// 400 shapes of 24 regions each of 5,000.
+fn five_thousand() -> Job {
+    of_shapes(&shapes(5_000, 400, 24, &[1, 1, 2]), 20_000)
+}
+
+/// 100 shapes of 300 regions each of as many as there may be.
+fn most_regions() -> Job {
+    of_shapes(&shapes(jobs::REGIONS, 100, 300, &[1, 1, 2]), 2_000)
 }
 
 /// A shape: a width for each region.

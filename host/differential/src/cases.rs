@@ -126,6 +126,15 @@ pub fn large(seeds: std::ops::Range<u64>, visit: &mut dyn FnMut(&Case<'_>)) {
     }
 }
 
+/// The random jobs of some seeds whose regions have numbers of two bytes, in both modes.
+pub fn wide(seeds: std::ops::Range<u64>, visit: &mut dyn FnMut(&Case<'_>)) {
+    for seed in seeds {
+        let job = random::wide(seed);
+        let name = format_args!("seed {seed} ({})", random::wide_recipe(seed));
+        both(job.axes, &job.to_bytes(), &name, visit);
+    }
+}
+
 /// The random jobs of some seeds, damaged, in both modes. A job may still be
 /// sound.
 pub fn damaged(seeds: std::ops::Range<u64>, visit: &mut dyn FnMut(&Case<'_>)) {
@@ -154,4 +163,7 @@ pub fn edges(visit: &mut dyn FnMut(&Case<'_>)) {
     let mut over = edges::most_records();
     over.sets.push(Vec::new());
     show("1,048,577 records", over);
+    for count in [255, 256, 257, 32_766, 32_767, 32_768] {
+        show(&format!("{count} regions"), edges::regions(count));
+    }
 }

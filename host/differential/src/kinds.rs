@@ -111,6 +111,16 @@ pub fn large(seeds: &Range<u64>) -> Run {
     Run::over(share, |visit| cases::large(few, visit))
 }
 
+/// Wide random jobs, one for four hundred of the others.
+pub fn wide(seeds: &Range<u64>) -> Run {
+    let few = seeds.start..seeds.start + (seeds.end - seeds.start) / 400;
+    let share = Share {
+        forecast: 1,
+        ..some(1, 11)
+    };
+    Run::over(share, |visit| cases::wide(few, visit))
+}
+
 /// The plain reading in memory around each size, on one random job in twenty.
 pub fn sizes(seeds: &Range<u64>) -> Run {
     let mut run = Run::default();

@@ -34,7 +34,7 @@ fn main() -> ExitCode {
         "", "passed", "failed", "passed", "failed", "with source", "seconds"
     );
     let mut all = Tally::default();
-    let runs: [(&str, &dyn Fn() -> Run); 16] = [
+    let runs: [(&str, &dyn Fn() -> Run); 17] = [
         ("recorded answers", &kinds::recorded),
         ("recorded glyph maps", &kinds::recorded_maps),
         ("built cases", &kinds::built),
@@ -47,6 +47,7 @@ fn main() -> ExitCode {
         ("every damage to one job", &kinds::each_damage),
         ("random jobs", &|| kinds::random(seeds)),
         ("large random jobs", &|| kinds::large(seeds)),
+        ("wide random jobs", &|| kinds::wide(seeds)),
         ("damaged jobs", &|| kinds::damaged(seeds)),
         ("plain reading around its sizes", &|| kinds::sizes(seeds)),
         ("where two sets part", &|| kinds::parts(seeds)),

@@ -82,6 +82,11 @@ fn large_random_jobs() {
 }
 
 #[test]
+fn wide_random_jobs() {
+    held("wide random jobs", &kinds::wide(&SEEDS));
+}
+
+#[test]
 fn damaged_jobs() {
     held("damaged jobs", &kinds::damaged(&SEEDS));
 }

@@ -45,8 +45,8 @@ fn unknown_kind() {
 #[test]
 fn not_zero() {
     let zeros: [(&str, &[usize]); 3] = [
-        (NEXT_REGION, &[3, 10, 11]),
-        (VALUE, &[2, 3, 8, 9, 10, 11]),
+        (NEXT_REGION, &[10, 11]),
+        (VALUE, &[2, 8, 9, 10, 11]),
         (END, &[1, 2, 3, 4, 5, 6, 7, 8, 9, 10, 11]),
     ];
     for (record, zeros) in zeros {
@@ -88,19 +88,52 @@ fn late_axis_records() {
     assert_eq!(answer(2, &[END, REGION]), (33, 1, 0));
 }
 
-/// Of 256 regions none is the next, before the sets and behind them.
+/// So many regions, an axis record each for every axis.
+fn regions(count: u32, axes: u32) -> String {
+    let numbers = (0..count).flat_map(|region| (0..axes).map(move |axis| (region, axis)));
+    let record = |(region, axis): (u32, u32)| {
+        let (high, low) = (region >> 8, region & 255);
+        format!("01{low:02x}{axis:02x}{high:02x}0000400040000000")
+    };
+    numbers.map(record).collect()
+}
+
+/// The high byte of a region's number stands in byte 3: on both sides of 256.
 #[test]
-fn the_257th_region() {
-    for axes in [1, 2, 64] {
-        let regions: String = (0..256)
-            .flat_map(|region| (0..axes).map(move |axis| (region, axis)))
-            .map(|(region, axis)| format!("01{region:02x}{axis:02x}000000400040000000"))
-            .collect();
-        assert_eq!(answer(axes, &[&regions, END]), (0, 0, 0));
-        let records = 256 * u64::from(axes);
-        for next in [REGION, "01ff00000000400040000000"] {
-            assert_eq!(answer(axes, &[&regions, next]), (32, records, 0));
-            assert_eq!(answer(axes, &[&regions, END, next]), (32, records + 1, 0));
+fn regions_of_two_bytes() {
+    for count in [255, 256, 257, 258] {
+        let job = regions(count, 1);
+        let value = |region: u32| {
+            format!(
+                "02{:02x}00{:02x}0000000500000000",
+                region & 255,
+                region >> 8
+            )
+        };
+        let (last, past) = (value(count - 1), value(count));
+        assert_eq!(answer(1, &[&job, &last, END]), (0, 0, 0));
+        assert_eq!(answer(1, &[&job, &past, END]), (6, u64::from(count), 0));
+        // The next region, by its low byte alone.
+        let low = format!("01{:02x}00000000400040000000", count & 255);
+        let due = if count < 256 { 0 } else { 32 };
+        assert_eq!(answer(1, &[&job, &low, END]).0, due);
+    }
+}
+
+/// Of 32,767 regions none is the next, before the sets and behind them.
+#[test]
+fn the_32768th_region() {
+    for axes in [1, 2] {
+        let job = regions(32_767, axes);
+        assert_eq!(answer(axes, &[&job, END]), (0, 0, 0));
+        let records = 32_767 * u64::from(axes);
+        for next in [
+            REGION,
+            "01ff007f0000400040000000",
+            "01fe007f0000400040000000",
+        ] {
+            assert_eq!(answer(axes, &[&job, next]), (32, records, 0));
+            assert_eq!(answer(axes, &[&job, END, next]), (32, records + 1, 0));
         }
     }
 }
@@ -118,10 +151,11 @@ fn a_region_that_lacks_an_axis() {
 #[test]
 fn several_at_once() {
     // Kind, zero byte, turn: 30, then 31, then 32 as each is mended.
-    assert_eq!(answer(1, &[END, "090700010000400040000002"]), (30, 1, 0));
-    assert_eq!(answer(1, &[END, "010700010000400040000002"]), (31, 1, 3));
+    assert_eq!(answer(1, &[END, "090700010000400040000102"]), (30, 1, 0));
+    assert_eq!(answer(1, &[END, "010700010000400040000102"]), (31, 1, 10));
     assert_eq!(answer(1, &[END, "010700000000400040000002"]), (31, 1, 11));
     assert_eq!(answer(1, &[END, "010700000000400040000000"]), (32, 1, 0));
+    assert_eq!(answer(1, &[END, "010000010000400040000000"]), (32, 1, 0));
     assert_eq!(answer(1, &[END, "010000000000400040000000"]), (33, 1, 0));
     // A value in a region that lacks an axis, of a region that there is not.
     assert_eq!(

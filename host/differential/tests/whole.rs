@@ -73,10 +73,10 @@ fn recovered_and_built_again() {
         // The job has what was put into the store.
         let job = Job::parse(store.axes, &recovered.job).unwrap();
         assert_eq!(job.regions, store.regions);
-        let set = |(_, _, row): (usize, usize, Vec<(usize, i32)>)| -> Vec<(u8, i32)> {
+        let set = |(_, _, row): (usize, usize, Vec<(usize, i32)>)| -> Vec<(u16, i32)> {
             let values = row.into_iter().filter(|(_, value)| *value != 0);
             values
-                .map(|(region, value)| (region as u8, value))
+                .map(|(region, value)| (region as u16, value))
                 .collect()
         };
         assert_eq!(job.sets, store.rows().map(set).collect::<Vec<_>>());

@@ -68,14 +68,14 @@ mod wording;
 mod writer;
 
 pub use building::{
-    build_into, build_into_for, build_report, build_report_for, head_regions, job_words, pack, pack_for, work_words, Done,
-    Lent, Packed, Pair, Profile, PAIRS,
+    build_into, build_into_for, build_report, build_report_for, head_regions, job_words, pack,
+    pack_for, work_words, Done, Lent, Packed, Pair, Profile, PAIRS,
 };
 pub use explain::written_for;
 pub use forecast::{forecast, forecast_report, forecast_with};
 pub use glyphs::{read_glyph, write_glyphs, write_glyphs_into, GLYPHS};
 pub use job::{Error, Job, Mode};
-pub use judging::{head_regions, judge, judge_report, judge_with, judge_words, Verdict};
+pub use judging::{judge, judge_report, judge_with, judge_words, Verdict};
 pub use keeping::{keep, keep_into, keep_report, keep_words, Kept, KeptInto};
 pub use part::{part, part_report, part_with, Parted, Parting};
 pub use reading::{read, Reading};

@@ -40,6 +40,7 @@ pub fn made(maker: &str, count: usize) -> Option<Job> {
         "behind" => Some(behind(count)),
         "shapes" => Some(shapes(count)),
         "most_records" => Some(most_records()),
+        "regions" => Some(regions(count)),
         _ => None,
     }
 }
@@ -67,6 +68,37 @@ pub fn most_records() -> Job {
             .map(move |r| value(n, r))
     };
     job.sets = (0..4_095).map(|n| set(n).collect()).collect();
+    job
+}
+
+/// `count` regions and two sets that name all of them, the second in the other order: values of
+/// one byte, and of two for every third region.
+pub fn regions(count: usize) -> Job {
+    let mut job = Job::one_axis(count);
+    let value = |r: usize| {
+        (
+            r as u16,
+            (r % 100 + 1) as i32 * if r % 3 == 0 { 300 } else { 1 },
+        )
+    };
+    let set: Vec<(u16, i32)> = (0..count).map(value).collect();
+    let turned = set.iter().rev().map(|v| (v.0, v.1 - 1)).collect();
+    job.sets = vec![set, turned];
+    job
+}
+
+/// For mode 1: `rows` sets, of which the first names all of so many regions, the first `twos` of
+/// them with values of two bytes and the others with one byte. The other sets are empty, and
+/// their rows as long as the first.
+pub fn long_rows(axes: usize, regions: usize, twos: usize, rows: usize) -> Job {
+    let mut job = Job::one_axis(regions);
+    job.axes = axes;
+    for region in &mut job.regions {
+        region.resize(axes, [0, 0, 0]);
+    }
+    let value = |r: usize| (r as u16, if r < twos { 1_000 } else { 1 });
+    job.sets = vec![Vec::new(); rows];
+    job.sets[0] = (0..regions).map(value).collect();
     job
 }
 

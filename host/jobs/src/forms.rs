@@ -38,7 +38,7 @@ pub fn each(mut visit: impl FnMut(usize, &[u8])) {
 /// What stands before the record: nothing; a last region that lacks an axis (of one axis, one
 /// region); two regions; these and a value; these and a set.
 fn beginnings(axes: u8) -> Vec<Vec<u8>> {
-    let region = |region| (0..axes).flat_map(move |axis| axis_record(region, axis, [0, 1, 2]));
+    let region = |region: u16| (0..axes).flat_map(move |axis| axis_record(region, axis, [0, 1, 2]));
     let regions: Vec<u8> = region(0).chain(region(1)).collect();
     let lacking = regions[..regions.len() - RECORD].to_vec();
     let value = [&regions[..], &value_record(0, 5)].concat();

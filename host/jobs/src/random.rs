@@ -92,6 +92,14 @@ const LARGE: [Recipe; 4] = [
     Recipe { name: "large, dense", axes: (1, 1), regions: (30, 60), twins: 0, sets: (200, 1_024), patterns: 0, spread: 1, values: &[One, Two], again: 0 },
 ];
 
+/// Of regions whose numbers take both bytes (J1).
+#[rustfmt::skip]
+const WIDE: [Recipe; 3] = [
+    Recipe { name: "wide, around 256", axes: (1, 2), regions: (250, 262), twins: 30, sets: (2, 12), patterns: 3, spread: 8, values: &[Zero, One, Two, Four], again: 4 },
+    Recipe { name: "wide, hundreds", axes: (1, 3), regions: (257, 900), twins: 20, sets: (2, 20), patterns: 5, spread: 20, values: &[Zero, Tiny, One, Two], again: 4 },
+    Recipe { name: "wide, thousands", axes: (1, 1), regions: (1_000, 3_000), twins: 0, sets: (4, 16), patterns: 4, spread: 60, values: &[One, Two, Four], again: 5 },
+];
+
 /// The name of the recipe that makes the job of `seed`.
 pub fn recipe(seed: u64) -> &'static str {
     one_of(&RECIPES, seed).name
@@ -110,6 +118,16 @@ pub fn large_recipe(seed: u64) -> &'static str {
 /// The large job of `seed`.
 pub fn large(seed: u64) -> Job {
     follow(one_of(&LARGE, seed), seed)
+}
+
+/// The name of the recipe that makes the wide job of `seed`.
+pub fn wide_recipe(seed: u64) -> &'static str {
+    one_of(&WIDE, seed).name
+}
+
+/// The wide job of `seed`.
+pub fn wide(seed: u64) -> Job {
+    follow(one_of(&WIDE, seed), seed)
 }
 
 fn one_of(recipes: &[Recipe], seed: u64) -> &Recipe {
@@ -162,7 +180,9 @@ type Pattern = Vec<(u16, Value)>;
 fn pattern(rng: &mut Rng, recipe: &Recipe, regions: &[Region]) -> Pattern {
     let mut pattern = Pattern::new();
     for (number, region) in regions.iter().enumerate() {
-        let named = pattern.iter().any(|p| regions[p.0 as usize] == *region);
+        let named = pattern
+            .iter()
+            .any(|p: &(u16, Value)| regions[p.0 as usize] == *region);
         if !named && rng.one_in(recipe.spread) {
             pattern.push((number as u16, rng.pick(recipe.values)));
         }

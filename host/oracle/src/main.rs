@@ -131,6 +131,11 @@ fn edge_jobs() -> Vec<(&'static str, usize, Job, u32)> {
         ("shapes", 1_025, edges::shapes(1_025), 1),
         ("most_records", 0, edges::most_records(), 0),
         ("most_records", 0, edges::most_records(), 1),
+        ("regions", 256, edges::regions(256), 0),
+        ("regions", 257, edges::regions(257), 0),
+        ("regions", 257, edges::regions(257), 1),
+        ("regions", 32_767, edges::regions(32_767), 0),
+        ("regions", 32_767, edges::regions(32_767), 1),
     ]
 }
 

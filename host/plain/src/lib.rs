@@ -181,15 +181,10 @@ pub fn build_for(
     if profile == Profile::Panel && plan.groups.iter().any(|group| group.shape.columns() > 32) {
         return Err(Refused::at(number::WIDE_SUBTABLE, 0));
     }
-    let laid = store::lay(axes as usize, &numbered, &plan.groups, mode == 1);
-    let counts = Counts {
-        store_bytes: laid.bytes.len() as u64,
-        subtables: laid.subtables,
-        regions_kept: laid.regions_kept,
-        distinct_ids: numbered.sets.len() as u64,
-        ..plan.counts
-    };
-    let forecast = forecast::bytes(axes as u64, &plan.groups, mode == 1);
+    let (counts, forecast) = (
+        plan.counts,
+        forecast::bytes(axes as u64, &plan.groups, mode == 1),
+    );
 
     if sizes.ids < numbered.ids.len() {
         return Err(Refused::at(number::IDS_SHORT, 0));
@@ -203,14 +198,23 @@ pub fn build_for(
     if mode == 0 && (sizes.origins as u64) < 2 * counts.shapes {
         return Err(Refused::at(number::ORIGINS_SHORT, 0));
     }
-    if counts.store_bytes > 4_294_967_295 {
+    // Before anything is laid out: offsets have four bytes (R60).
+    if forecast > u64::from(u32::MAX) {
         return Err(Refused::at(number::STORE_TOO_BIG, 0));
     }
-    if (sizes.out as u64) < counts.store_bytes {
+    let laid = store::lay(axes as usize, &numbered, &plan.groups, mode == 1);
+    if sizes.out < laid.bytes.len() {
         return Err(Refused::at(number::OUT_SHORT, 0));
     }
     Ok(Done {
-        counts: Counts { forecast, ..counts },
+        counts: Counts {
+            store_bytes: laid.bytes.len() as u64,
+            subtables: laid.subtables,
+            regions_kept: laid.regions_kept,
+            distinct_ids: numbered.sets.len() as u64,
+            forecast,
+            ..counts
+        },
         store: laid.bytes,
         ids: numbered.ids,
         map: laid.map,

@@ -128,6 +128,6 @@ fn put_u16(bytes: &mut Vec<u8>, number: usize) {
 }
 
 fn put_u32(bytes: &mut Vec<u8>, number: usize) {
-    let number = u32::try_from(number).expect("a store stays far below 4 GiB");
+    let number = u32::try_from(number).expect("R60 keeps a store below 4 GiB");
     bytes.extend(number.to_be_bytes());
 }
