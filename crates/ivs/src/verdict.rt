@@ -4,12 +4,12 @@ ghost use Rattle.judging.specs.Judge.{judgeWords};
 ghost use Rattle.verdict_words.specs.Told.{JudgeTold};
 
 // The words of work for a job of so many records and head regions and a store of so many bytes; 0 above the record limit, and for more bytes
-// than a slice has. Published work does not go by regions yet.
+// than a slice has.
 #[no_mangle]
 pub extern "C" fn ivs_judge_words(records: usize, regions: usize, bytes: usize) -> usize
-    ensures { λ r. ⌜ r ≡ judgeWords records bytes ⌝ }
+    ensures { λ r. ⌜ r ≡ judgeWords records regions bytes ⌝ }
 {
-    judging::judge_words(records, bytes)
+    judging::judge_words(records, regions, bytes)
 }
 
 // Whether a store gives every set of a job at the set's word: the refusal number, 0 where it was judged; the report has all numbers of the answer.

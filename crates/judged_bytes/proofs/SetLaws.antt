@@ -64,12 +64,12 @@ module _ (p : Parsed) (o i : ℕ) (x : RowIn p o i) (q : ℕ) (b : q < length (p
 module _ (axes : ℕ) (job store words : List ℕ) (work : ℕ) (s : Said) (p : Parsed) (a : Sound axes job store work s p) (bytes : Bytes job) (octets : Bytes store) where
   -- ---- what the job says
 
-  early : earlyNo axes 0 (length job) work pairRecords ≡ 0
-  early = go (earlyNo axes 0 (length job) work pairRecords) refl
+  early : earlyNo axes 0 job work pairRecords ≡ 0
+  early = go (earlyNo axes 0 job work pairRecords) refl
     where
-      go : (n : ℕ) → earlyNo axes 0 (length job) work pairRecords ≡ n → n ≡ 0
+      go : (n : ℕ) → earlyNo axes 0 job work pairRecords ≡ n → n ≡ 0
       go zero e = refl
-      go (suc n) e = absurd (omega (arith, judge-first axes (length job) (length store) work (suc n) (sym e) (λ z. omega arith), a .passed))
+      go (suc n) e = absurd (omega (arith, judge-first axes job (length store) work (suc n) (sym e) (λ z. omega arith), a .passed))
 
   outcome-is : outcome axes 0 job work pairRecords ≡ fine s
   unfolding outcome
@@ -79,7 +79,7 @@ module _ (axes : ℕ) (job store words : List ℕ) (work : ℕ) (s : Said) (p : 
   job-told = told axes 0 job work pairRecords s outcome-is
 
   axes-some : 0 < axes
-  axes-some = open-if axes 0 (length job) work pairRecords early .some
+  axes-some = open-if axes 0 job work pairRecords early .some
 
   well : WellSaid axes job (recordCount job) s
   well = well-said axes 0 job (recordCount job) s axes-some bytes (a .said-is)

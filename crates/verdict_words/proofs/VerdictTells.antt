@@ -39,7 +39,7 @@ module _ (job w old : List ℕ) where
 -- ---- a call whole: what was answered, left and told
 
 module _ {axes : ℕ} {job store words work work′ report report′ : List ℕ} {number : ℕ} where
-  pub judge-whole : (r : Judged) → r ≡ judgeOf axes job store words (length work) → work′ ≡ judgeLeft axes (length job) (length store) work → number ≡ judgeNumber r
+  pub judge-whole : (r : Judged) → r ≡ judgeOf axes job store words (length work) → work′ ≡ judgeLeft axes job (length store) work → number ≡ judgeNumber r
       → report′ ≡ filled 0 (judgedWords job r) report → JudgeTold axes job store words work number work′ report report′
   judge-whole r e w n h = record {
     number-is = n ∙ ap judgeNumber e;

@@ -9,5 +9,5 @@ use Rattle.verdict_words.specs.VerdictWords.{judgeNumber, judgedWords}
 
 pub record JudgeTold (axes : ℕ) (job store words work : List ℕ) (number : ℕ) (work′ report report′ : List ℕ) : Type 0 where
   pub number-is : number ≡ judgeNumber (judgeOf axes job store words (length work))
-  pub work-is : work′ ≡ judgeLeft axes (length job) (length store) work
+  pub work-is : work′ ≡ judgeLeft axes job (length store) work
   pub report-is : report′ ≡ filled 0 (judgedWords job (judgeOf axes job store words (length work))) report
