@@ -30,7 +30,7 @@ fn foretell_none(axes: usize) -> Report
 {
     let mut null = [0u32; 3];
     null[1] = 3;
-    foretell(&null, null_packing(axes))
+    foretell(&mut null, null_packing(axes))
 }
 
 // What was measured is answered, unless the store would be too big.

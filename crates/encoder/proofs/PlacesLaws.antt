@@ -85,5 +85,6 @@ module _ (base n u r h long : ℕ) (p : Places) (f : PlacesAt base n u p) (behin
     into-to = omega (arith, f .into-is, f .log-is);
     log-to = omega (arith, f .rows-is);
     rows-to = omega (arith, f .sets-is, rows-short);
+    scratch-to = rw (f .sets-is, f .regions-is) (omega (arith, rows-short));
     few = rw (f .sets-is) (omega (arith, rows-few));
   }
