@@ -462,12 +462,13 @@ mod tests {
 
     #[test]
     fn a_job_that_is_full_is_said_once() {
-        let region = |number: i32| format!("region r{number} 0 {} 1\n", f64::from(number) / 1024.0);
-        let regions: String = (0..260).map(region).collect();
-        let wrong = wrong(format!("axes 1\n{regions}set r0=1 r259=3\n"));
+        let peak = |number: i32| f64::from(number) / 16384.0 - 1.0;
+        let region = |number: i32| format!("region r{number} -2 {} 1.5\n", peak(number));
+        let regions: String = (0..32_770).map(region).collect();
+        let wrong = wrong(format!("axes 1\n{regions}set r0=1 r32769=3\n"));
         assert_eq!(
             wrong,
-            ["line 258: more than 256 regions; a job has no room"]
+            ["line 32769: more than 32767 regions; a job has no room"]
         );
     }
 }

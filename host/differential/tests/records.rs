@@ -45,8 +45,8 @@ fn unknown_kind() {
 #[test]
 fn not_zero() {
     let zeros: [(&str, &[usize]); 3] = [
-        (NEXT_REGION, &[3, 10, 11]),
-        (VALUE, &[2, 3, 8, 9, 10, 11]),
+        (NEXT_REGION, &[10, 11]),
+        (VALUE, &[2, 8, 9, 10, 11]),
         (END, &[1, 2, 3, 4, 5, 6, 7, 8, 9, 10, 11]),
     ];
     for (record, zeros) in zeros {
@@ -73,6 +73,15 @@ fn turns_of_axis_records() {
     assert_eq!(answer(1, &[REGION, SECOND_AXIS]), (32, 1, 0));
 }
 
+/// Byte 3 is the high byte of a region's number: of one that is next, of one that is there.
+#[test]
+fn high_bytes() {
+    assert_eq!(answer(1, &["010000010000400040000000"]), (32, 0, 0));
+    assert_eq!(answer(1, &[REGION, "010100010000400040000000"]), (32, 1, 0));
+    assert_eq!(answer(1, &[REGION, "020000010000000500000000"]), (6, 1, 0));
+    assert_eq!(answer(1, &[REGION, "0200ff010000000500000000"]), (31, 1, 2));
+}
+
 /// Late and the next, or late and another: the turn goes on behind the sets.
 #[test]
 fn late_axis_records() {
@@ -88,17 +97,24 @@ fn late_axis_records() {
     assert_eq!(answer(2, &[END, REGION]), (33, 1, 0));
 }
 
-/// Of 256 regions none is the next, before the sets and behind them.
+/// Behind 32,767 regions none is the next, before the sets and behind them.
 #[test]
-fn the_257th_region() {
-    for axes in [1, 2, 64] {
-        let regions: String = (0..256)
+fn behind_the_last_region() {
+    for axes in [1, 2] {
+        let regions: String = (0..32_767)
             .flat_map(|region| (0..axes).map(move |axis| (region, axis)))
-            .map(|(region, axis)| format!("01{region:02x}{axis:02x}000000400040000000"))
+            .map(|(region, axis)| {
+                let (high, low) = (region / 256, region % 256);
+                format!("01{low:02x}{axis:02x}{high:02x}0000400040000000")
+            })
             .collect();
         assert_eq!(answer(axes, &[&regions, END]), (0, 0, 0));
-        let records = 256 * u64::from(axes);
-        for next in [REGION, "01ff00000000400040000000"] {
+        let records = 32_767 * u64::from(axes);
+        for next in [
+            REGION,
+            "01ff007f0000400040000000",
+            "010000800000400040000000",
+        ] {
             assert_eq!(answer(axes, &[&regions, next]), (32, records, 0));
             assert_eq!(answer(axes, &[&regions, END, next]), (32, records + 1, 0));
         }

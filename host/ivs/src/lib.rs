@@ -62,8 +62,8 @@ mod wording;
 mod writer;
 
 pub use building::{
-    build_into, build_into_for, build_report, build_report_for, head_regions, job_words, pack, pack_for, work_words, Done,
-    Lent, Packed, Pair, Profile, PAIRS,
+    build_into, build_into_for, build_report, build_report_for, head_regions, job_words, pack,
+    pack_for, work_words, Done, Lent, Packed, Pair, Profile, PAIRS,
 };
 pub use explain::written_for;
 pub use forecast::{forecast, forecast_report, forecast_with};

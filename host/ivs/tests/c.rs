@@ -82,7 +82,7 @@ fn a_large_store() {
         job.region(&[(0, peak, 0x4000)]).unwrap();
     }
     for set in 0..1_100 {
-        let values: Vec<(u8, i32)> = (0..=255).map(|region| (region, 70_000 + set)).collect();
+        let values: Vec<(u16, i32)> = (0..256).map(|region| (region, 70_000 + set)).collect();
         job.set(&values).unwrap();
     }
     let job = job.finish();

@@ -40,6 +40,7 @@ pub fn made(maker: &str, count: usize) -> Option<Job> {
         "behind" => Some(behind(count)),
         "shapes" => Some(shapes(count)),
         "most_records" => Some(most_records()),
+        "regions" => Some(regions(count)),
         _ => None,
     }
 }
@@ -70,6 +71,22 @@ pub fn most_records() -> Job {
     job
 }
 
+/// `count` regions, and sets that name the first, the last, and those on both sides of what
+/// one byte can number; the last set names one in 50.
+pub fn regions(count: usize) -> Job {
+    let mut job = Job::one_axis(count);
+    let there = |&r: &usize| r < count;
+    let edges = || [0, 255, 256, 257, count - 1].into_iter().filter(there);
+    let one = |r: usize| vec![(r as u16, 300 - r as i32)];
+    job.sets = edges().map(one).collect();
+    job.sets
+        .push(edges().rev().map(|r| (r as u16, 5)).collect());
+    let many = (0..count).rev().step_by(50);
+    job.sets
+        .push(many.map(|r| (r as u16, r as i32 - 9_000)).collect());
+    job
+}
+
 #[cfg(test)]
 mod tests {
     use super::*;
@@ -77,6 +94,15 @@ mod tests {
     #[test]
     fn at_the_record_limit() {
         assert_eq!(most_records().records(), 1_048_576);
+    }
+
+    #[test]
+    fn regions_of_two_bytes() {
+        let job = regions(32_767);
+        assert_eq!(Job::parse(1, &job.to_bytes()).as_ref(), Some(&job));
+        assert_eq!(job.sets[1], [(255, 45)]);
+        let over = Job::one_axis(32_768).to_bytes();
+        assert_eq!(Job::parse(1, &over), None);
     }
 
     #[test]
