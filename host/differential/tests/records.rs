@@ -73,6 +73,15 @@ fn turns_of_axis_records() {
     assert_eq!(answer(1, &[REGION, SECOND_AXIS]), (32, 1, 0));
 }
 
+/// Byte 3 is the high byte of a region's number: of one that is next, of one that is there.
+#[test]
+fn high_bytes() {
+    assert_eq!(answer(1, &["010000010000400040000000"]), (32, 0, 0));
+    assert_eq!(answer(1, &[REGION, "010100010000400040000000"]), (32, 1, 0));
+    assert_eq!(answer(1, &[REGION, "020000010000000500000000"]), (6, 1, 0));
+    assert_eq!(answer(1, &[REGION, "0200ff010000000500000000"]), (31, 1, 2));
+}
+
 /// Late and the next, or late and another: the turn goes on behind the sets.
 #[test]
 fn late_axis_records() {

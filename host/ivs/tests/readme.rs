@@ -50,7 +50,7 @@ fn lent() {
     assert!(header.contains("16 r + min(r, 1,024) x (g + 16)"));
     assert!(readme.contains("16 r + min(r, 1,024) x (g + 16) words"));
     for records in [0_usize, 1, 57, 1_023, 1_024, 1_025, 1_048_576] {
-        for regions in [0, 1, 255, 256] {
+        for regions in [0, 1, 256, 32_767] {
             let words = 16 * records + records.min(1_024) * (regions + 16);
             assert_eq!(ivs::work_words(records, regions), words);
         }

@@ -112,6 +112,14 @@ mod tests {
     }
 
     #[test]
+    fn regions_of_two_bytes() {
+        let job = regions(32_767);
+        assert_eq!(Job::parse(1, &job.to_bytes()).as_ref(), Some(&job));
+        let over = Job::one_axis(32_768).to_bytes();
+        assert_eq!(Job::parse(1, &over), None);
+    }
+
+    #[test]
     fn all_different() {
         let sets: std::collections::BTreeSet<_> = shapes(4_096).sets.into_iter().collect();
         assert_eq!(sets.len(), 4_096);
