@@ -15,9 +15,14 @@ pub const AFTER: &str = "\
 A file '-' is standard input or standard output.
 Exit status: 0 done, 2 refused by number, 1 for anything else. No file is left half written.";
 
+const PROGRAM: &str = "\
+A file '-' is standard input or standard output.
+Exit status: 0 done, 2 refused by number, 3 where 'judge' says no, 1 for anything else. No file is
+left half written.";
+
 /// Packs OpenType item variation stores, exactly or not at all
 #[derive(Parser)]
-#[command(name = "fenikezo", version, after_help = AFTER)]
+#[command(name = "fenikezo", version, after_help = PROGRAM)]
 pub struct Arguments {
     #[command(subcommand)]
     pub command: Command,

@@ -4,7 +4,6 @@ use crate::json::{list, object, Json};
 use crate::wrong::Wrong;
 use ivs::Refused;
 use std::fmt;
-use std::path::Path;
 use std::process::ExitCode;
 
 pub enum Failure {
@@ -23,10 +22,6 @@ pub enum Failure {
 }
 
 impl Failure {
-    pub fn refused(file: &Path, refused: Refused) -> Failure {
-        Failure::Refused(file.display().to_string(), refused, refused.to_string())
-    }
-
     pub fn status(&self) -> ExitCode {
         ExitCode::from(match self {
             Failure::Refused(..) | Failure::Both(..) | Failure::Some { refused: true } => 2,

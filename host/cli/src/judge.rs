@@ -114,7 +114,7 @@ impl Fault {
                     format!("row {inner} of subtable {outer} ")
                 });
                 let at = coordinates(tents);
-                format!("set {set}{line}: for {name} ({at}) {row}reads {reads} and should {should}")
+                format!("set {set}{line}: {row}reads {reads} for {name} ({at}) and should read {should}")
             }
         }
     }
@@ -184,7 +184,7 @@ fn of_set(input: &Input, bytes: &[u8], words: &[u32], set: usize) -> Result<Faul
 fn of_store(input: &Input, bytes: &[u8]) -> Fault {
     let store = match Store::decode(bytes) {
         Ok(store) => store,
-        Err(refused) => return Fault::Store(refused.to_string()),
+        Err(refused) => return Fault::Store(kind::store_words(bytes, &refused)),
     };
     let bad = |outer: &usize| store.subtable(*outer).is_err();
     if let Some(outer) = (0..store.subtable_count()).find(bad) {

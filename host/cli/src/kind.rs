@@ -67,12 +67,15 @@ fn no_store(bytes: &[u8]) -> Option<&'static str> {
 
 /// A store that was refused; of what is no store at all it is said what it is.
 pub fn refused_store(file: &Path, bytes: &[u8], refused: Refused) -> Failure {
+    let words = store_words(bytes, &refused);
+    Failure::Refused(file.display().to_string(), refused, words)
+}
+
+/// Why a store was refused.
+pub fn store_words(bytes: &[u8], refused: &Refused) -> String {
     match no_store(bytes).filter(|_| refused.number == BAD_STORE) {
-        Some(what) => {
-            let words = format!("{}: {what}", refused.head());
-            Failure::Refused(file.display().to_string(), refused, words)
-        }
-        None => Failure::refused(file, refused),
+        Some(what) => format!("{}: {what}", refused.head()),
+        None => refused.to_string(),
     }
 }
 

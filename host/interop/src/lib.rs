@@ -1,6 +1,7 @@
 //! Real variable fonts through the proved library. `interop.py` makes jobs of the fonts'
 //! item variation stores and compares what is built of them; here it is built.
 
+use std::ffi::OsStr;
 use std::fs;
 use std::path::{Path, PathBuf};
 use std::process::Command;
@@ -41,13 +42,23 @@ pub fn find(package: &str, end: &str) -> Result<PathBuf, String> {
 
 /// Runs a part of `interop.py` (jobs, rows or shape), and answers what it prints.
 pub fn python(part: &str, folder: &Path, fonts: &[PathBuf]) -> Result<String, String> {
-    let program = Path::new(env!("CARGO_MANIFEST_DIR")).join("interop.py");
+    program("interop.py", part, folder, fonts)
+}
+
+/// Runs a part of a program of this folder on a folder and files, and answers what it prints.
+pub fn program<T: AsRef<OsStr>>(
+    name: &str,
+    part: &str,
+    folder: &Path,
+    files: &[T],
+) -> Result<String, String> {
+    let program = Path::new(env!("CARGO_MANIFEST_DIR")).join(name);
     output(
         Command::new(PYTHON)
             .arg(program)
             .arg(part)
             .arg(folder)
-            .args(fonts),
+            .args(files),
     )
 }
 

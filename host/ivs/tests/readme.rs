@@ -66,7 +66,8 @@ fn refusals() {
         .chain(20..=22)
         .chain(30..=34)
         .chain(40..=43)
-        .chain([60, 61, 64])
+        .chain(50..=53)
+        .chain([60, 61, 64, 73, 74])
     {
         let name = ivs::Refused::bare(number).name();
         assert!(
