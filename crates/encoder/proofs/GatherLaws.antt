@@ -87,6 +87,7 @@ module _ {p : Places} {w : List ℕ} (f : Fit p w) where
             slots-to = lies .slots-to;
             order-to = lies .order-to;
             counts-to = omega (arith, lies);
+            costed = refl;
             few = omega (arith, lies);
             narrow = omega (arith, lies);
           };

@@ -2,7 +2,7 @@
 -- rule's living groups, in ascending number; sorted by shape they stand as the living groups do, sorted; they are different, and few. So the words
 -- after `optimize` are as the ordering of the living asks. Assumes nothing.
 use mathlib.Core.Path.{_≡_, refl, sym, ap, _∙_}
-use mathlib.Core.Bool.{Bool}
+use mathlib.Core.Bool.{Bool, false}
 use mathlib.Core.Logic.{⊎-elim}
 use mathlib.Core.List.{List, [], _∷_, map, List·Memᴰ, List·Memᴰ·cases-cons, List·Memᴰ·not-nil}
 use Prim.Native.Nat.{ℕ, zero, suc, _+_, _-_, _*_, _≤_, _<_}
@@ -243,9 +243,10 @@ module _ {t : MergeTables} {j m b a : ℕ} {w w′ : List ℕ} (o : Optimized t 
             few = omega arith;
           }
 
-      pub living-fit : Proper (t .regions) (starting t w) → LivingFit s (t .place) (t .groups + j) w′
-      living-fit p = record {
+      pub living-fit : s .costed ≡ false → Proper (t .regions) (starting t w) → LivingFit s (t .place) (t .groups + j) w′
+      living-fit plain p = record {
         numbers = numbers;
+        plain = plain;
         slots = rw living-slots (all-map (Slot s w′) (slotOf t w′) living (all-imp (λ g h. slot-of (slotOf t w′ g) h) living slots-below));
         unlike = rw living-slots (two-map (Unlike s w′) (slotOf t w′) living
             (two-with (λ g. shapeIn s (slotOf t w′ g) w′ ≡ g .group .shape) (λ g h. g .group .shape ≡ h .group .shape → ⊥)

@@ -134,7 +134,7 @@ module _ {p : Places} {groups ids : ℕ} {w : List ℕ} (f : JoinFit p groups id
       record {
         laid = rw long lies;
         few = g;
-        living = living-fit o (livingAt p) refl refl (omega (arith, lies)) (omega (arith, lies)) (omega (arith, lies)) (proper f);
+        living = living-fit o (livingAt p) refl refl (omega (arith, lies)) (omega (arith, lies)) (omega (arith, lies)) refl (proper f);
         living-few = omega (arith, line-length);
         below = λ q h. rw line-is (line-below o q (omega (arith, line-length)));
         apart = λ q r u v z. line-apart o q r u (omega (arith, line-length)) (rw line-is at z);

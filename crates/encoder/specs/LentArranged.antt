@@ -1,6 +1,6 @@
 -- What the private functions of mode 0 ask of lent words, and what they leave. Assumes nothing.
 use mathlib.Core.Path.{_≡_}
-use mathlib.Core.Bool.{_&&_}
+use mathlib.Core.Bool.{true, false, _&&_}
 use mathlib.Core.List.{List, [], _∷_}
 use Prim.Native.Nat.{ℕ, _+_, _-_, _*_, _≤_, _<_}
 use lib.Dec.{eqb}
@@ -27,12 +27,12 @@ use Rattle.encoder.specs.declared.encoded.Encoded.{Encoded}
 use Rattle.encoder.specs.declared.encoded.Gathering.{Gathering}
 use Rattle.encoder.specs.declared.encoded.Gathering.the-variants.{Full, Groups}
 
--- the table of shapes; and the same slots with the living in their order
+-- the table of shapes, their row costs where merging has its places later; and the same slots with the living in their order
 abbrev pub shapesAt : Places → Shapes
-shapesAt p = record { regions = p .regions; room = p .room; slots = p .slots; order = p .order; counts = p .counts }
+shapesAt p = record { regions = p .regions; room = p .room; slots = p .slots; order = p .order; counts = p .counts; costed = true }
 
 abbrev pub livingAt : Places → Shapes
-livingAt p = record { regions = p .regions; room = p .room; slots = p .slots; order = p .living; counts = p .counts }
+livingAt p = record { regions = p .regions; room = p .room; slots = p .slots; order = p .living; counts = p .counts; costed = false }
 
 -- the slots of the living of k numbers, in the order of their shapes
 unfoldable pub lineUp : Places → ℕ → List ℕ → List ℕ

@@ -21,6 +21,7 @@ fn line_up(work: &mut [u32], p: Places, groups: usize, k: usize) -> usize
         slots: p.slots,
         order: p.living,
         counts: p.counts,
+        costed: false,
     };
     let count = order_living(work, t, p.place, k);
     spots(work, p.living, count, p.spots, groups);

@@ -28,6 +28,7 @@ pub fn gather(work: &mut [u32], p: Places) -> Gathering
         slots: p.slots,
         order: p.order,
         counts: p.counts,
+        costed: true,
     };
     let Added::Groups(groups) = group(work, t, 0, p.sets, p.first, p.kinds) else {
         return Gathering::Full;

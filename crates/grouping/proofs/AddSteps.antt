@@ -6,6 +6,7 @@ use Prim.Native.Nat.{ℕ, zero, suc, _+_, _-_, _*_, _≤_, _<_}
 use native.Mathlib.Omega.{arith}
 use lib.ListN.{length, getD, take, drop, set, length-set}
 use lib.Seq.{ext-getD, getD-set-same, getD-set-other}
+use borrow.Author.Count.{below-more}
 use Rattle.laws.specs.Every.{All, EachTwo}
 use Rattle.laws.specs.LentRange.{Apart, Outside, Only, seg}
 use Rattle.laws.proofs.Cases.{Tri, tri, same-or-not}
@@ -15,7 +16,7 @@ use Rattle.laws.proofs.ListLaws.{length-insert, insert-front, insert-here, inse
 use Rattle.laws.proofs.BoundedLaws.{length-tabulate, getD-tabulate, tabulate-same}
 use Rattle.laws.proofs.EveryLaws.{all-getD, all-intro, two-getD}
 use Rattle.laws.proofs.RangeLaws.{only-refl, only-trans, only-set, only-weaken, only-seg}
-use Rattle.shapes.specs.Shape.{Shape}
+use Rattle.shapes.specs.Shape.{Shape, rowCost}
 use Rattle.shapes.specs.Order.{order}
 use Rattle.shapes.specs.Group.{Group}
 use Rattle.shapes.specs.Lent.{Narrow}
@@ -107,6 +108,10 @@ module _ {t : Shapes} {m kind : ℕ} {w : List ℕ} (a : AddFit t m kind w) wher
     room = omega (arith, laid .order-to, laid .counts-to, fits);
     sought = sought-fits;
     slot = slot-fits;
+    cost = λ i h. record {
+      room = λ e. omega (arith, laid .counts-to, slot-below i h, fits);
+      is = λ e. a .table .costs (slotIn t i w) (slot-below i h);
+    };
     ordered = λ i j p q. let l : i < m = omega arith in rw (shape-at t m w i l, shape-at t m w j q) at (before i j p q);
   }
 
@@ -124,7 +129,7 @@ module _ {t : Shapes} {m kind : ℕ} {w : List ℕ} (a : AddFit t m kind w) wher
 
   -- words that may change
   abbrev may : List (ℕ × ℕ)
-  may = (kind, 1) ∷ (t .order, t .room) ∷ (t .counts, t .room) ∷ []
+  may = (kind, 1) ∷ (t .order, t .room) ∷ (t .counts, 2 * t .room) ∷ []
 
   shape-kept : {new : List ℕ} → Only may w new → (s : ℕ) → s ≤ t .room → shapeIn t s new ≡ shapeIn t s w
   unfolding shapeIn
@@ -136,13 +141,14 @@ module _ {t : Shapes} {m kind : ℕ} {w : List ℕ} (a : AddFit t m kind w) wher
       ))
 
   table-of : {new : List ℕ} {r : ℕ} → length new ≡ length w → r ≤ t .room → ((i : ℕ) → i < r → slotIn t i new < r)
-      → groupsIn t r new ≡ withShape (groupsIn t m w) (shapeIn t m w) → Table t r new
-  table-of {new} {r} l f b e = record {
-    laid = record { slots-to = laid .slots-to; order-to = laid .order-to; counts-to = omega (arith, laid .counts-to); few = laid .few; narrow = laid .narrow };
+      → groupsIn t r new ≡ withShape (groupsIn t m w) (shapeIn t m w) → ((s : ℕ) → s < r → getD new (t .counts + t .room + s) 0 ≡ rowCost (shapeIn t s new)) → Table t r new
+  table-of {new} {r} l f b e c = record {
+    laid = record { slots-to = laid .slots-to; order-to = laid .order-to; counts-to = omega (arith, laid .counts-to); costed = laid .costed; few = laid .few; narrow = laid .narrow };
     fits = f;
     below = b;
     ordered = rw e (with-before (t .regions) (groupsIn t m w) (shapeIn t m w) (shape-in-length t m w sought-fits) long (a .table .ordered));
     narrow = rw e (with-all (λ g. Narrow (g .shape)) (groupsIn t m w) (shapeIn t m w) (a .sought) (λ g q. q) (a .table .narrow));
+    costs = c;
   }
 
   -- ---- the shape is that of group i
@@ -180,6 +186,12 @@ module _ {t : Shapes} {m kind : ℕ} {w : List ℕ} (a : AddFit t m kind w) wher
           (getD-set-other (set w (t .counts + slotIn t i w) v) kind (t .counts + slotIn t i w) (slotIn t i w) 0 (omega (arith, a .kind-to, slots-first laid, laid .order-to))
           ∙ getD-set-same w (t .counts + slotIn t i w) v 0 (join-fit .count))
 
+      cost-same : (s : ℕ) → s < m → getD new (t .counts + t .room + s) 0 ≡ rowCost (shapeIn t s new)
+      cost-same s l = rw (j .is)
+          (getD-set-other (set w (t .counts + slotIn t i w) v) kind (t .counts + t .room + s) (slotIn t i w) 0 (omega (arith, a .kind-to, slots-first laid, laid .order-to))
+          ∙ getD-set-other w (t .counts + slotIn t i w) (t .counts + t .room + s) v 0 (omega (arith, slot-below i (f .below), fits)))
+          ∙ a .table .costs s l ∙ ap rowCost (sym (shape-kept join-only s (omega (arith, fits))))
+
       kind-is : getD new kind 0 ≡ slotIn t i w
       kind-is = rw (j .is) (getD-set-same (set w (t .counts + slotIn t i w) v) kind (slotIn t i w) 0 (rw length-set (join-fit .kind-in)))
 
@@ -210,7 +222,7 @@ module _ {t : Shapes} {m kind : ℕ} {w : List ℕ} (a : AddFit t m kind w) wher
       pub join-one : AddedOne t m kind w new m
       join-one = record {
         only = join-only;
-        table = table-of (join-only .long) fits (λ k l. rw (slot-same k l) (slot-below k l)) groups-are;
+        table = table-of (join-only .long) fits (λ k l. rw (slot-same k l) (slot-below k l)) groups-are cost-same;
         groups = groups-are;
         kind-below = rw kind-is (slot-below i (f .below));
         kind-shape = ap (λ (s : ℕ). shapeIn t s new) kind-is ∙ shape-kept join-only (slotIn t i w) (omega (arith, slot-below i (f .below), fits)) ∙ sym (f .same);
@@ -235,7 +247,8 @@ module _ {t : Shapes} {m kind : ℕ} {w : List ℕ} (a : AddFit t m kind w) wher
       new-fit = record {
         most = f .most;
         place = omega (arith, slots-first laid, laid .order-to, laid .counts-to);
-        count = omega (arith, laid .counts-to);
+        slot = sought-fits;
+        cost = omega (arith, laid .counts-to);
         few = omega (arith, laid .few);
         kind-in = omega (arith, a .kind-to, slots-first laid, laid .order-to, laid .counts-to);
       }
@@ -246,26 +259,46 @@ module _ {t : Shapes} {m kind : ℕ} {w : List ℕ} (a : AddFit t m kind w) wher
             (only-weaken (λ k o. (record { apart = λ x. omega (arith, o .1 .0 .apart (omega arith)) }, tt)) (n .inserted .only))
             (only-trans
             (only-set may (n .between) (t .counts + m) 1 (λ o. omega (arith, o .1 .1 .0 .apart (omega arith))))
-            (only-set may (set (n .between) (t .counts + m) 1) kind m (λ o. omega (arith, o .0 .apart (omega arith))))))
+            (only-trans
+            (only-set may (set (n .between) (t .counts + m) 1) (t .counts + t .room + m) (rowCost (shapeIn t m w)) (λ o. omega (arith, o .1 .1 .0 .apart (omega arith))))
+            (only-set may (set (set (n .between) (t .counts + m) 1) (t .counts + t .room + m) (rowCost (shapeIn t m w))) kind m (λ o. omega (arith, o .0 .apart (omega arith)))))))
 
         order-is : (k : ℕ) → k ≤ m → slotIn t k new ≡ slotIn t k (n .between)
         order-is k l = rw (n .is)
-            (getD-set-other (set (n .between) (t .counts + m) 1) kind (t .order + k) m 0 (omega (arith, a .kind-to, slots-first laid))
+            (getD-set-other (set (set (n .between) (t .counts + m) 1) (t .counts + t .room + m) (rowCost (shapeIn t m w))) kind (t .order + k) m 0 (omega (arith, a .kind-to, slots-first laid))
+            ∙ getD-set-other (set (n .between) (t .counts + m) 1) (t .counts + t .room + m) (t .order + k) (rowCost (shapeIn t m w)) 0 (omega (arith, laid .order-to))
             ∙ getD-set-other (n .between) (t .counts + m) (t .order + k) 1 0 (omega (arith, laid .order-to)))
 
         count-old : (s : ℕ) → s < m → getD new (t .counts + s) 0 ≡ getD w (t .counts + s) 0
         count-old s l = rw (n .is)
-            (getD-set-other (set (n .between) (t .counts + m) 1) kind (t .counts + s) m 0 (omega (arith, a .kind-to, slots-first laid, laid .order-to))
+            (getD-set-other (set (set (n .between) (t .counts + m) 1) (t .counts + t .room + m) (rowCost (shapeIn t m w))) kind (t .counts + s) m 0 (omega (arith, a .kind-to, slots-first laid, laid .order-to))
+            ∙ getD-set-other (set (n .between) (t .counts + m) 1) (t .counts + t .room + m) (t .counts + s) (rowCost (shapeIn t m w)) 0 (omega arith)
             ∙ getD-set-other (n .between) (t .counts + m) (t .counts + s) 1 0 (omega arith)
             ∙ n .inserted .only .kept (t .counts + s) (record { apart = λ x. omega (arith, laid .order-to) }, tt))
 
         count-new : getD new (t .counts + m) 0 ≡ 1
         count-new = rw (n .is)
-            (getD-set-other (set (n .between) (t .counts + m) 1) kind (t .counts + m) m 0 (omega (arith, a .kind-to, slots-first laid, laid .order-to))
-            ∙ getD-set-same (n .between) (t .counts + m) 1 0 (omega (arith, new-fit .count, n .inserted .only .long)))
+            (getD-set-other (set (set (n .between) (t .counts + m) 1) (t .counts + t .room + m) (rowCost (shapeIn t m w))) kind (t .counts + m) m 0 (omega (arith, a .kind-to, slots-first laid, laid .order-to))
+            ∙ getD-set-other (set (n .between) (t .counts + m) 1) (t .counts + t .room + m) (t .counts + m) (rowCost (shapeIn t m w)) 0 (omega arith)
+            ∙ getD-set-same (n .between) (t .counts + m) 1 0 (omega (arith, new-fit .cost, n .inserted .only .long)))
 
         kind-new : getD new kind 0 ≡ m
-        kind-new = rw (n .is) (getD-set-same (set (n .between) (t .counts + m) 1) kind m 0 (omega (arith, length-set (n .between) (t .counts + m) 1, new-fit .kind-in, n .inserted .only .long)))
+        kind-new = rw (n .is) (getD-set-same (set (set (n .between) (t .counts + m) 1) (t .counts + t .room + m) (rowCost (shapeIn t m w))) kind m 0
+            (omega (arith, length-set (set (n .between) (t .counts + m) 1) (t .counts + t .room + m) (rowCost (shapeIn t m w)), length-set (n .between) (t .counts + m) 1, new-fit .kind-in, n .inserted .only .long)))
+
+        cost-old : (s : ℕ) → s < m → getD new (t .counts + t .room + s) 0 ≡ rowCost (shapeIn t s new)
+        cost-old s l = rw (n .is)
+            (getD-set-other (set (set (n .between) (t .counts + m) 1) (t .counts + t .room + m) (rowCost (shapeIn t m w))) kind (t .counts + t .room + s) m 0 (omega (arith, a .kind-to, slots-first laid, laid .order-to))
+            ∙ getD-set-other (set (n .between) (t .counts + m) 1) (t .counts + t .room + m) (t .counts + t .room + s) (rowCost (shapeIn t m w)) 0 (omega arith)
+            ∙ getD-set-other (n .between) (t .counts + m) (t .counts + t .room + s) 1 0 (omega arith)
+            ∙ n .inserted .only .kept (t .counts + t .room + s) (record { apart = λ x. omega (arith, laid .order-to) }, tt))
+            ∙ a .table .costs s l ∙ ap rowCost (sym (shape-kept new-only s (omega arith)))
+
+        cost-new : getD new (t .counts + t .room + m) 0 ≡ rowCost (shapeIn t m new)
+        cost-new = rw (n .is)
+            (getD-set-other (set (set (n .between) (t .counts + m) 1) (t .counts + t .room + m) (rowCost (shapeIn t m w))) kind (t .counts + t .room + m) m 0 (omega (arith, a .kind-to, slots-first laid, laid .order-to))
+            ∙ getD-set-same (set (n .between) (t .counts + m) 1) (t .counts + t .room + m) (rowCost (shapeIn t m w)) 0 (omega (arith, length-set (n .between) (t .counts + m) 1, new-fit .cost, n .inserted .only .long)))
+            ∙ ap rowCost (sym (shape-kept new-only m fits))
 
         -- a group that keeps its slot, under another number
         moved : (k j : ℕ) → j < m → slotIn t k new ≡ slotIn t j w → groupIn t new k ≡ getD (groupsIn t m w) j none
@@ -319,7 +352,7 @@ module _ {t : Shapes} {m kind : ℕ} {w : List ℕ} (a : AddFit t m kind w) wher
         pub new-one : AddedOne t m kind w new (m + 1)
         new-one = record {
           only = new-only;
-          table = table-of (new-only .long) (omega arith) new-below new-groups;
+          table = table-of (new-only .long) (omega arith) new-below new-groups (below-more _ _ cost-old cost-new);
           groups = new-groups;
           kind-below = omega (arith, kind-new);
           kind-shape = ap (λ (s : ℕ). shapeIn t s new) kind-new ∙ shape-kept new-only m fits;

@@ -18,7 +18,7 @@ use Rattle.laws.proofs.ListLaws.{map-append}
 use Rattle.laws.proofs.BagLaws.{weigh-at}
 use Rattle.laws.proofs.BoundedLaws.{length-tabulate, getD-tabulate}
 use Rattle.laws.proofs.RangeLaws.{only-refl, only-trans, only-set, only-weaken, only-seg}
-use Rattle.shapes.specs.Shape.{Shape}
+use Rattle.shapes.specs.Shape.{Shape, rowCost}
 use Rattle.shapes.specs.Width.{widthOf, costOf}
 use Rattle.shapes.specs.Group.{Group}
 use Rattle.shapes.specs.Lent.{Narrow}
@@ -89,11 +89,12 @@ module _ {t : Shapes} {index x m kind : ℕ} {w : List ℕ} (f : SetFit t index 
     pub add-fit : AddFit t m kind v
     add-fit = record {
       table = record {
-        laid = record { slots-to = laid .slots-to; order-to = laid .order-to; counts-to = omega (arith, laid .counts-to, s .only .long); few = laid .few; narrow = laid .narrow };
+        laid = record { slots-to = laid .slots-to; order-to = laid .order-to; counts-to = omega (arith, laid .counts-to, s .only .long); costed = laid .costed; few = laid .few; narrow = laid .narrow };
         fits = f .table .fits;
         below = λ i h. rw (number-kept i h) (f .table .below i h);
         ordered = rw same-groups (f .table .ordered);
         narrow = rw same-groups (f .table .narrow);
+        costs = λ j h. past-kept (t .counts + t .room + j) (omega (arith, laid .order-to)) ∙ f .table .costs j h ∙ ap rowCost (sym (slot-kept j h));
       };
       small = λ i h. rw (number-kept i h, count-kept (slotIn t i w) (f .table .below i h)) (f .small i h);
       sought = rw sought-is (shape-narrow (t .regions) (setOf index x w) (laid .narrow));
@@ -152,7 +153,7 @@ module _ {t : Shapes} {index n first kinds : ℕ} {old : List ℕ} (f : GroupFit
   group-start = record {
     within = omega arith;
     only = only-refl (grouped t n kinds) old;
-    table = record { laid = f .laid; fits = omega arith; below = λ i h. absurd (omega arith); ordered = tt; narrow = tt };
+    table = record { laid = f .laid; fits = omega arith; below = λ i h. absurd (omega arith); ordered = tt; narrow = tt; costs = λ s h. absurd (omega arith) };
     groups = refl;
     kind-below = λ j h. absurd (omega arith);
     kind-shape = λ j h. absurd (omega arith);
@@ -293,11 +294,12 @@ module _ {t : Shapes} {index n first kinds : ℕ} {old : List ℕ} (f : GroupFit
             within = omega arith;
             only = only-trans (g .only) (only-set (grouped t n kinds) new (kinds + k) v (λ o. omega (arith, o .0 .apart (omega arith))));
             table = record {
-              laid = record { slots-to = f .laid .slots-to; order-to = f .laid .order-to; counts-to = omega (arith, g .table .laid .counts-to, length-set new (kinds + k) v); few = f .laid .few; narrow = f .laid .narrow };
+              laid = record { slots-to = f .laid .slots-to; order-to = f .laid .order-to; counts-to = omega (arith, g .table .laid .counts-to, length-set new (kinds + k) v); costed = f .laid .costed; few = f .laid .few; narrow = f .laid .narrow };
               fits = g .table .fits;
               below = λ i p. rw (order-kept v i p) (g .table .below i p);
               ordered = rw (groups-same v) (g .table .ordered);
               narrow = rw (groups-same v) (g .table .narrow);
+              costs = λ s p. getD-set-other new (kinds + k) (t .counts + t .room + s) v 0 (omega (arith, f .kinds-to, slots-first (f .laid), f .laid .order-to)) ∙ g .table .costs s p ∙ ap rowCost (sym (shape-same v s p));
             };
             groups = groups-same v ∙ g .groups ∙ ap (λ (x : List Set). groupsFrom [] (map (shapeOf (t .regions)) x)) (sym (again-distinct (setsIn index n old) k k-in b));
             kind-below = below-more _ _

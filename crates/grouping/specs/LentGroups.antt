@@ -1,16 +1,18 @@
 -- What lent words hold of groups in the table of shapes, and what one more set leaves there. Assumes nothing.
 use mathlib.Core.Path.{_≡_}
+use mathlib.Core.Bool.{true}
 use mathlib.Core.List.{List, [], _∷_}
 use Prim.Native.Nat.{ℕ, _+_, _*_, _≤_, _<_}
 use lib.ListN.{length, getD, set}
 use Rattle.laws.specs.Every.{All, EachTwo}
 use Rattle.laws.specs.LentRange.{Only}
+use Rattle.shapes.specs.Shape.{rowCost}
 use Rattle.shapes.specs.Lent.{Narrow}
 use Rattle.sets.specs.Ids.{place}
 use Rattle.sets.specs.Lent.{entriesAt, countOf, setOf, Stored, Held, setsIn}
 use Rattle.groups.specs.Groups.{Before, shapeOf, withShape, groupsOf}
 use Rattle.table.specs.declared.Shapes.{Shapes}
-use Rattle.table.specs.LentTable.{shapeIn, slotIn, groupsIn, InsertedAt}
+use Rattle.table.specs.LentTable.{shapeIn, slotIn, groupsIn, SlotFits, InsertedAt}
 use Rattle.grouping.specs.declared.Added.{Added}
 use Rattle.grouping.specs.declared.Added.the-variants.{Groups, Full}
 
@@ -18,17 +20,19 @@ use Rattle.grouping.specs.declared.Added.the-variants.{Groups, Full}
 pub record Laid (t : Shapes) (w : List ℕ) : Type 0 where
   pub slots-to : t .slots + (t .room + 1) * t .regions ≤ t .order
   pub order-to : t .order + t .room ≤ t .counts
-  pub counts-to : t .counts + t .room ≤ length w
+  pub counts-to : t .counts + 2 * t .room ≤ length w
+  pub costed : t .costed ≡ true
   pub few : t .room ≤ 65536
   pub narrow : t .regions ≤ 65536
 
--- m groups stand in the table, in their order, in the first m slots
+-- m groups stand in the table, in their order, in the first m slots, with the row costs of these
 pub record Table (t : Shapes) (m : ℕ) (w : List ℕ) : Type 0 where
   pub laid : Laid t w
   pub fits : m ≤ t .room
   pub below : (i : ℕ) → i < m → slotIn t i w < m
   pub ordered : EachTwo Before (groupsIn t m w)
   pub narrow : All (λ g. Narrow (g .shape)) (groupsIn t m w)
+  pub costs : (s : ℕ) → s < m → getD w (t .counts + t .room + s) 0 ≡ rowCost (shapeIn t s w)
 
 -- one more set in group i
 pub record JoinFit (t : Shapes) (i kind : ℕ) (w : List ℕ) : Type 0 where
@@ -44,14 +48,15 @@ pub record JoinedIn (t : Shapes) (i kind : ℕ) (old new : List ℕ) : Type 0 wh
 pub record NewFit (t : Shapes) (m i kind : ℕ) (w : List ℕ) : Type 0 where
   pub most : i ≤ m
   pub place : t .order + m < length w
-  pub count : t .counts + m < length w
+  pub slot : SlotFits t m w
+  pub cost : t .counts + t .room + m < length w
   pub few : m < 4294967296
   pub kind-in : kind < length w
 
 pub record NewIn (t : Shapes) (m i kind : ℕ) (old new : List ℕ) : Type 0 where
   pub between : List ℕ
   pub inserted : InsertedAt (t .order) m i m old between
-  pub is : new ≡ set (set between (t .counts + m) 1) kind m
+  pub is : new ≡ set (set (set between (t .counts + m) 1) (t .counts + t .room + m) (rowCost (shapeIn t m old))) kind m
 
 -- a set of the shape in slot m
 pub record AddFit (t : Shapes) (m kind : ℕ) (w : List ℕ) : Type 0 where
@@ -62,7 +67,7 @@ pub record AddFit (t : Shapes) (m kind : ℕ) (w : List ℕ) : Type 0 where
 
 -- the table has r groups now, one more set counted
 pub record AddedOne (t : Shapes) (m kind : ℕ) (old new : List ℕ) (r : ℕ) : Type 0 where
-  pub only : Only ((kind, 1) ∷ (t .order, t .room) ∷ (t .counts, t .room) ∷ []) old new
+  pub only : Only ((kind, 1) ∷ (t .order, t .room) ∷ (t .counts, 2 * t .room) ∷ []) old new
   pub table : Table t r new
   pub groups : groupsIn t r new ≡ withShape (groupsIn t m old) (shapeIn t m old)
   pub kind-below : getD new kind 0 < r
@@ -86,7 +91,7 @@ pub record SetFit (t : Shapes) (index x m kind : ℕ) (w : List ℕ) : Type 0 wh
   pub before : entriesAt index x w + 2 * countOf index x w ≤ t .slots
 
 pub record SetOne (t : Shapes) (index x m kind : ℕ) (old new : List ℕ) (r : ℕ) : Type 0 where
-  pub only : Only ((kind, 1) ∷ (t .slots, (t .room + 1) * t .regions) ∷ (t .order, t .room) ∷ (t .counts, t .room) ∷ []) old new
+  pub only : Only ((kind, 1) ∷ (t .slots, (t .room + 1) * t .regions) ∷ (t .order, t .room) ∷ (t .counts, 2 * t .room) ∷ []) old new
   pub table : Table t r new
   pub groups : groupsIn t r new ≡ withShape (groupsIn t m old) (shapeOf (t .regions) (setOf index x old))
   pub kept : (s : ℕ) → s < m → shapeIn t s new ≡ shapeIn t s old
@@ -121,7 +126,7 @@ pub record GroupedInto (t : Shapes) (index n kinds : ℕ) (old new : List ℕ) (
 
 -- what may have changed, for either answer
 abbrev pub grouped : Shapes → ℕ → ℕ → List (ℕ × ℕ)
-grouped t n kinds = (kinds, n) ∷ (t .slots, (t .room + 1) * t .regions) ∷ (t .order, t .room) ∷ (t .counts, t .room) ∷ []
+grouped t n kinds = (kinds, n) ∷ (t .slots, (t .room + 1) * t .regions) ∷ (t .order, t .room) ∷ (t .counts, 2 * t .room) ∷ []
 
 abbrev pub Result : Shapes → ℕ → ℕ → ℕ → List ℕ → List ℕ → Added → Type 0
 Result t index n kinds old new (Groups r) = GroupedInto t index n kinds old new r

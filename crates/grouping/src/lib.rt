@@ -5,6 +5,7 @@ use table::Found;
 use table::Shapes;
 use table::find_shape;
 use table::insert_at;
+use table::row_cost;
 ghost use mathlib.Core.Path.{_≡_};
 ghost use Prim.Native.Nat.{_+_, _<_, _≤_};
 ghost use lib.ListN.{length, getD};
@@ -28,15 +29,18 @@ fn join_group(work: &mut [u32], t: Shapes, i: usize, kind: usize)
     work[kind] = slot;
 }
 
-// Makes the shape in slot `groups` the i-th group, of one set, and makes the word at `kind` its slot.
+// Makes the shape in slot `groups` the i-th group, of one set, with its row cost beside it, and makes the word at `kind` its slot.
 fn new_group(work: &mut [u32], t: Shapes, groups: usize, i: usize, kind: usize)
     requires { ⌜ NewFit t groups i kind (now work) ⌝ }
     ensures { λ _. ⌜ NewIn t groups i kind (now (work .entry)) (now (work .exit)) ⌝ }
 {
     let slot = groups as u32;
+    let cost = row_cost(work, t, groups);
     insert_at(work, t.order, groups, i, slot);
     let count = t.counts + groups;
+    let known = t.counts + t.room + groups;
     work[count] = 1;
+    work[known] = cost;
     work[kind] = slot;
 }
 

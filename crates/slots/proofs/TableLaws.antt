@@ -1,5 +1,6 @@
 -- Laws of the tables of a merge. Assumes nothing.
 use mathlib.Core.Path.{_≡_, refl, sym, ap, subst, _∙_}
+use mathlib.Core.Bool.{true}
 use mathlib.Core.List.{List}
 use Prim.Native.Nat.{ℕ, _+_, _-_, _*_, _≤_, _<_}
 use native.Mathlib.Omega.{arith}
@@ -9,9 +10,9 @@ use Rattle.laws.proofs.RangeLaws.{length-seg}
 use Rattle.laws.proofs.Products.{product, row-fits}
 use Rattle.shapes.specs.Shape.{join}
 use Rattle.shapes.specs.Group.{Group, gain}
-use Rattle.shapes.specs.Lent.{Narrow, Measured, Small, costOf}
+use Rattle.shapes.specs.Lent.{Narrow, Measured, Small, costOf, tooFar}
 use Rattle.shapes.proofs.ShapeLaws.{overhead-most}
-use Rattle.shapes.proofs.GroupLaws.{gain-measured, gain-most}
+use Rattle.shapes.proofs.GroupLaws.{gain-measured, gain-most, far-none}
 use Rattle.shapes.proofs.LentLaws.{narrow-small, narrow-join}
 use Rattle.slots.specs.declared.tables.MergeTables.{MergeTables}
 use Rattle.slots.specs.Lent.{Laid, shapeIn, groupIn, Shaped, Sound, CostsAs}
@@ -72,6 +73,13 @@ module _ (t : MergeTables) (w : List ℕ) (a b x y rj cj : ℕ) (h : Sound t w) 
       e
       ∙ sym (gain-measured (shapeIn t w a) (shapeIn t w b) na nb ra ca rb cb rj cj (costs-measured t w a ra ca na h la p) (costs-measured t w b rb cb nb h lb q) joined-measured)
       ∙ rw (p .sets-is, q .sets-is)
+
+-- row costs that differ much
+pub far-is : (t : MergeTables) (w : List ℕ) (a b ra ca na rb cb nb : ℕ) → Sound t w → a < t .groups → b < t .groups → CostsAs t w a ra ca na → CostsAs t w b rb cb nb
+    → tooFar ra ca na rb cb nb ≡ true → 0 ≡ gain (groupIn t w a) (groupIn t w b)
+unfolding groupIn
+far-is t w a b ra ca na rb cb nb h la lb p q e =
+    sym (far-none (shapeIn t w a) (shapeIn t w b) na nb ra ca rb cb (costs-measured t w a ra ca na h la p) (costs-measured t w b rb cb nb h lb q) e) ∙ rw (p .sets-is, q .sets-is)
 
 -- a gain fits a word
 pub gain-few : (t : MergeTables) (w : List ℕ) (a r : ℕ) (g : Group) → Shaped t w → a < t .groups → r ≡ gain (groupIn t w a) g → r ≤ 131082

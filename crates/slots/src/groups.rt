@@ -30,7 +30,7 @@ fn costs(work: &[u32], t: MergeTables, s: usize) -> Encoding
 }
 
 // What joining the groups in slots a and b saves: one pass over their shapes.
-pub fn weigh(work: &[u32], t: MergeTables, a: usize, b: usize) -> u32
+fn scan(work: &[u32], t: MergeTables, a: usize, b: usize) -> u32
     requires { ⌜ Sound t (now work) ⌝ }
     requires { ⌜ a < t .groups ⌝ }
     requires { ⌜ b < t .groups ⌝ }
@@ -46,6 +46,21 @@ pub fn weigh(work: &[u32], t: MergeTables, a: usize, b: usize) -> u32
     let second = costs(work, t, b);
     let saved = first.gain(second, joined);
     saved as u32
+}
+
+// The same, with no look at the shapes where what they cost says that nothing is saved.
+pub fn weigh(work: &[u32], t: MergeTables, a: usize, b: usize) -> u32
+    requires { ⌜ Sound t (now work) ⌝ }
+    requires { ⌜ a < t .groups ⌝ }
+    requires { ⌜ b < t .groups ⌝ }
+    ensures { λ r. ⌜ r ≡ gain (groupIn t (now (work .entry)) a) (groupIn t (now (work .entry)) b) ⌝ }
+{
+    let one = costs(work, t, a);
+    let other = costs(work, t, b);
+    if one.too_far(other) {
+        return 0;
+    }
+    scan(work, t, a, b)
 }
 
 // Notes what the shape in slot s costs.

@@ -13,9 +13,9 @@ use Rattle.laws.proofs.Cases.{Tri, tri, lt-or-ge}
 use Rattle.laws.proofs.Cases.Tri.{below, same, above}
 use Rattle.laws.proofs.RangeLaws.{only-refl, only-trans, only-set, only-weaken, length-seg}
 use Rattle.laws.proofs.OrderLaws.{Chain}
-use Rattle.shapes.specs.Shape.{Shape}
+use Rattle.shapes.specs.Shape.{Shape, rowCost}
 use Rattle.shapes.specs.Order.{order}
-use Rattle.shapes.specs.Lent.{Narrow}
+use Rattle.shapes.specs.Lent.{Narrow, Measured}
 use Rattle.shapes.proofs.OrderLaws.{order-equal, order-flip, order-chain}
 use Rattle.table.specs.declared.Shapes.{Shapes}
 use Rattle.table.specs.declared.Found.{Found}
@@ -145,6 +145,12 @@ module _ (t : Shapes) (s : ℕ) (w : List ℕ) where
 
   pub part-narrow : SlotFits t s w → Narrow (take (t .slots + s * t .regions + t .regions - (t .slots + s * t .regions)) (drop (t .slots + s * t .regions) w))
   part-narrow f = rw part-shape (f .narrow)
+
+  pub part-cost : (r cols : ℕ) → Measured (take (t .slots + s * t .regions + t .regions - (t .slots + s * t .regions)) (drop (t .slots + s * t .regions) w)) r cols → r ≡ rowCost (shapeIn t s w)
+  part-cost r cols m = m .row-is ∙ ap rowCost part-shape
+
+  pub cost-part : (r : ℕ) → r ≡ rowCost (shapeIn t s w) → r ≡ rowCost (take (t .slots + s * t .regions + t .regions - (t .slots + s * t .regions)) (drop (t .slots + s * t .regions) w))
+  cost-part r e = e ∙ sym (ap rowCost part-shape)
 
   pub part-length : SlotFits t s w → length (take (t .slots + s * t .regions + t .regions - (t .slots + s * t .regions)) (drop (t .slots + s * t .regions) w)) ≡ t .regions
   part-length f = rw part-shape (shape-in-length t s w f)

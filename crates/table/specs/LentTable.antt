@@ -1,12 +1,13 @@
 -- What lent words hold of the table of distinct shapes (`Shapes` of `src/lib.rt` says where it lies). Assumes nothing.
 use mathlib.Core.Path.{_≡_}
+use mathlib.Core.Bool.{true}
 use mathlib.Core.List.{List, [], _∷_}
 use Prim.Native.Nat.{ℕ, _+_, _-_, _*_, _≤_, _<_}
 use lib.ListN.{length, getD}
 use Rattle.laws.specs.declared.Order.the-variants.{Less, Greater}
 use Rattle.laws.specs.Bounded.{tabulate}
 use Rattle.laws.specs.LentRange.{Only, seg}
-use Rattle.shapes.specs.Shape.{Shape}
+use Rattle.shapes.specs.Shape.{Shape, rowCost}
 use Rattle.shapes.specs.Order.{order}
 use Rattle.shapes.specs.Group.{Group}
 use Rattle.shapes.specs.Lent.{Narrow}
@@ -34,11 +35,17 @@ pub record SlotFits (t : Shapes) (s : ℕ) (w : List ℕ) : Type 0 where
   pub room : t .slots + s * t .regions + t .regions ≤ length w
   pub narrow : Narrow (shapeIn t s w)
 
+-- the row cost of slot s is known, where the table is costed
+pub record Costed (t : Shapes) (s : ℕ) (w : List ℕ) : Type 0 where
+  pub room : t .costed ≡ true → t .counts + t .room + s < length w
+  pub is : t .costed ≡ true → getD w (t .counts + t .room + s) 0 ≡ rowCost (shapeIn t s w)
+
 -- the first n groups stand in their order, and slot s holds a shape to look for
 pub record Searchable (t : Shapes) (n s : ℕ) (w : List ℕ) : Type 0 where
   pub room : t .order + n ≤ length w
   pub sought : SlotFits t s w
   pub slot : (i : ℕ) → i < n → SlotFits t (slotIn t i w) w
+  pub cost : (i : ℕ) → i < n → Costed t (slotIn t i w) w
   pub ordered : (i j : ℕ) → i < j → j < n → order (shapeIn t (slotIn t i w) w) (shapeIn t (slotIn t j w) w) ≡ Less
 
 pub record FoundAt (t : Shapes) (n s : ℕ) (w : List ℕ) (i : ℕ) : Type 0 where
