@@ -102,6 +102,9 @@ def read_store(data):
 
 # Jobs
 
+# The most regions of a job (docs/RULES.md, J3).
+REGIONS = 32767
+
 
 def stores(path):
     font, stem = TTFont(path), Path(path).stem
@@ -116,11 +119,12 @@ def stores(path):
 
 def made():
     """Stores at a limit of docs/RULES.md and just past it, where no font at hand is."""
-    tents = [((0, peak, peak),) for peak in range(1, 258)]
+    tents = [((0, peak, peak),) for peak in range(1, 12)]
+    many = [((0, n % 256, n // 256),) for n in range(REGIONS + 1)]
     for more in (0, 1):
         tent = [(axis - 32, 256 * axis, 16384 - axis) for axis in range(64 + more)]
         yield Store(f"made {64 + more} axes", 64 + more, [tuple(tent), tuple(tent[::-1])], [[(1, 70000), (0, -1)]])
-        yield Store(f"made {256 + more} regions", 1, tents[: 256 + more], [[(255, 1), (3, -300)]])
+        yield Store(f"made {REGIONS + more} regions", 1, many[: REGIONS + more], [[(256, 1), (REGIONS - 1, 7), (3, -300)]])
         yield Store(f"made {65535 + more} rows", 1, tents[:1], [[(0, n % 100)] for n in range(65535 + more)])
         shapes = [[(bit, 1) for bit in range(11) if n >> bit & 1] for n in range(1024 + more)]
         yield Store(f"made {1024 + more} shapes", 1, tents[:11], shapes)
@@ -135,9 +139,9 @@ def job(store):
     """The job's bytes, by the table of records in docs/RULES.md (J1)."""
     records = []
     for number, region in enumerate(store.regions):
-        records += [pack(">BBBx3h2x", 1, number & 0xFF, axis, *tent) for axis, tent in enumerate(region)]
+        records += [pack(">BBBB3h2x", 1, number & 0xFF, axis, number >> 8, *tent) for axis, tent in enumerate(region)]
     for row in store.rows:
-        records += [pack(">BB2xi4x", 2, region & 0xFF, value) for region, value in row]
+        records += [pack(">BBxBi4x", 2, region & 0xFF, region >> 8, value) for region, value in row]
         records.append(pack(">B11x", 3))
     return b"".join(records)
 
@@ -149,8 +153,8 @@ def refusal(store, mode):
         return 1, 0
     if at + sum(len(row) + 1 for row in store.rows) > 1048576:
         return 3, 0
-    if len(store.regions) > 256:
-        return 32, 256 * store.axes
+    if len(store.regions) > REGIONS:
+        return 32, REGIONS * store.axes
     for number, row in enumerate(store.rows):
         named = [store.regions[region] for region, _ in row]
         for place, region in enumerate(named):
