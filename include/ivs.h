@@ -186,50 +186,51 @@ uint64_t ivs_read_width(const uint8_t *table, size_t table_len, uint32_t glyph, 
 /* The 32-bit words of work that ivs_recover needs for a store of so many bytes (O2). */
 size_t ivs_recover_words(size_t bytes);
 
-/* A store read back into a job (O1 to O5, H8): its regions in the order of its list, then a set for each row, subtable by
- * subtable, which names the region of each value that is not zero. Any bytes may be read. The answer is the refusal
+/* A store read back into a job (O1 to O5, H8): its regions in the order of its list, then a set for each row, subtable
+ * by subtable, which names the region of each value that is not zero. Any bytes may be read. The answer is the refusal
  * number, 0 for done: 4 WORK_SHORT, 20 BAD_STORE (also where only a subtable that nobody asks for is malformed),
  * 50 REGIONS_EQUAL (the list has a region twice), 51 REGIONS_OR_AXES (more regions or axes than a job may have, or no
  * axis), 52 JOB_TOO_LONG (more records than a job may have), 53 JOB_SHORT (the job does not fit in out).
  *
- * Lent: work, as many words as ivs_recover_words says; out, for the job's bytes. A refusal writes nothing to out, and what
- * stands behind the job is left as it was. WORK_SHORT leaves work as it was; every other answer leaves zeros in all of it.
+ * Lent: work, as many words as ivs_recover_words says; out, for the job's bytes. A refusal writes nothing to out, and
+ * what stands behind the job is left as it was. WORK_SHORT leaves work as it was; every other answer leaves zeros in
+ * all of it.
  *
  * The report has 16 words, and all are written: 0 the number, 1 the place, which is 0, 2 job bytes, 3 axes, 4 regions,
  * 5 sets; all other words, and after a refusal all but word 0, are zero. */
-uint32_t ivs_recover(const uint8_t *store, size_t store_len, uint32_t *work, size_t work_len, uint8_t *out, size_t out_len,
-                     uint64_t *report);
+uint32_t ivs_recover(const uint8_t *store, size_t store_len, uint32_t *work, size_t work_len, uint8_t *out,
+                     size_t out_len, uint64_t *report);
 
-/* The 32-bit words of work that ivs_judge needs for a job of so many records and head regions and a store of so many bytes
- * (Y2); 0 above the record limit. */
+/* The 32-bit words of work that ivs_judge needs for a job of so many records and head regions and a store of so many
+ * bytes (Y2); 0 above the record limit. */
 size_t ivs_judge_words(size_t records, size_t regions, size_t bytes);
 
-/* Whether a store, whoever built it, gives every set of a job (Y1 to Y6, H9): word n of words is the row of set n, outer x
- * 65,536 + inner. The store may order regions, subtables and rows as it likes, keep ones that nobody uses and leave room
- * between its parts. The answer is the refusal number, 0 where the store was judged: 1, 3, 4 (words of work alone), 6 to 8
- * and 30 to 34 as in a build. Work is lent as ivs_judge_words says, and left as by a build.
+/* Whether a store, whoever built it, gives every set of a job (Y1 to Y6, H9): word n of words is the row of set n,
+ * outer x 65,536 + inner. The store may order regions, subtables and rows as it likes, keep ones that nobody uses and
+ * leave room between its parts. The answer is the refusal number, 0 where the store was judged: 1, 3, 4 (words of work
+ * alone), 6 to 8 and 30 to 34 as in a build. Work is lent as ivs_judge_words says, and left as by a build.
  *
- * The report has 16 words, and all are written: 0 the number, 1 the place and 12 the byte as for a build; 2 the verdict:
- * 1 yes, 2 no by a set, 3 no by the store itself (malformed, of another axis count, or with a region twice); for 2, 3 is
- * the first set that fails. A set without a word fails; words past the sets are not looked at. All other words are
- * zero. */
+ * The report has 16 words, and all are written: 0 the number, 1 the place and 12 the byte as for a build; 2 the
+ * verdict: 1 yes, 2 no by a set, 3 no by the store itself (malformed, of another axis count, or with a region twice);
+ * for 2, 3 is the first set that fails. A set without a word fails; words past the sets are not looked at. All other
+ * words are zero. */
 uint32_t ivs_judge(uint32_t axes, const uint8_t *job, size_t job_len, const uint8_t *store, size_t store_len,
                    const uint32_t *words, size_t words_len, uint32_t *work, size_t work_len, uint64_t *report);
 
-/* The 32-bit words of work that ivs_keep needs for a store of so many bytes and a list of so many rows (K2); 0 for more than
- * any memory holds. */
+/* The 32-bit words of work that ivs_keep needs for a store of so many bytes and a list of so many rows (K2); 0 for more
+ * than any memory holds. */
 size_t ivs_keep_words(size_t bytes, size_t rows);
 
-/* A store with only the rows of a list, outer x 65,536 + inner each, repeats allowed (K1 to K6, H10), and for each entry of
- * the list its row's new place, in the same form. Rows and subtables keep their order, columns and word counts stay; a
- * subtable without rows goes, and so does a region that no subtable names. The answer is the refusal number, 0 for done:
- * 4 WORK_SHORT, 20 BAD_STORE (also where only a subtable that the list does not name is malformed), 21 NO_ROW (an entry
- * names no row), 73 PLACES_SHORT (fewer words of places than entries), 74 KEPT_SHORT (the new store does not fit in out, or
- * is longer than 4,294,967,295 bytes).
+/* A store with only the rows of a list, outer x 65,536 + inner each, repeats allowed (K1 to K6, H10), and for each
+ * entry of the list its row's new place, in the same form. Rows and subtables keep their order, columns and word counts
+ * stay; a subtable without rows goes, and so does a region that no subtable names. The answer is the refusal number,
+ * 0 for done: 4 WORK_SHORT, 20 BAD_STORE (also where only a subtable that the list does not name is malformed),
+ * 21 NO_ROW (an entry names no row), 73 PLACES_SHORT (fewer words of places than entries), 74 KEPT_SHORT (the new store
+ * does not fit in out, or is longer than 4,294,967,295 bytes).
  *
- * Lent: work, as many words as ivs_keep_words says; out, for the store's bytes; places, a word for each entry. A refusal
- * writes nothing to out and places, and what stands behind is left as it was. WORK_SHORT leaves work as it was; every other
- * answer leaves zeros in all of it.
+ * Lent: work, as many words as ivs_keep_words says; out, for the store's bytes; places, a word for each entry. A
+ * refusal writes nothing to out and places, and what stands behind is left as it was. WORK_SHORT leaves work as it was;
+ * every other answer leaves zeros in all of it.
  *
  * The report has 16 words, and all are written: 0 the number, 1 the place, which is 0, 2 store bytes, 3 subtables,
  * 4 regions kept, 5 rows kept; all other words, and after a refusal all but word 0, are zero. */

@@ -44,14 +44,14 @@ word-signed x h =
     let t = value-twos x h in
     ap value (ap word (sym t) ∙ word-value ((x + zeroWord) % 256 ^ 4)) ∙ t
 
-value-at : (job : List ℕ) (i : ℕ) → Bytes job → value (valueWord (recordAt job i)) ≡ valueAt job i
+pub value-at : (job : List ℕ) (i : ℕ) → Bytes job → value (valueWord (recordAt job i)) ≡ valueAt job i
 unfolding valueWord
 value-at job i b = word-signed (be 4 (recordAt job i) 4) (four-low (recordAt job i) (λ k. rw (getD-drop (12 * i) job k 0) (b (12 * i + k))))
 
 -- ---- one set
 
 module _ (axes : ℕ) (job : List ℕ) (s : Said) (bytes : Bytes job) (t : Told axes job s) where
-  coords-at : (r : ℕ) → r < length (s .used) → getD (coordsInUse s) r [] ≡ regionBytes (coordinatesAt axes job (getD (s .used) r 0))
+  pub coords-at : (r : ℕ) → r < length (s .used) → getD (coordsInUse s) r [] ≡ regionBytes (coordinatesAt axes job (getD (s .used) r 0))
   unfolding coordsInUse
   coords-at r h =
       getD-map-in (λ (q : ℕ). regionBytes (getD (s .regions) q [])) (s .used) r 0 [] h
