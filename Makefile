@@ -20,7 +20,7 @@ endif
 OWN = $(firstword $(wildcard target/native/libivs.a) target/staticlib/libivs.a)
 ARCHIVE = $(if $(IVS_LIB),$(IVS_LIB)/lib/libivs.a,$(OWN))
 
-.PHONY: run install dist library program test bench check fmt
+.PHONY: run install dist whole library program test bench check fmt
 
 run: program
 	@./examples/run host/target/release/fenikezo
@@ -36,11 +36,13 @@ program: library
 install: program
 	./tools/install "$(DESTDIR)$(PREFIX)" "$(ARCHIVE)" host/target/release/fenikezo
 
-# Its page speaks of all crates, so all are proved.
-dist:
+dist: whole
+	./tools/dist target/dist "$(OWN)"
+
+# The page of `dist` speaks of all crates, so all are proved.
+whole:
 	rt check
 	@./tools/staticlib
-	./tools/dist target/dist "$(OWN)"
 
 test:
 	./tests/run
