@@ -203,7 +203,7 @@ pub fn job_words(axes: u32, job: &[u8]) -> usize {
 /// let refused = ivs::build_into(1, 0, &job, &mut lent).unwrap_err();
 /// assert_eq!(
 ///     refused.to_string(),
-///     "4 WORK_SHORT: the words of work lent are too few; lend 57 of them"
+///     "4 WORK_SHORT: the words of work lent are too few; lend 99 of them"
 /// );
 /// # Ok::<(), Box<dyn std::error::Error>>(())
 /// ```
