@@ -14,6 +14,7 @@ use Rattle.store.specs.Lent.{coordsIn, finalAt, finalsAt}
 use Rattle.encoder.specs.declared.places.Places.{Places}
 use Rattle.encoder.specs.Packed.{Packed, own, oneCost}
 use Rattle.encoder.specs.Lent.{relabel, groupAt, originsIn, FinalIn, PackedAt}
+use Rattle.encoder.specs.LentPlaces.{scratchAt}
 use Rattle.finishing.specs.declared.answers.Built.{Built}
 use Rattle.finishing.specs.Buffers.{Buffers}
 use Rattle.finishing.specs.declared.answers.Report.{Report}
@@ -76,6 +77,9 @@ null-fit axes job a = record {
   ids-below = λ x h. absurd (omega arith);
 }
 
+null-room : scratchAt noPlaces + 4 * noPlaces .regions ≤ length three
+null-room = omega arith
+
 pub null-is : (axes : ℕ) (p : Places) → p ≡ noPlaces → _≡_ {A = Packing} (record { axes = axes; starts = 0; places = p; encoded = oneNull }) (nullPacking axes)
 null-is axes p e = ap (λ (x : Places). record { axes = axes; starts = 0; places = x; encoded = oneNull }) e
 
@@ -85,6 +89,10 @@ module _ (axes : ℕ) (k : Packing) (e : k ≡ nullPacking axes) where
 
   pub none-fits : axes ≤ mostAxes → (k .axes ≤ mostAxes) × WordsFit (k .places) (k .encoded) three
   none-fits a = subst (λ (x : Packing). (x .axes ≤ mostAxes) × WordsFit (x .places) (x .encoded) three) (sym e) (a, none-words)
+
+  -- its tables of a word a region are empty
+  pub none-room : scratchAt (k .places) + 4 * k .places .regions ≤ length three
+  none-room = subst (λ (x : Packing). scratchAt (x .places) + 4 * x .places .regions ≤ length three) (sym e) null-room
 
   -- no region has coordinates
   pub none-done : (job : List ℕ) (r : Built) (old new : Buffers)

@@ -101,6 +101,7 @@ module _ {axes starts : ℕ} {job w : List ℕ} {p : Places} {s : Said} (c : Col
             axes-is = refl;
             fit = finish-fit;
             packed = subst (λ (x : Packed). PackedAt x p e w′) same packed;
+            room = omega (arith, lies .scratch-to, only .long);
             coords-are = coords-kept c only;
           })
 

@@ -2,13 +2,15 @@
 use mathlib.Core.Path.{_≡_}
 use mathlib.Core.Bool.{Bool, true, false}
 use mathlib.Core.List.{List}
-use Prim.Native.Nat.{ℕ, _<_}
+use Prim.Native.Nat.{ℕ, _+_, _*_, _≤_, _<_}
+use lib.ListN.{length}
 use Rattle.merging.specs.declared.optimizing.Merged.{Merged}
 use Rattle.merging.specs.LentOptimized.{Optimized}
 use Rattle.said.specs.Job.{Said, Outcome, fine}
 use Rattle.encoder.specs.LentArranged.{tablesOf}
 use Rattle.encoder.specs.declared.encoded.Encoded.{Encoded}
 use Rattle.encoder.specs.Lent.{PackedAt}
+use Rattle.encoder.specs.LentPlaces.{scratchAt}
 use Rattle.store.specs.Lent as store
 use Rattle.finishing.specs.declared.measuring.Packing.{Packing}
 use Rattle.finishing.specs.Lent.{FinishFit}
@@ -42,6 +44,7 @@ pub record ArrangedAs (axes mode : ℕ) (job : List ℕ) (o : Outcome) (k : Pack
   pub axes-is : k .axes ≡ axes
   pub fit : FinishFit (k .axes) (k .starts) job (k .places) (k .encoded) w
   pub packed : PackedAt (packedOf mode said) (k .places) (k .encoded) w
+  pub room : scratchAt (k .places) + 4 * k .places .regions ≤ length w
   pub coords-are : store.coordsIn job (k .axes) w (k .starts) (k .places .regions) ≡ coordsInUse said
 
 -- ---- what is asked: such a build

@@ -28,7 +28,7 @@ fn foretell_none(axes: usize) -> Report
 {
     let mut null = [0u32; 3];
     null[1] = 3;
-    foretell(&null, null_packing(axes))
+    foretell(&mut null, null_packing(axes))
 }
 
 // Packs the sets by their mode, and measures.

@@ -44,14 +44,14 @@ square (suc d) h =
     rw e (omega arith)
 
 module _ (base n u r c q : ℕ) (low : c ≤ n) (some : 1 ≤ c) (behind : base ≤ 4 * r + u) (fits : n + u ≤ r) where
-  -- up to the rows' end, of no regions and so of one group; of some regions, and few records or many
-  rows-alone : u ≡ 0 → c ≤ 1 → 1 ≤ q → base + 4 * n + (c + 1) * u + 8 * c + 3 * (c - 1) + n ≤ 16 * r + q * q
+  -- up to the end of the four tables behind the rows, of no regions and so of one group; of some regions, and few records or many
+  rows-alone : u ≡ 0 → c ≤ 1 → 1 ≤ q → base + 4 * n + (c + 1) * u + 8 * c + 3 * (c - 1) + n + 4 * u ≤ 16 * r + q * q
   rows-alone none one there =
       let z : (c + 1) * u ≡ 0 = rw none (omega arith) in
       let v : 1 * 1 ≤ q * q = product q q there there in
       omega arith
 
-  rows-small : 0 < u → n + u + 1 ≤ r → q ≡ r → base + 4 * n + (c + 1) * u + 8 * c + 3 * (c - 1) + n ≤ 16 * r + q * q
+  rows-small : 0 < u → n + u + 1 ≤ r → q ≡ r → base + 4 * n + (c + 1) * u + 8 * c + 3 * (c - 1) + n + 4 * u ≤ 16 * r + q * q
   rows-small used more same =
       let e : q * q ≡ r * r = rw same in
       let cu : c * u ≤ (r - 1 - 1) * (r - 1 - 1) = product (r - 1 - 1) (r - 1 - 1) (omega arith) (omega arith) in
@@ -60,7 +60,7 @@ module _ (base n u r c q : ℕ) (low : c ≤ n) (some : 1 ≤ c) (behind : base 
       let b = square (r - 1) (omega arith) in
       omega arith
 
-  rows-large : c ≤ maxShapes → u ≤ maxRegions → maxShapes ≤ q → base + 4 * n + (c + 1) * u + 8 * c + 3 * (c - 1) + n ≤ 16 * r + q * q
+  rows-large : c ≤ maxShapes → u ≤ maxRegions → maxShapes ≤ q → base + 4 * n + (c + 1) * u + 8 * c + 3 * (c - 1) + n + 4 * u ≤ 16 * r + q * q
   rows-large most narrow many =
       let cu : c * u ≤ maxShapes * maxRegions = product maxShapes maxRegions most narrow in
       let qq : 1024 * maxShapes ≤ q * q = product q q many many in
@@ -83,18 +83,18 @@ module _ (base n u r long : ℕ) (p : Places) (f : PlacesAt base n u p) (behind 
   none : p .room < 1 → (n ≡ 0) × (p .room ≡ 0)
   none h = ⊎-elim (λ (l : 0 < n). absurd (omega (arith, f .room-is, room-one n u l))) (λ (l : n ≤ 0). (omega arith, omega arith)) (lt-or-ge 0 n)
 
-  rows-used : 1 ≤ p .room → 0 < u → p .rows + n ≤ 16 * r + min r maxShapes * min r maxShapes
+  rows-used : 1 ≤ p .room → 0 < u → p .rows + n + 4 * u ≤ 16 * r + min r maxShapes * min r maxShapes
   rows-used h l = ⊎-elim
       (λ (k : r < maxShapes). omega (arith, rows-is, rows-small base n u r (p .room) (min r maxShapes) low h behind fits l (more l) (omega arith)))
       (λ (k : maxShapes ≤ r). omega (arith, rows-is, rows-large base n u r (p .room) (min r maxShapes) low h behind fits most narrow (omega arith)))
       (lt-or-ge r maxShapes)
 
-  rows-unused : 1 ≤ p .room → u ≡ 0 → p .rows + n ≤ 16 * r + min r maxShapes * min r maxShapes
+  rows-unused : 1 ≤ p .room → u ≡ 0 → p .rows + n + 4 * u ≤ 16 * r + min r maxShapes * min r maxShapes
   rows-unused h z =
       let b = low in
       omega (arith, rows-is, rows-alone base n u r (p .room) (min r maxShapes) low h behind fits z (omega (arith, f .room-is, room-none n u z)) (omega arith))
 
-  rows-short : p .rows + n ≤ 16 * r + min r maxShapes * min r maxShapes
+  rows-short : p .rows + n + 4 * u ≤ 16 * r + min r maxShapes * min r maxShapes
   rows-short = ⊎-elim
       (λ (h : p .room < 1).
       let z = none h in
@@ -128,5 +128,6 @@ module _ (base n u r long : ℕ) (p : Places) (f : PlacesAt base n u p) (behind 
     into-to = omega (arith, f .into-is, f .log-is);
     log-to = omega (arith, f .rows-is);
     rows-to = omega (arith, f .sets-is, rows-short);
+    scratch-to = rw (f .sets-is, f .regions-is) (omega (arith, rows-short));
     few = rw (f .sets-is) (omega (arith, rows-is, low, most, slots-few n u (p .room) (f .room-is) narrow));
   }

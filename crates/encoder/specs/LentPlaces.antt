@@ -33,6 +33,11 @@ pub record PlacesAt (base sets regions : ℕ) (p : Places) : Type 0 where
   pub log-is : p .log ≡ p .place + 6 * p .room
   pub rows-is : p .rows ≡ p .log + 3 * (p .room - 1)
 
+-- Behind the rows stand four tables of a word a region: which ones the store keeps, their new numbers, and for each final group in turn
+-- its columns and their places.
+abbrev pub scratchAt : Places → ℕ
+scratchAt p = p .rows + p .sets
+
 -- They lie one behind the other in so many words.
 pub record Laid (p : Places) (long : ℕ) : Type 0 where
   pub sets-few : p .sets ≤ mostRecords
@@ -57,4 +62,5 @@ pub record Laid (p : Places) (long : ℕ) : Type 0 where
   pub into-to : p .into + 2 * p .room ≤ p .log
   pub log-to : p .log + 3 * (p .room - 1) ≤ p .rows
   pub rows-to : p .rows + p .sets ≤ long
+  pub scratch-to : scratchAt p + 4 * p .regions ≤ long
   pub few : p .rows + p .sets < 4294967296

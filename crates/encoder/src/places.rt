@@ -11,6 +11,8 @@ ghost use Rattle.encoder.specs.LentPlaces.{roomFor, PlacesAt};
 // After merging, the places of some serve again, each use by a name of its own: `homes`, where `counts` stood, has the final group of each
 // slot; `living`, where `costs` stood, the slots of the final groups in order; `spots`, where `columns` stood, a slot's place in that order;
 // and then `finals`, where `columns` and `into` stood, three words a final group. Then the log, and a word for each set from `rows` on.
+// Behind the rows, from `rows + sets` on, stand four tables of a word a region, while a store is planned and written: which regions it keeps,
+// their new numbers, and for each final group in turn its columns and their places.
 pub struct Places {
     pub sets: usize,
     pub regions: usize,

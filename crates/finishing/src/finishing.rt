@@ -6,7 +6,6 @@ use crate::measuring::measure;
 use encoder::Encoded;
 use encoder::Places;
 use encoder::log_words;
-use limits::Limits;
 use planning::Plan;
 use said::Refusal;
 use store::Coords;
@@ -14,13 +13,15 @@ use store::Finals;
 use writing::write_map;
 use writing::write_store;
 ghost use mathlib.Core.Path.{_≡_};
+ghost use mathlib.Core.List.{[], _∷_};
 ghost use Prim.Native.Nat.{_+_, _-_, _*_, _≤_};
-ghost use lib.ListN.{length};
-ghost use Rattle.laws.specs.LentRange.{seg};
+ghost use lib.ListN.{length, take};
+ghost use Rattle.laws.specs.LentRange.{Only, seg};
 ghost use Rattle.laws.specs.Bytes.{over};
 ghost use Rattle.store.specs.Lent.{Planned, coordsIn};
 ghost use Rattle.encoder.specs.Packed.{Packed};
 ghost use Rattle.encoder.specs.Lent.{PackedAt};
+ghost use Rattle.encoder.specs.LentPlaces.{scratchAt};
 ghost use Rattle.finishing.specs.Buffers.{buffers};
 ghost use Rattle.finishing.specs.Lent.{FinishFit, Finished, OriginsFit, RowsNamed, WordsFit, WordsWritten, originsTold, shortNo, storeIn};
 ghost use Rattle.limits.specs.Limits.{maxShapes};
@@ -103,20 +104,14 @@ fn short_no(
     0
 }
 
-// Writes the store of what is packed, as it was measured.
-fn write_out(
-    out: &mut [u8],
-    job: &[u8],
-    work: &[u32],
-    k: Packing,
-    marks: &[u32],
-    numbers: &[u32],
-    done: Report,
-)
-    requires { ⌜ FinishFit (k .axes) (k .starts) (now job) (k .places) (k .encoded) (now work) ⌝ }
-    requires { ⌜ Planned (k .axes) (now work) (k .places .regions) (k .places .finals) (k .encoded .count) (now marks) (now numbers) (done .subtables) (done .regions) ⌝ }
-    requires { ⌜ length (storeIn (k .axes) (k .starts) (now job) (k .places) (k .encoded) (now work)) ≤ length (now out) ⌝ }
-    ensures { λ _. ⌜ now (out .exit) ≡ over (now (out .entry)) 0 (length (storeIn (k .axes) (k .starts) (now (job .entry)) (k .places) (k .encoded) (now (work .entry)))) (storeIn (k .axes) (k .starts) (now (job .entry)) (k .places) (k .encoded) (now (work .entry))) ⌝ }
+// Writes the store of what is packed before `scratch`, as it was measured.
+fn write_out(out: &mut [u8], job: &[u8], work: &mut [u32], k: Packing, scratch: usize, done: Report)
+    requires { ⌜ FinishFit (k .axes) (k .starts) (now job) (k .places) (k .encoded) (take scratch (now work)) ⌝ }
+    requires { ⌜ scratch + 4 * k .places .regions ≤ length (now work) ⌝ }
+    requires { ⌜ Planned (k .axes) (take scratch (now work)) (k .places .regions) (k .places .finals) (k .encoded .count) (seg scratch (k .places .regions) (now work)) (seg (scratch + k .places .regions) (k .places .regions) (now work)) (done .subtables) (done .regions) ⌝ }
+    requires { ⌜ length (storeIn (k .axes) (k .starts) (now job) (k .places) (k .encoded) (take scratch (now work))) ≤ length (now out) ⌝ }
+    ensures { λ _. ⌜ now (out .exit) ≡ over (now (out .entry)) 0 (length (storeIn (k .axes) (k .starts) (now (job .entry)) (k .places) (k .encoded) (take scratch (now (work .entry))))) (storeIn (k .axes) (k .starts) (now (job .entry)) (k .places) (k .encoded) (take scratch (now (work .entry)))) ⌝ }
+    ensures { λ _. ⌜ Only ((scratch + 2 * k .places .regions, 2 * k .places .regions) ∷ []) (now (work .entry)) (now (work .exit)) ⌝ }
 {
     let p = k.places;
     let e = k.encoded;
@@ -135,7 +130,7 @@ fn write_out(
         runs: done.subtables,
         kept: done.regions,
     };
-    write_store(out, job, c, work, t, marks, numbers, plan);
+    write_store(out, job, c, work, t, scratch, plan);
 }
 
 // Writes ids, log, origins and map. The map comes last: its words stand at ids, and the rows, which are numbers of sets until then, become ids for it.
@@ -169,7 +164,8 @@ fn write_words(
 }
 
 // Finishes a build whose sets are packed in work. All is measured before anything is written, so that a refusal leaves what is lent as it
-// was; and the store comes before the words, which rename the rows in work.
+// was; and the store comes before the words, which rename the rows in work. What is read stands before the rows' end; behind it stand the
+// tables of a word a region by which the store is planned and written.
 pub fn finish(
     job: &[u8],
     work: &mut [u32],
@@ -181,13 +177,13 @@ pub fn finish(
     origins: &mut [u32],
 ) -> Built
     requires { ⌜ FinishFit (k .axes) (k .starts) (now job) (k .places) (k .encoded) (now work) ⌝ }
+    requires { ⌜ scratchAt (k .places) + 4 * k .places .regions ≤ length (now work) ⌝ }
     ensures { λ r. ⌜ ((x : Packed) → PackedAt x (k .places) (k .encoded) (now (work .entry)) → Finished (k .axes) (coordsIn (now (job .entry)) (k .axes) (now (work .entry)) (k .starts) (k .places .regions)) x r (buffers (now (out .entry)) (now (ids .entry)) (now (map .entry)) (now (log .entry)) (now (origins .entry))) (buffers (now (out .exit)) (now (ids .exit)) (now (map .exit)) (now (log .exit)) (now (origins .exit)))) ⌝ }
 {
-    let mut marks = [0u32; Limits::REGIONS];
-    let mut numbers = [0u32; Limits::REGIONS];
-    let done = measure(work, k, &mut marks, &mut numbers);
     let p = k.places;
     let e = k.encoded;
+    let scratch = p.rows + p.sets;
+    let done = measure(work, k, scratch);
     let no = short_no(
         p,
         e,
@@ -201,7 +197,7 @@ pub fn finish(
     if no != 0 {
         return Built::Refused(no, 0);
     }
-    write_out(out, job, work, k, &marks, &numbers, done);
-    write_words(work, p, e, ids, map, log, origins);
+    write_out(out, job, work, k, scratch, done);
+    write_words(&mut work[..scratch], p, e, ids, map, log, origins);
     Built::Done(done)
 }

@@ -3,20 +3,21 @@
 use crate::answers::Report;
 use encoder::Encoded;
 use encoder::Places;
-use limits::Limits;
 use planning::Plan;
 use planning::draft;
 use store::Finals;
 ghost use mathlib.Core.Path.{_≡_};
-ghost use mathlib.Core.List.{List};
-ghost use Prim.Native.Nat.{ℕ, _≤_};
-ghost use lib.ListN.{length};
+ghost use mathlib.Core.List.{List, [], _∷_};
+ghost use Prim.Native.Nat.{ℕ, _+_, _*_, _≤_};
+ghost use lib.ListN.{length, take};
+ghost use Rattle.laws.specs.LentRange.{Only, seg};
 ghost use Rattle.store.specs.Lent.{coordsIn};
 ghost use Rattle.encoder.specs.Packed.{Packed};
 ghost use Rattle.encoder.specs.Lent.{PackedAt};
+ghost use Rattle.encoder.specs.LentPlaces.{scratchAt};
 ghost use Rattle.finishing.specs.Late.{reportOf};
 ghost use Rattle.finishing.specs.Lent.{FinishFit, MeasuredAs, WordsFit, reportIn};
-ghost use Rattle.limits.specs.Limits.{mostAxes, maxRegions};
+ghost use Rattle.limits.specs.Limits.{mostAxes};
 
 // Sets that are packed in work: for how many axes, from where on stands where in the job each region's coordinates start, where the tables
 // stand, and what was made of the sets.
@@ -45,13 +46,13 @@ fn report(e: Encoded, plan: Plan) -> Report
     }
 }
 
-// The report, with the regions that are kept marked and numbered.
-pub fn measure(work: &[u32], k: Packing, marks: &mut [u32], numbers: &mut [u32]) -> Report
+// The report, with the regions that are kept marked and numbered from `scratch` on, behind what is packed.
+pub fn measure(work: &mut [u32], k: Packing, scratch: usize) -> Report
     requires { ⌜ k .axes ≤ mostAxes ⌝ }
-    requires { ⌜ WordsFit (k .places) (k .encoded) (now work) ⌝ }
-    requires { ⌜ maxRegions ≤ length (now marks) ⌝ }
-    requires { ⌜ maxRegions ≤ length (now numbers) ⌝ }
-    ensures { λ r. ⌜ MeasuredAs k (now (work .entry)) (now (marks .exit)) (now (numbers .exit)) r ⌝ }
+    requires { ⌜ scratch + 4 * k .places .regions ≤ length (now work) ⌝ }
+    requires { ⌜ WordsFit (k .places) (k .encoded) (take scratch (now work)) ⌝ }
+    ensures { λ r. ⌜ MeasuredAs k (take scratch (now (work .entry))) (seg scratch (k .places .regions) (now (work .exit))) (seg (scratch + k .places .regions) (k .places .regions) (now (work .exit))) r ⌝ }
+    ensures { λ _. ⌜ Only ((scratch, 2 * k .places .regions) ∷ []) (now (work .entry)) (now (work .exit)) ⌝ }
 {
     let p = k.places;
     let e = k.encoded;
@@ -61,17 +62,17 @@ pub fn measure(work: &[u32], k: Packing, marks: &mut [u32], numbers: &mut [u32])
         count: e.count,
         index: 0,
     };
-    let plan = draft(k.axes, work, t, marks, numbers);
+    let plan = draft(k.axes, work, t, scratch);
     report(e, plan)
 }
 
 // The report alone: what a build would answer that is lent enough.
-pub fn foretell(work: &[u32], k: Packing) -> Report
+pub fn foretell(work: &mut [u32], k: Packing) -> Report
     requires { ⌜ k .axes ≤ mostAxes ⌝ }
     requires { ⌜ WordsFit (k .places) (k .encoded) (now work) ⌝ }
+    requires { ⌜ scratchAt (k .places) + 4 * k .places .regions ≤ length (now work) ⌝ }
     ensures { λ r. ⌜ ((job : List ℕ) (x : Packed) → FinishFit (k .axes) (k .starts) job (k .places) (k .encoded) (now (work .entry)) → PackedAt x (k .places) (k .encoded) (now (work .entry)) → r ≡ reportOf (k .axes) (coordsIn job (k .axes) (now (work .entry)) (k .starts) (k .places .regions)) x) ⌝ }
 {
-    let mut marks = [0u32; Limits::REGIONS];
-    let mut numbers = [0u32; Limits::REGIONS];
-    measure(work, k, &mut marks, &mut numbers)
+    let p = k.places;
+    measure(work, k, p.rows + p.sets)
 }

@@ -15,11 +15,11 @@ use Rattle.laws.proofs.Cases.Which.{holds, fails}
 use Rattle.shapes.specs.Shape.{Shape}
 use Rattle.reader.specs.declared.column.Column.the-variants.{At}
 use Rattle.reader.specs.Store.{columnsOk, find}
-use Rattle.rows.specs.Columns.{addIf, ofWidth, columnsOf, fours, twoes, wordCount}
-use Rattle.rows.specs.Lent.{placeNo, Placed, Put, Formed}
+use Rattle.rows.specs.Columns.{addIf, ofWidth, columnsOf, fours, twoes}
+use Rattle.rows.specs.Lent.{placeNo, Placed, Put}
 use Rattle.reader.proofs.ColumnLaws.{find-snoc, find-end}
 use Rattle.reader.proofs.StoreLaws.{ok-once, ok-below, zeros-at}
-use Rattle.rows.proofs.OverLaws.{over-none, over-join, over-front, set-over}
+use Rattle.rows.proofs.OverLaws.{over-none, over-join, set-over}
 
 -- ---- one width
 
@@ -113,44 +113,6 @@ columns-count s = simp length-append (omega arith)
 
 pub columns-most : (s : Shape) → fours s + twoes s + length (ofWidth 1 0 s) ≤ length s
 columns-most s = count-most s 0
-
--- the three passes
-module _ (s : Shape) (old a b c : List ℕ) (x y z : ℕ) (few : length s < 32768) (room : length s ≤ length old)
-    (p : Put 0 (ofWidth 4 0 s) old a x) (q : Put x (ofWidth 2 0 s) a b y) (r : Put y (ofWidth 1 0 s) b c z) where
-  all-put : c ≡ columnsOf s ++ drop (length (columnsOf s)) old
-  unfolding columnsOf
-  all-put =
-      let n = columns-most s in
-      let e1 = p .is in
-      let xe : x ≡ 0 + fours s = p .end in
-      let ye : y ≡ 0 + (fours s + twoes s) = q .end ∙ (rw xe (omega arith)) in
-      let l4 = ofWidth 4 0 s in
-      let l2 = ofWidth 2 0 s in
-      let l1 = ofWidth 1 0 s in
-      let e2 : b ≡ over old 0 (length l4 + length l2) (l4 ++ l2) = q .is ∙ rw (e1, xe) (over-join old 0 l4 l2 (length l4) (length l2) refl refl (omega arith)) in
-      let e3 : c ≡ over old 0 (length l4 + length l2 + length l1) ((l4 ++ l2) ++ l1) =
-      r .is ∙ rw (e2, ye) (over-join old 0 (l4 ++ l2) l1 (length l4 + length l2) (length l1) (length-append l4 l2) refl (omega arith)) in
-      let k : length l4 + length l2 + length l1 ≡ length (l4 ++ (l2 ++ l1)) = simp length-append (omega arith) in
-      e3
-      ∙ ap (λ (m : ℕ). over old 0 m ((l4 ++ l2) ++ l1)) k
-      ∙ ap (λ (l : List ℕ). over old 0 (length (l4 ++ (l2 ++ l1))) l) (append-assoc l4 l2 l1)
-      ∙ over-front old (l4 ++ (l2 ++ l1)) (length (l4 ++ (l2 ++ l1)))
-
-  count-end : z ≡ length (columnsOf s)
-  count-end = omega (arith, p .end, q .end, r .end, columns-count s)
-
-  pub form-wide : 0 < x → Formed s old c (x + 32768) z
-  unfolding wordCount
-  form-wide h =
-      let e : x ≡ fours s = omega (arith, p .end) in
-      let h′ : 0 < fours s = omega arith in
-      record { word-is = rw (e, lt-ltb 0 (fours s) h′); count-is = count-end; is = all-put }
-
-  pub form-narrow : x ≤ 0 → Formed s old c y z
-  unfolding wordCount
-  form-narrow h =
-      let e : fours s ≤ 0 = omega (arith, p .end) in
-      record { word-is = rw (le-ltb 0 (fours s) e) (omega (arith, p .end, q .end)); count-is = count-end; is = all-put }
 
 -- ---- the table of places
 

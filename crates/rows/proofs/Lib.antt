@@ -5,5 +5,6 @@ pub mod OverLaws
 pub mod CollectLaws
 pub mod CountLaws
 pub mod PutLaws
+pub mod InWork
 pub mod RunLaws
 pub mod Unique

@@ -1,17 +1,19 @@
 -- Laws of putting bytes one piece after another, and of the parts of a subtable. Assumes nothing.
 use mathlib.Core.Path.{_≡_, refl, sym, ap, _∙_}
 use mathlib.Core.List.{List, [], _∷_, _++_, append-nil}
+use mathlib.Core.Logic.{⊎-elim}
 use Prim.Native.Nat.{ℕ, suc, _+_, _-_, _*_, _≤_, _<_}
 use native.Mathlib.Nat.{suc-mul, zero-mul}
 use native.Mathlib.Numerals.{add-one}
 use native.Mathlib.Omega.{arith}
 use lib.ListN.{length, getD, take, drop, length-append, length-drop, length-map, drop-of-length-le}
-use lib.Seq.{drop-cons, drop-length, drop-drop, take-all}
+use lib.Seq.{drop-at, drop-cons, drop-length, drop-drop, getD-drop, getD-take, length-take-le, take-all, take-at}
 use Rattle.laws.specs.Bytes.{bytesOf, over}
 use Rattle.laws.specs.Signed.{twos}
-use Rattle.laws.specs.LentRange.{seg}
-use Rattle.laws.proofs.BytesLaws.{bytes-length, over-length}
-use Rattle.laws.proofs.RangeLaws.{seg-cons, seg-none, length-seg}
+use Rattle.laws.specs.LentRange.{Only, seg}
+use Rattle.laws.proofs.BytesLaws.{bytes-length, over-drop, over-length}
+use Rattle.laws.proofs.Cases.{lt-or-ge}
+use Rattle.laws.proofs.RangeLaws.{only-seg, seg-cons, seg-none, length-seg}
 use Rattle.reader.specs.Store.{columnAt}
 use Rattle.rows.specs.Row.{Set, valueIn}
 use Rattle.rows.specs.Lent.{indexBytes, Put, setAt, rowBytes, cellWords, rowsBytes, headBytes}
@@ -70,6 +72,37 @@ put-join at x y o p q r t a b h =
 
 pub put-long : (at : ℕ) (x o p : List ℕ) (r : ℕ) → Put at x o p r → at + length x ≤ length o → length p ≡ length o
 put-long at x o p r a h = ap length (a .is) ∙ over-length o at (length x) x refl h
+
+-- what a piece that was put leaves: the words before it and behind it, and itself
+module _ (at : ℕ) (x o p : List ℕ) (r : ℕ) (a : Put at x o p r) (h : at + length x ≤ length o) where
+  pub put-before : (k : ℕ) → k < at → getD p k 0 ≡ getD o k 0
+  put-before k l =
+      sym (getD-take at p k 0 l)
+      ∙ ap (λ (y : List ℕ). getD y k 0) (ap (take at) (a .is) ∙ take-at (take at o) (x ++ drop (at + length x) o) at (length-take-le at o (omega arith)))
+      ∙ getD-take at o k 0 l
+
+  put-behind : (k : ℕ) → at + length x ≤ k → getD p k 0 ≡ getD o k 0
+  put-behind k l =
+      let e : at + length x + (k - (at + length x)) ≡ k = omega arith in
+      rw e at
+      (sym (getD-drop (at + length x) p (k - (at + length x)) 0)
+      ∙ ap (λ (y : List ℕ). getD y (k - (at + length x)) 0) (ap (drop (at + length x)) (a .is) ∙ over-drop o at (length x) x refl h (at + length x) (omega arith))
+      ∙ getD-drop (at + length x) o (k - (at + length x)) 0)
+
+  pub put-only : Only ((at, length x) ∷ []) o p
+  put-only = record {
+    long = put-long at x o p r a h;
+    kept = λ k o. ⊎-elim (put-before k) (λ (l : at ≤ k). put-behind k (omega (arith, o .0 .apart (omega arith)))) (lt-or-ge k at);
+  }
+
+  pub put-keeps : (b n : ℕ) → b + n ≤ at → seg b n p ≡ seg b n o
+  put-keeps b n l = only-seg put-only b n (omega arith) (λ k c d. (record { apart = λ q. omega arith }, tt))
+
+  pub put-seg : seg at (length x) p ≡ x
+  unfolding seg
+  put-seg =
+      ap (λ (y : List ℕ). take (length x) (drop at y)) (a .is)
+      ∙ rw (drop-at (take at o) (x ++ drop (at + length x) o) at (length-take-le at o (omega arith))) (take-at x (drop (at + length x) o) (length x) refl)
 
 -- a part that goes to the end, put back: what a write at the part's start is to the whole
 pub part-over : (xs : List ℕ) (a b : ℕ) (row ys : List ℕ) → ys ≡ row ++ drop b (take (length xs - a) (drop a xs))

@@ -5,14 +5,14 @@ use Prim.Native.Nat.{ℕ}
 use native.Mathlib.Omega.{arith}
 use lib.ListN.{length, getD}
 use lib.Seq.{ext-getD}
-use Rattle.shapes.specs.Shape.{Shape}
-use Rattle.rows.specs.Lent.{Put, Formed, Placed}
+use Rattle.rows.specs.Lent.{FormedIn, Placed, Put}
 
 pub put-once : {at : ℕ} {bs old u v : List ℕ} {r s : ℕ} → Put at bs old u r → Put at bs old v s → (r ≡ s) × (u ≡ v)
 put-once p q = (p .end ∙ sym (q .end), p .is ∙ sym (q .is))
 
-pub formed-once : {s : Shape} {old u v : List ℕ} {word count word′ count′ : ℕ} → Formed s old u word count → Formed s old v word′ count′ → (word ≡ word′) × (count ≡ count′) × (u ≡ v)
-formed-once p q = (p .word-is ∙ sym (q .word-is), p .count-is ∙ sym (q .count-is), p .is ∙ sym (q .is))
+pub formed-once : {shape regions cols : ℕ} {old u v : List ℕ} {word count word′ count′ : ℕ}
+    → FormedIn shape regions cols old u word count → FormedIn shape regions cols old v word′ count′ → (word ≡ word′) × (count ≡ count′) × (u ≡ v)
+formed-once p q = (p .word-is ∙ sym (q .word-is), p .count-is ∙ sym (q .count-is), p .put .is ∙ sym (q .put .is))
 
 -- a slice that is lent keeps its length
 pub placed-once : {cols u v : List ℕ} → length u ≡ length v → Placed cols u → Placed cols v → u ≡ v

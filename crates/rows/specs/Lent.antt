@@ -5,6 +5,7 @@ use mathlib.Core.List.{List, [], _∷_, _++_, map}
 use Prim.Native.Nat.{ℕ, zero, suc, _+_, _*_, _≤_, _<_}
 use lib.ListN.{length, getD, take, drop}
 use Rattle.laws.specs.Bytes.{bytesOf, over}
+use Rattle.laws.specs.LentRange.{Only, seg}
 use Rattle.shapes.specs.Shape.{Shape}
 use Rattle.laws.specs.Signed.{twos}
 use Rattle.reader.specs.declared.column.Column.{Column}
@@ -46,11 +47,16 @@ pub record Put (at : ℕ) (bs old new : List ℕ) (r : ℕ) : Type 0 where
   pub end : r ≡ at + length bs
   pub is : new ≡ over old at (length bs) bs
 
--- the shape's columns stand at the front, and the numbers are its word count and how many there are
-pub record Formed (s : Shape) (old new : List ℕ) (word count : ℕ) : Type 0 where
-  pub word-is : word ≡ wordCount s
-  pub count-is : count ≡ length (columnsOf s)
-  pub is : new ≡ columnsOf s ++ drop (length (columnsOf s)) old
+-- the columns of a shape that stands in the words were put from cols on, and the numbers are its word count and how many there are
+pub record FormedIn (shape regions cols : ℕ) (old new : List ℕ) (word count : ℕ) : Type 0 where
+  pub word-is : word ≡ wordCount (seg shape regions old)
+  pub count-is : count ≡ length (columnsOf (seg shape regions old))
+  pub put : Put cols (columnsOf (seg shape regions old)) old new (cols + count)
+
+-- the table of n columns that stand in the words
+pub record PlacedIn (cols n places regions : ℕ) (old new : List ℕ) : Type 0 where
+  pub only : Only ((places, regions) ∷ []) old new
+  pub placed : Placed (seg cols n old) (seg places regions new)
 
 -- the set of id x: an index of two words a set says where its entries start and how many there are
 unfoldable pub setAt : ℕ → List ℕ → ℕ → Set

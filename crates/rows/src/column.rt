@@ -1,13 +1,15 @@
 // Columns of a row: the regions that have one in their order, and which one a region has.
+use laws::zero_part;
 use reader::Column;
 ghost use mathlib.Core.Path.{_≡_};
 ghost use mathlib.Core.List.{List};
 ghost use Prim.Native.Nat.{ℕ, _+_, _≤_, _<_};
 ghost use mathlib.Core.Bool.{true};
 ghost use lib.ListN.{length, replicate};
+ghost use Rattle.laws.specs.LentRange.{seg};
 ghost use Rattle.reader.specs.Store.{columnsOk, find};
 ghost use Rattle.rows.specs.Columns.{columnsOf, ofWidth, wordCount};
-ghost use Rattle.rows.specs.Lent.{Placed, Put, Formed};
+ghost use Rattle.rows.specs.Lent.{FormedIn, Placed, PlacedIn, Put};
 
 // The column of a region, by the table that has 0 for a region without one, else one more than its number.
 pub fn column_of(places: &[u32], region: usize) -> Column
@@ -23,17 +25,18 @@ pub fn column_of(places: &[u32], region: usize) -> Column
     Column::At(place - 1)
 }
 
-// Puts the regions of one width behind those that are there.
-fn collect(shape: &[u32], width: u32, cols: &mut [u32], from: usize) -> usize
-    requires { ⌜ length (now shape) < 32768 ⌝ }
-    requires { ⌜ from + length (ofWidth width 0 (now shape)) ≤ length (now cols) ⌝ }
-    ensures { λ r. ⌜ Put from (ofWidth width 0 (now (shape .entry))) (now (cols .entry)) (now (cols .exit)) r ⌝ }
+// Puts the regions of one width, in a shape that stands in work, behind those that are there.
+fn collect(work: &mut [u32], shape: usize, regions: usize, width: u32, from: usize) -> usize
+    requires { ⌜ regions < 32768 ⌝ }
+    requires { ⌜ shape + regions ≤ from ⌝ }
+    requires { ⌜ from + length (ofWidth width 0 (seg shape regions (now work))) ≤ length (now work) ⌝ }
+    ensures { λ r. ⌜ Put from (ofWidth width 0 (seg shape regions (now (work .entry)))) (now (work .entry)) (now (work .exit)) r ⌝ }
 {
     let mut n = from;
     let mut i: usize = 0;
-    while i < shape.len() {
-        if shape[i] == width {
-            cols[n] = i as u32;
+    while i < regions {
+        if work[shape + i] == width {
+            work[n] = i as u32;
             n += 1;
             i += 1;
         } else {
@@ -49,22 +52,26 @@ pub struct Form {
     pub count: usize,
 }
 
-// The regions of a shape's columns, wider first: three passes by width.
-pub fn columns(shape: &[u32], cols: &mut [u32]) -> Form
-    requires { ⌜ length (now shape) < 32768 ⌝ }
-    requires { ⌜ length (now shape) ≤ length (now cols) ⌝ }
-    ensures { λ r. ⌜ Formed (now (shape .entry)) (now (cols .entry)) (now (cols .exit)) (r .word) (r .count) ⌝ }
+// The regions of a shape's columns, wider first: three passes by width. The shape stands in work, and the columns come behind it.
+pub fn columns(work: &mut [u32], shape: usize, regions: usize, cols: usize) -> Form
+    requires { ⌜ regions < 32768 ⌝ }
+    requires { ⌜ shape + regions ≤ cols ⌝ }
+    requires { ⌜ cols + regions ≤ length (now work) ⌝ }
+    ensures { λ r. ⌜ FormedIn shape regions cols (now (work .entry)) (now (work .exit)) (r .word) (r .count) ⌝ }
 {
-    let fours = collect(shape, 4, cols, 0);
-    let twos = collect(shape, 2, cols, fours);
-    let count = collect(shape, 1, cols, twos);
-    if 0 < fours {
+    let fours = collect(work, shape, regions, 4, cols);
+    let twos = collect(work, shape, regions, 2, fours);
+    let end = collect(work, shape, regions, 1, twos);
+    if cols < fours {
         return Form {
-            word: fours + 0x8000,
-            count,
+            word: fours - cols + 0x8000,
+            count: end - cols,
         };
     }
-    Form { word: twos, count }
+    Form {
+        word: twos - cols,
+        count: end - cols,
+    }
 }
 
 // How many regions have one width.
@@ -103,36 +110,31 @@ pub fn form_alone(shape: &[u32]) -> Form
     Form { word: twos, count }
 }
 
-pub fn clear_places(places: &mut [u32])
-    ensures { λ _. ⌜ now (places .exit) ≡ replicate (length (now (places .entry))) 0 ⌝ }
-{
-    let mut i: usize = 0;
-    while i < places.len() {
-        places[i] = 0;
-        i += 1;
-    }
-}
-
-fn mark(cols: &[u32], places: &mut [u32])
-    requires { ⌜ length (now cols) < 65536 ⌝ }
-    requires { ⌜ columnsOk (length (now places)) (now cols) ≡ true ⌝ }
-    requires { ⌜ now places ≡ replicate (length (now places)) 0 ⌝ }
-    ensures { λ _. ⌜ Placed (now (cols .entry)) (now (places .exit)) ⌝ }
+// Writes n columns, which stand in work, into the table of so many regions behind them.
+fn mark(work: &mut [u32], cols: usize, n: usize, places: usize, regions: usize)
+    requires { ⌜ n < 65536 ⌝ }
+    requires { ⌜ cols + n ≤ places ⌝ }
+    requires { ⌜ places + regions ≤ length (now work) ⌝ }
+    requires { ⌜ columnsOk regions (seg cols n (now work)) ≡ true ⌝ }
+    requires { ⌜ seg places regions (now work) ≡ replicate regions 0 ⌝ }
+    ensures { λ _. ⌜ PlacedIn cols n places regions (now (work .entry)) (now (work .exit)) ⌝ }
 {
     let mut j: usize = 0;
-    while j < cols.len() {
-        let region = cols[j] as usize;
+    while j < n {
+        let region = work[cols + j] as usize;
         j += 1;
-        places[region] = j as u32;
+        work[places + region] = j as u32;
     }
 }
 
-// The table by which columns are looked up.
-pub fn place(cols: &[u32], places: &mut [u32])
-    requires { ⌜ length (now cols) < 65536 ⌝ }
-    requires { ⌜ columnsOk (length (now places)) (now cols) ≡ true ⌝ }
-    ensures { λ _. ⌜ Placed (now (cols .entry)) (now (places .exit)) ⌝ }
+// The table by which n columns are looked up. They stand in work, and it comes behind them.
+pub fn place(work: &mut [u32], cols: usize, n: usize, places: usize, regions: usize)
+    requires { ⌜ n < 65536 ⌝ }
+    requires { ⌜ cols + n ≤ places ⌝ }
+    requires { ⌜ places + regions ≤ length (now work) ⌝ }
+    requires { ⌜ columnsOk regions (seg cols n (now work)) ≡ true ⌝ }
+    ensures { λ _. ⌜ PlacedIn cols n places regions (now (work .entry)) (now (work .exit)) ⌝ }
 {
-    clear_places(places);
-    mark(cols, places);
+    zero_part(work, places, regions);
+    mark(work, cols, n, places, regions);
 }

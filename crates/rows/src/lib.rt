@@ -6,7 +6,6 @@ mod runs;
 
 pub use bytes::put;
 pub use column::Form;
-pub use column::clear_places;
 pub use column::column_of;
 pub use column::columns;
 pub use column::form_alone;

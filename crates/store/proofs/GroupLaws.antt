@@ -1,27 +1,29 @@
 -- Laws of the groups' subtables in lent words. Assumes nothing.
-use mathlib.Core.Path.{_≡_, refl, ap, _∙_}
+use mathlib.Core.Path.{_≡_, refl, sym, ap, _∙_}
 use mathlib.Core.Bool.{true}
-use mathlib.Core.List.{List, _++_}
-use Prim.Native.Nat.{ℕ, suc, _+_, _-_, _≤_, _<_}
+use mathlib.Core.List.{List, [], _∷_, _++_}
+use Prim.Native.Nat.{ℕ, suc, _+_, _-_, _*_, _≤_, _<_}
 use native.Mathlib.Numerals.{add-one}
 use native.Mathlib.Omega.{arith}
 use lib.ListN.{length, take, drop, length-append}
-use lib.Seq.{take-at}
 use Rattle.laws.specs.Bounded.{tabulate}
-use Rattle.laws.specs.LentRange.{seg}
+use Rattle.laws.specs.LentRange.{Only, seg}
 use Rattle.laws.specs.Joining.{joinAll}
 use Rattle.laws.proofs.BoundedLaws.{tabulate-same}
+use Rattle.laws.proofs.RangeLaws.{length-seg, only-seg, only-trans, only-widen}
 use Rattle.shapes.specs.Shape.{Shape}
 use Rattle.reader.specs.Store.{columnsOk}
 use Rattle.rows.specs.Columns.{columnsOf, wordCount}
 use Rattle.rows.specs.Row.{Set}
 use Rattle.rows.specs.Subtable.{runCount}
-use Rattle.rows.specs.Lent.{Put, Formed, tableBytes, runAt, runsBytes}
+use Rattle.rows.specs.Lent.{FormedIn, Placed, PlacedIn, Put, tableBytes, runAt, runsBytes}
 use Rattle.store.specs.Lent.{chain, subtableOf}
 use Rattle.reader.proofs.StoreLaws.{ok-intro, ok-below, ok-once}
 use Rattle.rows.proofs.ColumnsLaws.{columns-ok, word-below}
 use Rattle.rows.proofs.CollectLaws.{columns-count, columns-most}
-use Rattle.rows.proofs.PutLaws.{Putting, put-start, put-more, put-done}
+use Rattle.rows.proofs.PutLaws.{Putting, put-start, put-more, put-done, put-only, put-seg}
+use Rattle.rows.proofs.InWork.{take-only}
+use Rattle.limits.specs.Limits.{maxRegions}
 use Rattle.store.proofs.TableLaws.{table-is}
 
 -- ---- one group
@@ -29,31 +31,71 @@ use Rattle.store.proofs.TableLaws.{table-is}
 pub ok-more : (n m : ℕ) (l : List ℕ) → columnsOk n l ≡ true → n ≤ m → columnsOk m l ≡ true
 ok-more n m l ok h = ok-intro m l (λ k b. omega (arith, ok-below n l ok k b)) (λ i j p b. ok-once n l ok i j p b)
 
-module _ (s : Shape) (old new : List ℕ) (word count : ℕ) (f : Formed s old new word count) where
-  pub formed-take : take count new ≡ columnsOf s
-  formed-take = rw (f .is, f .count-is) (take-at (columnsOf s) (drop (length (columnsOf s)) old) (length (columnsOf s)) refl)
+-- a group's columns and their places were laid into the last two of the four tables from `scratch` on
+module _ (shape regions scratch : ℕ) (old : List ℕ) (few : regions ≤ maxRegions) (to : shape + regions ≤ scratch) (room : scratch + 4 * regions ≤ length old) where
+  abbrev cols : ℕ
+  cols = scratch + regions + regions
 
-  pub formed-few : count ≤ length s
-  formed-few = omega (arith, f .count-is, columns-count s, columns-most s)
+  abbrev shape-of : Shape
+  shape-of = seg shape regions old
 
-  pub formed-room : count ≤ length new
-  formed-room = omega (arith, f .count-is, ap length (f .is), length-append (columnsOf s) (drop (length (columnsOf s)) old))
+  shape-long : length shape-of ≡ regions
+  shape-long = length-seg shape regions old (omega arith)
 
-  pub formed-long : count ≡ length (take count new)
-  formed-long = rw formed-take (f .count-is)
+  module _ (mid : List ℕ) (word count : ℕ) (f : FormedIn shape regions cols old mid word count) where
+    pub laid-few : count ≤ regions
+    laid-few = omega (arith, f .count-is, columns-count shape-of, columns-most shape-of, shape-long)
 
-  pub formed-ok : (n : ℕ) → length s ≤ n → columnsOk n (take count new) ≡ true
-  formed-ok n h = rw formed-take (ok-more (length s) n (columnsOf s) (columns-ok s) h)
+    pub laid-word : word < 65536
+    laid-word = omega (arith, f .word-is, word-below shape-of (omega (arith, shape-long)))
 
-  pub formed-word : length s < 32768 → word < 65536
-  formed-word h = omega (arith, f .word-is, word-below s h)
+    in-room : cols + length (columnsOf shape-of) ≤ length old
+    in-room = omega (arith, f .count-is, laid-few)
 
-  pub group-is : (number : ℕ → ℕ) (set : ℕ → Set) (xs : List ℕ) → length s < 32768
-      → runsBytes (subtableOf number set s) xs ≡ runsBytes (tableBytes number word (take count new) set) xs
-  unfolding runsBytes
-  group-is number set xs few =
-      rw (formed-take, f .word-is)
-      (ap joinAll (tabulate-same 0 (runCount (length xs)) (λ k. subtableOf number set s (runAt xs k)) (λ k. tableBytes number (wordCount s) (columnsOf s) set (runAt xs k)) (λ k p q. table-is number s set (runAt xs k) few)))
+    mid-cols : seg cols count mid ≡ columnsOf shape-of
+    mid-cols = rw (f .count-is) (put-seg cols (columnsOf shape-of) old mid (cols + count) (f .put) in-room)
+
+    mid-only : Only ((scratch + 2 * regions, 2 * regions) ∷ []) old mid
+    mid-only = only-widen (scratch + 2 * regions) (2 * regions) (omega arith) (omega (arith, f .count-is, laid-few)) (put-only cols (columnsOf shape-of) old mid (cols + count) (f .put) in-room)
+
+    pub laid-long : length mid ≡ length old
+    laid-long = mid-only .long
+
+    pub laid-ok : columnsOk regions (seg cols count mid) ≡ true
+    laid-ok = rw mid-cols (ok-more (length shape-of) regions (columnsOf shape-of) (columns-ok shape-of) (omega (arith, shape-long)))
+
+    module _ (new : List ℕ) (p : PlacedIn cols count (cols + regions) regions mid new) where
+      pub laid-only : Only ((scratch + 2 * regions, 2 * regions) ∷ []) old new
+      laid-only = only-trans mid-only (only-widen (scratch + 2 * regions) (2 * regions) (omega arith) (omega arith) (p .only))
+
+      cols-same : seg cols count new ≡ seg cols count mid
+      cols-same = only-seg (p .only) cols count (omega (arith, laid-few, laid-long)) (λ k a b. (record { apart = λ q. omega (arith, laid-few) }, tt))
+
+      cols-are : seg cols count new ≡ columnsOf shape-of
+      cols-are = cols-same ∙ mid-cols
+
+      pub cols-long : length (seg cols count new) ≡ count
+      cols-long = ap length cols-are ∙ sym (f .count-is)
+
+      pub cols-ok : columnsOk regions (seg cols count new) ≡ true
+      cols-ok = rw cols-same laid-ok
+
+      pub laid-placed : Placed (seg cols count new) (seg (cols + regions) regions new)
+      laid-placed = rw cols-same (p .placed)
+
+      -- what stands before the two tables is as it was
+      pub before-same : take scratch new ≡ take scratch old
+      before-same = take-only laid-only scratch (omega arith) (λ k l. (record { apart = λ q. omega arith }, tt))
+
+      pub numbers-same : seg (scratch + regions) regions new ≡ seg (scratch + regions) regions old
+      numbers-same = only-seg laid-only (scratch + regions) regions (omega arith) (λ k a b. (record { apart = λ q. omega arith }, tt))
+
+      pub group-is : (number : ℕ → ℕ) (set : ℕ → Set) (xs : List ℕ)
+          → runsBytes (subtableOf number set shape-of) xs ≡ runsBytes (tableBytes number word (seg cols count new) set) xs
+      unfolding runsBytes
+      group-is number set xs =
+          rw (cols-are, f .word-is)
+          (ap joinAll (tabulate-same 0 (runCount (length xs)) (λ k. subtableOf number set shape-of (runAt xs k)) (λ k. tableBytes number (wordCount shape-of) (columnsOf shape-of) set (runAt xs k)) (λ k a b. table-is number shape-of set (runAt xs k) (omega (arith, shape-long)))))
 
 -- ---- pieces one after another
 

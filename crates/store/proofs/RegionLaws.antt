@@ -1,22 +1,25 @@
 -- Laws of the regions that a store keeps. Assumes nothing.
-use mathlib.Core.Path.{_≡_, refl, ap, _∙_}
+use mathlib.Core.Path.{_≡_, refl, sym, ap, _∙_}
 use mathlib.Core.Bool.{Bool, true, false, not, _||_, or-true, or-false}
 use mathlib.Core.List.{List, [], _∷_, _++_}
 use mathlib.Core.Logic.{⊎-elim}
 use Prim.Native.Nat.{ℕ, _+_, _-_, _*_, _≤_, _<_}
 use native.Mathlib.Omega.{arith}
 use lib.Dec.{eqb}
-use lib.ListN.{length, getD, set, length-set, List·getD-eq-default}
-use lib.Seq.{getD-set-same, getD-set-other}
+use lib.ListN.{length, getD, set, take, length-set, List·getD-eq-default}
+use lib.Seq.{getD-set-same, getD-set-other, getD-take, length-take-le}
 use borrow.Author.Count.{below-more}
 use borrow.Author.Tests.{eq-eqb, ne-eqb}
 use Rattle.laws.specs.Bounded.{tabulate, upTo}
+use Rattle.laws.specs.LentRange.{Only, seg}
 use Rattle.laws.specs.Sorting.{keep}
 use Rattle.laws.proofs.BoundedLaws.{tabulate-snoc}
 use Rattle.laws.proofs.Cases.{same-or-not, lt-or-ge}
+use Rattle.laws.proofs.RangeLaws.{getD-seg, length-seg, only-refl, only-set, only-trans}
 use Rattle.laws.proofs.RankLaws.{rank-in, rank-out, rank-most}
 use Rattle.store.specs.Placing.{Final, names}
-use Rattle.store.specs.Lent.{finalAt, finalsAt, markedIn, Named, Marks, Numbered}
+use Rattle.store.specs.Lent.{finalAt, finalsAt, markedIn, Handed, Named, NamedIn, Marks, Numbered, NumberedIn}
+use Rattle.rows.proofs.InWork.{seg-set, seg-take, take-only}
 
 -- ---- marks of one shape
 
@@ -51,6 +54,48 @@ module _ (s old : List ℕ) (room : length s ≤ length old) where
 
   pub naming-done : (new : List ℕ) (i : ℕ) → Naming s old new i → length s ≤ i → Named s old new
   naming-done new i m h = record { long = m .long; some = λ r l d. m .some r (omega arith) d; none = m .none }
+
+-- in one slice of words
+pub record NamingIn (shape regions marks : ℕ) (old new : List ℕ) (i : ℕ) : Type 0 where
+  pub only : Only ((marks, regions) ∷ []) old new
+  pub so-far : Naming (seg shape regions old) (seg marks regions old) (seg marks regions new) i
+
+module _ (shape regions marks : ℕ) (old : List ℕ) (to : shape + regions ≤ marks) (room : marks + regions ≤ length old) where
+  shape-long : length (seg shape regions old) ≡ regions
+  shape-long = length-seg shape regions old (omega arith)
+
+  enough : length (seg shape regions old) ≤ length (seg marks regions old)
+  enough = omega (arith, shape-long, length-seg marks regions old room)
+
+  pub named-start : NamingIn shape regions marks old old 0
+  named-start = record { only = only-refl ((marks, regions) ∷ []) old; so-far = naming-start (seg shape regions old) (seg marks regions old) enough }
+
+  module _ (new : List ℕ) (i : ℕ) (m : NamingIn shape regions marks old new i) (h : i < regions) where
+    inside : i < length (seg shape regions old)
+    inside = omega (arith, shape-long)
+
+    read : getD (seg shape regions old) i 0 ≡ getD new (shape + i) 0
+    read = getD-seg shape regions old i h ∙ sym (m .only .kept (shape + i) (record { apart = λ q. omega arith }, tt))
+
+    pub named-some : (getD new (shape + i) 0 ≡ 0 → ⊥) → NamingIn shape regions marks old (set new (marks + i) 1) (i + 1)
+    named-some n = record {
+      only = only-trans (m .only) (only-set ((marks, regions) ∷ []) new (marks + i) 1 (λ o. omega (arith, o .0 .apart (omega arith))));
+      so-far =
+          rw (seg-set marks regions new i 1 (omega (arith, m .only .long)) h)
+          (naming-some (seg shape regions old) (seg marks regions old) enough (seg marks regions new) i (m .so-far) inside (λ e. n (sym read ∙ e)));
+    }
+
+    pub named-none : getD new (shape + i) 0 ≡ 0 → NamingIn shape regions marks old new (i + 1)
+    named-none e = record {
+      only = m .only;
+      so-far = naming-none (seg shape regions old) (seg marks regions old) enough (seg marks regions new) i (m .so-far) inside (read ∙ e);
+    }
+
+  pub named-done : (new : List ℕ) (i : ℕ) → NamingIn shape regions marks old new i → regions ≤ i → NamedIn shape regions marks old new
+  named-done new i m h = record {
+    only = m .only;
+    named = naming-done (seg shape regions old) (seg marks regions old) enough (seg marks regions new) i (m .so-far) (omega (arith, shape-long));
+  }
 
 -- ---- marks of all groups
 
@@ -87,6 +132,35 @@ marks-more regions groups g w old new m n =
     let e : 0 + g ≡ g = omega arith in
     let step : tabulate 0 (g + 1) f ≡ tabulate 0 g f ++ (f g ∷ []) = tabulate-snoc 0 g f ∙ ap (λ (k : ℕ). tabulate 0 g f ++ (f k ∷ [])) e in
     rw step (marks-snoc old new (tabulate 0 g f) (f g) m n)
+
+-- in one slice of words: the groups stand before the marks
+pub record MarkingIn (regions groups marks : ℕ) (old new : List ℕ) (g : ℕ) : Type 0 where
+  pub only : Only ((marks, regions) ∷ []) old new
+  pub so-far : Marks (finalsAt regions groups g (take marks old)) (seg marks regions new)
+
+module _ {regions groups marks g : ℕ} {old now : List ℕ} (room : marks ≤ length old) (m : MarkingIn regions groups marks old now g) (h : groups + 3 * g < marks) where
+  abbrev spot : ℕ
+  spot = getD now (groups + 3 * g) 0
+
+  before-same : take marks now ≡ take marks old
+  before-same = take-only (m .only) marks room (λ k l. (record { apart = λ q. omega arith }, tt))
+
+  spot-is : getD (take marks old) (groups + 3 * g) 0 ≡ spot
+  spot-is = sym (ap (λ (l : List ℕ). getD l (groups + 3 * g) 0) before-same) ∙ getD-take marks now (groups + 3 * g) 0 h
+
+  module _ (index : ℕ) (d : Handed regions index (take marks old) (groups + 3 * g)) where
+    pub spot-to : spot + regions ≤ marks
+    spot-to = omega (arith, d .shape, spot-is, length-take-le marks old room)
+
+    shape-is : finalAt regions (take marks old) (groups + 3 * g) .shape ≡ seg spot regions now
+    unfolding finalAt
+    shape-is = rw spot-is (ap (seg spot regions) (sym before-same) ∙ seg-take spot regions marks now spot-to (omega (arith, m .only .long)))
+
+    pub marking-more : (new : List ℕ) → NamedIn spot regions marks now new → MarkingIn regions groups marks old new (g + 1)
+    marking-more new n = record {
+      only = only-trans (m .only) (n .only);
+      so-far = marks-more regions groups g (take marks old) (seg marks regions now) (seg marks regions new) (m .so-far) (rw shape-is (n .named));
+    }
 
 -- ---- new numbers
 
@@ -133,3 +207,52 @@ module _ (marks : List ℕ) (regions : ℕ) (old : List ℕ) (room : regions ≤
   number-done numbers n r m h =
       let e : r ≡ regions = omega (arith, m .within) in
       record { at = λ k l. m .at k (omega arith); all = rw e at (m .all) }
+
+-- in one slice of words
+pub record NumberingIn (marks numbers regions : ℕ) (old new : List ℕ) (n r : ℕ) : Type 0 where
+  pub only : Only ((numbers, regions) ∷ []) old new
+  pub so-far : Numbering (seg marks regions old) regions (seg numbers regions old) (seg numbers regions new) n r
+
+module _ (marks numbers regions : ℕ) (old : List ℕ) (to : marks + regions ≤ numbers) (room : numbers + regions ≤ length old) where
+  numbers-long : regions ≤ length (seg numbers regions old)
+  numbers-long = omega (arith, length-seg numbers regions old room)
+
+  pub numbered-start : NumberingIn marks numbers regions old old 0 0
+  numbered-start = record { only = only-refl ((numbers, regions) ∷ []) old; so-far = number-start (seg marks regions old) regions (seg numbers regions old) numbers-long }
+
+  module _ (new : List ℕ) (n r : ℕ) (m : NumberingIn marks numbers regions old new n r) where
+    pub numbered-most : n ≤ r
+    numbered-most = number-most (seg marks regions old) regions (seg numbers regions old) numbers-long (seg numbers regions new) n r (m .so-far)
+
+    module _ (h : r < regions) where
+      -- the mark is read once the number is written
+      mark-is : getD (seg marks regions old) r 0 ≡ getD (set new (numbers + r) n) (marks + r) 0
+      mark-is =
+          getD-seg marks regions old r h
+          ∙ sym (m .only .kept (marks + r) (record { apart = λ q. omega arith }, tt))
+          ∙ sym (getD-set-other new (numbers + r) (marks + r) n 0 (omega arith))
+
+      next-only : Only ((numbers, regions) ∷ []) old (set new (numbers + r) n)
+      next-only = only-trans (m .only) (only-set ((numbers, regions) ∷ []) new (numbers + r) n (λ o. omega (arith, o .0 .apart (omega arith))))
+
+      pub numbered-in : (getD (set new (numbers + r) n) (marks + r) 0 ≡ 0 → ⊥) → NumberingIn marks numbers regions old (set new (numbers + r) n) (n + 1) (r + 1)
+      numbered-in d = record {
+        only = next-only;
+        so-far =
+            rw (seg-set numbers regions new r n (omega (arith, m .only .long)) h)
+            (number-in (seg marks regions old) regions (seg numbers regions old) numbers-long (seg numbers regions new) n r (m .so-far) h (λ e. d (sym mark-is ∙ e)));
+      }
+
+      pub numbered-out : getD (set new (numbers + r) n) (marks + r) 0 ≡ 0 → NumberingIn marks numbers regions old (set new (numbers + r) n) n (r + 1)
+      numbered-out e = record {
+        only = next-only;
+        so-far =
+            rw (seg-set numbers regions new r n (omega (arith, m .only .long)) h)
+            (number-out (seg marks regions old) regions (seg numbers regions old) numbers-long (seg numbers regions new) n r (m .so-far) h (mark-is ∙ e));
+      }
+
+  pub numbered-done : (new : List ℕ) (n r : ℕ) → NumberingIn marks numbers regions old new n r → regions ≤ r → NumberedIn marks numbers regions old new n
+  numbered-done new n r m h = record {
+    only = m .only;
+    numbered = number-done (seg marks regions old) regions (seg numbers regions old) numbers-long (seg numbers regions new) n r (m .so-far) h;
+  }

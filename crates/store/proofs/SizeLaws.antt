@@ -7,7 +7,7 @@ use Prim.Native.Nat.{ℕ, zero, suc, _+_, _-_, _*_, _/_, _≤_, _<_, min}
 use native.Mathlib.Numerals.{add-one}
 use native.Mathlib.Omega.{arith}
 use lib.Dec.{eqb}
-use lib.ListN.{length, getD, length-append, drop}
+use lib.ListN.{length, getD, length-append}
 use borrow.Author.Tests.{eq-eqb, ne-eqb}
 use Rattle.laws.specs.Bag.{weigh}
 use Rattle.laws.specs.Bytes.{bytesOf}
@@ -25,10 +25,11 @@ use Rattle.reader.specs.Store.{columnAt}
 use Rattle.rows.specs.Columns.{columnsOf, wordCount}
 use Rattle.rows.specs.Subtable.{runCount}
 use Rattle.limits.specs.Limits.{mostRecords, maxRegions}
-use Rattle.rows.specs.Lent.{Formed}
 use Rattle.store.specs.Lent.{FormOf, Handed, Summed, chain, finalAt, finalsAt, groupSizes, runSizes, tableSize, sumOf}
+use Rattle.rows.proofs.CollectLaws.{columns-count, columns-most}
+use Rattle.rows.proofs.ColumnsLaws.{word-below}
 use Rattle.rows.proofs.RunLaws.{run-none, run-some}
-use Rattle.store.proofs.GroupLaws.{left, left-step, formed-few, formed-word}
+use Rattle.store.proofs.GroupLaws.{left, left-step}
 
 pub size-none : (n row items : ℕ) → items ≡ 0 → 0 ≡ tableSize n row items
 unfolding tableSize
@@ -78,25 +79,19 @@ sized n row count bytes runs e f = record {
 
 -- ---- one group
 
-pub form-is : (regions : ℕ) (w : List ℕ) (group : ℕ) (old new : List ℕ) (word count : ℕ) → regions ≤ maxRegions → getD w group 0 + regions ≤ length w
-    → Formed (seg (getD w group 0) regions w) old new word count → FormOf (finalAt regions w group) word count
-unfolding finalAt
-form-is regions w group old new word count few inside f =
-    let s = seg (getD w group 0) regions w in
-    let l = length-seg (getD w group 0) regions w inside in
-    record {
-      word-is = f .word-is;
-      count-is = f .count-is;
-      word-below = formed-word s old new word count f (omega arith);
-      count-most = omega (arith, formed-few s old new word count f);
-    }
-
 -- by its word count and how many columns it has
 pub form-by : (regions : ℕ) (w : List ℕ) (group word count : ℕ) → regions ≤ maxRegions → getD w group 0 + regions ≤ length w
     → word ≡ wordCount (seg (getD w group 0) regions w) → count ≡ length (columnsOf (seg (getD w group 0) regions w)) → FormOf (finalAt regions w group) word count
+unfolding finalAt
 form-by regions w group word count few inside a b =
     let s = seg (getD w group 0) regions w in
-    form-is regions w group [] (columnsOf s ++ drop (length (columnsOf s)) []) word count few inside (record { word-is = a; count-is = b; is = refl })
+    let l = length-seg (getD w group 0) regions w inside in
+    record {
+      word-is = a;
+      count-is = b;
+      word-below = omega (arith, word-below s (omega arith));
+      count-most = omega (arith, columns-count s, columns-most s);
+    }
 
 pub group-sized : (regions : ℕ) (w : List ℕ) (group word count row bytes runs : ℕ)
     → getD w (group + 1) 0 + getD w (group + 2) 0 ≤ length w → FormOf (finalAt regions w group) word count → row ≡ columnAt word count

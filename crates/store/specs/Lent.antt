@@ -16,7 +16,7 @@ use Rattle.rows.specs.Row.{Set}
 use Rattle.laws.specs.Bounded.{tabulate, upTo}
 use Rattle.shapes.specs.Shape.{Shape}
 use Rattle.shapes.specs.Group.{maxItems}
-use Rattle.laws.specs.LentRange.{seg}
+use Rattle.laws.specs.LentRange.{Only, seg}
 use Rattle.laws.specs.Every.{All}
 use Rattle.laws.specs.Sorting.{keep}
 use Rattle.laws.specs.Joining.{joinAll}
@@ -65,6 +65,11 @@ pub record Named (s old new : List ℕ) : Type 0 where
   pub some : (r : ℕ) → r < length s → (getD s r 0 ≡ 0 → ⊥) → getD new r 0 ≡ 1
   pub none : (r : ℕ) → getD s r 0 ≡ 0 → getD new r 0 ≡ getD old r 0
 
+-- the same of a shape and of marks that stand in the words
+pub record NamedIn (shape regions marks : ℕ) (old new : List ℕ) : Type 0 where
+  pub only : Only ((marks, regions) ∷ []) old new
+  pub named : Named (seg shape regions old) (seg marks regions old) (seg marks regions new)
+
 -- the regions that the groups name are marked, and no others
 pub record Marks (gs : List Final) (marks : List ℕ) : Type 0 where
   pub is : (r : ℕ) → markedIn marks r ≡ names r gs
@@ -73,6 +78,11 @@ pub record Marks (gs : List Final) (marks : List ℕ) : Type 0 where
 pub record Numbered (marks : List ℕ) (regions : ℕ) (numbers : List ℕ) (kept : ℕ) : Type 0 where
   pub at : (r : ℕ) → r < regions → getD numbers r 0 ≡ length (keep (markedIn marks) (upTo r))
   pub all : kept ≡ length (keep (markedIn marks) (upTo regions))
+
+-- the same of marks and of numbers that stand in the words
+pub record NumberedIn (marks numbers regions : ℕ) (old new : List ℕ) (kept : ℕ) : Type 0 where
+  pub only : Only ((numbers, regions) ∷ []) old new
+  pub numbered : Numbered (seg marks regions old) regions (seg numbers regions new) kept
 
 -- the coordinates of a region's axes, that stand in a source from a place on, as in the axis records of a job
 unfoldable pub coordsAt : List ℕ → ℕ → ℕ → List ℕ

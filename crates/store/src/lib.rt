@@ -7,7 +7,7 @@ ghost use Rattle.laws.specs.LentRange.{seg};
 ghost use Rattle.laws.specs.Every.{All};
 ghost use Rattle.limits.specs.Limits.{maxItems};
 ghost use Rattle.store.specs.Placing.{inRun, stored};
-ghost use Rattle.store.specs.Lent.{Named, spotOf, tableSize};
+ghost use Rattle.store.specs.Lent.{NamedIn, spotOf, tableSize};
 
 // Where the final groups stand in work: `count` of them, three words each from `groups` on (where the shape is, where the numbers of
 // the sets are, how many there are). A shape has a word for each of so many `regions`; the index of the sets starts at `index`.
@@ -24,15 +24,16 @@ pub struct Coords {
     pub starts: usize,
 }
 
-// Marks each region that has a width in the shape.
-pub fn mark_shape(shape: &[u32], marks: &mut [u32])
-    requires { ⌜ length (now shape) ≤ length (now marks) ⌝ }
-    ensures { λ _. ⌜ Named (now (shape .entry)) (now (marks .entry)) (now (marks .exit)) ⌝ }
+// Marks each region that has a width in a shape. The shape stands in work, and the marks behind it.
+pub fn mark_shape(work: &mut [u32], shape: usize, regions: usize, marks: usize)
+    requires { ⌜ shape + regions ≤ marks ⌝ }
+    requires { ⌜ marks + regions ≤ length (now work) ⌝ }
+    ensures { λ _. ⌜ NamedIn shape regions marks (now (work .entry)) (now (work .exit)) ⌝ }
 {
     let mut r: usize = 0;
-    while r < shape.len() {
-        if shape[r] != 0 {
-            marks[r] = 1;
+    while r < regions {
+        if work[shape + r] != 0 {
+            work[marks + r] = 1;
             r += 1;
         } else {
             r += 1;

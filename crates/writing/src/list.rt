@@ -6,7 +6,7 @@ use store::Coords;
 ghost use mathlib.Core.Path.{_≡_};
 ghost use mathlib.Core.List.{map};
 ghost use Prim.Native.Nat.{ℕ, _+_, _*_, _≤_, _<_};
-ghost use lib.ListN.{length, getD};
+ghost use lib.ListN.{length, getD, take};
 ghost use Rattle.laws.specs.LentRange.{seg};
 ghost use Rattle.laws.specs.Bytes.{over};
 ghost use Rattle.laws.specs.Bounded.{upTo};
@@ -75,25 +75,34 @@ fn write_kept(
     p
 }
 
+// The whole list. What is read stands in work before the marks, and the marks a word a region.
 pub fn write_list(
     out: &mut [u8],
     at: usize,
     src: &[u8],
     work: &[u32],
     c: Coords,
-    marks: &[u32],
+    marks: usize,
     regions: usize,
     kept: usize,
 ) -> usize
     requires { ⌜ c .axes < 65536 ⌝ }
     requires { ⌜ kept < 65536 ⌝ }
-    requires { ⌜ regions ≤ length (now marks) ⌝ }
-    requires { ⌜ c .starts + regions ≤ length (now work) ⌝ }
-    requires { ⌜ ((r : ℕ) → r < regions → Sourced (c .axes) (now src) (getD (now work) (c .starts + r) 0)) ⌝ }
-    requires { ⌜ at + length (listBytes (c .axes) kept (keptBytes (now src) (c .axes) (now work) (c .starts) (keep (markedIn (now marks)) (upTo regions)))) ≤ length (now out) ⌝ }
-    ensures { λ r. ⌜ Put at (listBytes (c .axes) kept (keptBytes (now (src .entry)) (c .axes) (now (work .entry)) (c .starts) (keep (markedIn (now (marks .entry))) (upTo regions)))) (now (out .entry)) (now (out .exit)) r ⌝ }
+    requires { ⌜ marks + regions ≤ length (now work) ⌝ }
+    requires { ⌜ c .starts + regions ≤ marks ⌝ }
+    requires { ⌜ ((r : ℕ) → r < regions → Sourced (c .axes) (now src) (getD (take marks (now work)) (c .starts + r) 0)) ⌝ }
+    requires { ⌜ at + length (listBytes (c .axes) kept (keptBytes (now src) (c .axes) (take marks (now work)) (c .starts) (keep (markedIn (seg marks regions (now work))) (upTo regions)))) ≤ length (now out) ⌝ }
+    ensures { λ r. ⌜ Put at (listBytes (c .axes) kept (keptBytes (now (src .entry)) (c .axes) (take marks (now (work .entry))) (c .starts) (keep (markedIn (seg marks regions (now (work .entry)))) (upTo regions)))) (now (out .entry)) (now (out .exit)) r ⌝ }
 {
     put(out, at, 2, c.axes as u32);
     put(out, at + 2, 2, kept as u32);
-    write_kept(out, at + 4, src, work, c, marks, regions)
+    write_kept(
+        out,
+        at + 4,
+        src,
+        &work[..marks],
+        c,
+        &work[marks..marks + regions],
+        regions,
+    )
 }

@@ -1,4 +1,4 @@
-use Rattle.arranging.proofs.NoneLaws.{none-fit, none-done}
+use Rattle.arranging.proofs.NoneLaws.{none-fit, none-room, none-done}
 use native.Mathlib.Omega.{arith}
 use borrow.Author.Needs.{needs}
 use Rattle.closing.proofs.closing.finish_none.Statement.{statement}
@@ -18,7 +18,7 @@ null-packing-requires : tie.Need-null-packing-requires
 null-packing-requires c κs = search needs
 
 finish-requires : tie.Need-finish-requires
-finish-requires c κs = none-fit _ _ (c .before .before .before .before .before .null-packing .ensures) _ (c .before .before .before .before .before .before .before .before .before .before .before .before .before .pre)
+finish-requires c κs = (none-fit _ _ (c .before .before .before .before .before .null-packing .ensures) _ (c .before .before .before .before .before .before .before .before .before .before .before .before .before .pre), none-room _ _ (c .before .before .before .before .before .null-packing .ensures))
 
 same-length : tie.Need-same-length
 same-length c = search needs

@@ -63,7 +63,8 @@ returns-3 c = λ axes mode o mid r j. arranged-wide (c .before .before .before .
 finish-requires : tie.Need-finish-requires
 finish-requires c κs =
     let q = c .before .before .before .before .before .before .before .before .before .before .before .before .before .before .before .before .before .before .before .before .before .before .before .before .before .before .pre in
-    c .before .before .before .before .before .before .before .before .before .before .before .before .before .arrange .ensures (q .axes) (q .mode) (now (c .before .before .before .before .before .before .before .before .before .before .before .before .before .before .before .before .before .before .before .before .before .before .before .before .before .before .args .job)) (q .outcome) (q .mid) (q .read) (q .joined) .fit
+    let a = c .before .before .before .before .before .before .before .before .before .before .before .before .before .arrange .ensures (q .axes) (q .mode) (now (c .before .before .before .before .before .before .before .before .before .before .before .before .before .before .before .before .before .before .before .before .before .before .before .before .before .before .args .job)) (q .outcome) (q .mid) (q .read) (q .joined) in
+    (a .fit, a .room)
 
 same-length-7 : tie.Need-same-length-7
 same-length-7 c = search needs

@@ -1,3 +1,4 @@
+use Rattle.arranging.proofs.NoneLaws.{none-fits, none-room, none-foretold}
 use Rattle.arranging.proofs.NoneLaws.{none-fits, none-foretold}
 use native.Mathlib.Omega.{arith}
 use borrow.Author.Needs.{needs}
@@ -18,10 +19,10 @@ null-packing-requires : tie.Need-null-packing-requires
 null-packing-requires c κs = search needs
 
 foretell-requires : tie.Need-foretell-requires
-foretell-requires c κs = none-fits _ _ (c .null-packing .ensures) (c .before .before .pre)
+foretell-requires c κs = let f = none-fits _ _ (c .null-packing .ensures) (c .before .before .pre) in (f .0, (f .1, none-room _ _ (c .null-packing .ensures)))
 
 returns : tie.Need-returns
-returns c = none-foretold _ _ (c .before .null-packing .ensures) (c .before .before .before .pre) _ (c .foretell .ensures)
+returns c = none-foretold _ _ (c .before .before .null-packing .ensures) (c .before .before .before .before .pre) _ (c .before .foretell .ensures)
 
 pub foretell-none-spec : {M : Type 1} → statement M
 foretell-none-spec =

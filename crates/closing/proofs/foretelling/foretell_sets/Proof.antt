@@ -39,13 +39,13 @@ foretell-requires c κs =
     let q = c .before .before .before .before .before .before .before .before .before .before .pre in
     let f = q .fits in
     let a = c .before .before .before .arrange .ensures (f .axes) (f .mode) (q .job) (f .outcome) (f .mid) (f .read) (f .joined) in
-    (arranged-few a, words-fit (a .fit))
+    (arranged-few a, (words-fit (a .fit), a .room))
 
 same-length : tie.Need-same-length
 same-length c = search needs
 
 returns-3 : tie.Need-returns-3
-returns-3 c = λ axes mode job o mid r j. arranged-told (c .before .before .before .before .arrange .ensures axes mode job o mid r j) _ (c .foretell .ensures)
+returns-3 c = λ axes mode job o mid r j. arranged-told (c .before .before .before .before .before .before .arrange .ensures axes mode job o mid r j) _ (c .before .before .foretell .ensures)
 
 pub foretell-sets-spec : {M : Type 1} → statement M
 foretell-sets-spec =

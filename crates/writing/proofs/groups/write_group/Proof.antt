@@ -1,75 +1,72 @@
-use mathlib.Core.Path.{_≡_, sym, ap, _∙_}
+use mathlib.Core.Path.{_≡_, ap}
+use Prim.Native.Nat.{_+_, _*_}
 use denote.Ref.{now}
 use lib.ListN.{length}
-use Rattle.laws.specs.LentRange.{seg}
-use Rattle.rows.specs.Lent.{numberIn, setAt}
-use Rattle.store.proofs.GroupLaws.{formed-few, formed-room, formed-long, formed-ok, formed-word, group-is}
+use Rattle.store.proofs.GroupLaws.{cols-ok, laid-few, laid-long, laid-ok, laid-only, laid-placed, laid-word}
+use Rattle.writing.proofs.LaidLaws.{laid-bytes, laid-sets}
 use native.Mathlib.Omega.{arith}
 use borrow.Author.Needs.{needs}
-use Rattle.limits.specs.Limits.{maxRegions}
 use Rattle.writing.proofs.groups.write_group.Statement.{statement}
 use Rattle.writing.proofs.groups.write_group.Tie as tie
 use Rattle.writing.proofs.groups.write_group.Reads as reads
 use Rattle.writing.proofs.groups.write_group.Lts as lts
 use Rattle.rows.proofs.columns.Reads as columns-reads
 use Rattle.rows.proofs.place.Reads as place-reads
-use Rattle.subtables.proofs.write_runs.Reads as write-runs-reads
+use Rattle.writing.proofs.groups.write_laid.Reads as write-laid-reads
 
-slice-aggregate-columns : tie.Need-slice-aggregate-columns
-slice-aggregate-columns c = search needs
+add-cols : tie.Need-add-cols
+add-cols c = omega (arith, c .before .before .pre .1 .0)
+
+add-cols-2 : tie.Need-add-cols-2
+add-cols-2 c = omega (arith, c .before .before .pre .1 .0)
 
 columns-requires : tie.Need-columns-requires
-columns-requires c κs = search needs
+columns-requires c κs = let q = c .before .before .before .pre in (omega (arith, q .0), (omega (arith, q .1 .1 .0), omega (arith, q .1 .0)))
 
-array-share-prefix-cols : tie.Need-array-share-prefix-cols
-array-share-prefix-cols c = formed-room _ _ _ _ _ (c .before .columns .ensures)
-
-slice-aggregate-place : tie.Need-slice-aggregate-place
-slice-aggregate-place c = formed-long _ _ _ _ _ (c .before .before .columns .ensures)
-
-slice-aggregate-place-2 : tie.Need-slice-aggregate-place-2
-slice-aggregate-place-2 c = search needs
+add-place : tie.Need-add-place
+add-place c = omega (arith, c .before .before .before .before .before .before .before .pre .1 .0)
 
 place-requires : tie.Need-place-requires
-place-requires c κs = (omega (arith, formed-long _ _ _ _ _ (c .before .before .before .columns .ensures), formed-few _ _ _ _ _ (c .before .before .before .columns .ensures), c .before .before .before .before .before .before .before .before .before .pre .0), formed-ok _ _ _ _ _ (c .before .before .before .columns .ensures) maxRegions (c .before .before .before .before .before .before .before .before .before .pre .0))
+place-requires c κs =
+    let q = c .before .before .before .before .before .before .before .pre in
+    let f = c .before .before .before .columns .ensures in
+    let few = laid-few _ _ _ _ (q .0) (q .1 .1 .0) (q .1 .0) _ _ _ f in
+    (omega (arith, q .0), (omega arith, (omega (arith, q .1 .0, laid-long _ _ _ _ (q .0) (q .1 .1 .0) (q .1 .0) _ _ _ f), laid-ok _ _ _ _ (q .0) (q .1 .1 .0) (q .1 .0) _ _ _ f)))
 
-array-share-prefix-cols-2 : tie.Need-array-share-prefix-cols-2
-array-share-prefix-cols-2 c = formed-room _ _ _ _ _ (c .before .before .before .before .before .before .columns .ensures)
-
-slice-aggregate-write-runs : tie.Need-slice-aggregate-write-runs
-slice-aggregate-write-runs c = formed-long _ _ _ _ _ (c .before .before .before .before .before .before .before .columns .ensures)
-
-slice-aggregate-write-runs-2 : tie.Need-slice-aggregate-write-runs-2
-slice-aggregate-write-runs-2 c = search needs
-
-write-runs-requires : tie.Need-write-runs-requires
-write-runs-requires c κs =
-    let a = c .before .before .before .before .before .before .before .before .before .before .before .before .before .before .args in
+write-laid-requires : tie.Need-write-laid-requires
+write-laid-requires c κs =
+    let a = c .before .before .before .before .before .before .before .before .before .before .before .before .args in
+    let q = c .before .before .before .before .before .before .before .before .before .before .before .before .pre in
     let f = c .before .before .before .before .before .before .before .before .columns .ensures in
-    (formed-word _ _ _ _ _ f (omega (arith, c .before .before .before .before .before .before .before .before .before .before .before .before .before .before .pre .0)), (omega (arith, formed-long _ _ _ _ _ f, formed-few _ _ _ _ _ f, c .before .before .before .before .before .before .before .before .before .before .before .before .before .before .pre .0), (c .before .before .before .before .place .ensures, (formed-ok _ _ _ _ _ f (length (now (a .numbers))) (c .before .before .before .before .before .before .before .before .before .before .before .before .before .before .pre .1 .0), (c .before .before .before .before .before .before .before .before .before .before .before .before .before .before .pre .1 .1 .0, (c .before .before .before .before .before .before .before .before .before .before .before .before .before .before .pre .1 .1 .1 .0, (c .before .before .before .before .before .before .before .before .before .before .before .before .before .before .pre .1 .1 .1 .1 .0, rw (← group-is _ _ _ _ _ f (numberIn (now (a .numbers))) (setAt (a .sets .index) (now (a .work))) (seg (a .sets .ids) (a .sets .count) (now (a .work))) (omega (arith, c .before .before .before .before .before .before .before .before .before .before .before .before .before .before .pre .0))) (c .before .before .before .before .before .before .before .before .before .before .before .before .before .before .pre .1 .1 .1 .1 .1))))))))
+    let p = c .before .before .before .before .place .ensures in
+    let bytes = laid-bytes _ _ _ _ (q .0) (q .1 .1 .0) (q .1 .0) _ _ _ f _ p (a .sets .index) (a .sets .ids) (a .sets .count) in
+    ((laid-word _ _ _ _ (q .0) (q .1 .1 .0) (q .1 .0) _ _ _ f, laid-few _ _ _ _ (q .0) (q .1 .1 .0) (q .1 .0) _ _ _ f, q .0), (omega (arith, q .1 .0, laid-only _ _ _ _ (q .0) (q .1 .1 .0) (q .1 .0) _ _ _ f _ p .long), (laid-placed _ _ _ _ (q .0) (q .1 .1 .0) (q .1 .0) _ _ _ f _ p, (cols-ok _ _ _ _ (q .0) (q .1 .1 .0) (q .1 .0) _ _ _ f _ p, (q .1 .1 .1 .0, (q .1 .1 .1 .1 .0, (laid-sets _ _ _ _ (q .0) (q .1 .1 .0) (q .1 .0) _ _ _ f _ p _ _ _ (q .1 .1 .1 .1 .1 .0), rw bytes (q .1 .1 .1 .1 .1 .1))))))))
 
 same-length : tie.Need-same-length
 same-length c = search needs
 
+same-length-2 : tie.Need-same-length-2
+same-length-2 c = search needs
+
 returns : tie.Need-returns
 returns c =
-    let a = c .before .before .before .before .before .before .before .before .before .before .before .before .before .before .before .before .before .args in
+    let a = c .before .before .before .before .before .before .before .before .before .before .before .before .before .before .before .args in
+    let q = c .before .before .before .before .before .before .before .before .before .before .before .before .before .before .before .pre in
     let f = c .before .before .before .before .before .before .before .before .before .before .before .columns .ensures in
-    rw (group-is _ _ _ _ _ f (numberIn (now (a .numbers))) (setAt (a .sets .index) (now (a .work))) (seg (a .sets .ids) (a .sets .count) (now (a .work))) (omega (arith, c .before .before .before .before .before .before .before .before .before .before .before .before .before .before .before .before .before .pre .0))) (c .before .before .write-runs .ensures)
+    let p = c .before .before .before .before .before .before .before .place .ensures in
+    let bytes = laid-bytes _ _ _ _ (q .0) (q .1 .1 .0) (q .1 .0) _ _ _ f _ p (a .sets .index) (a .sets .ids) (a .sets .count) in
+    (rw bytes at (c .before .before .write-laid .ensures), laid-only _ _ _ _ (q .0) (q .1 .1 .0) (q .1 .0) _ _ _ f _ p)
 
 pub write-group-spec : {M : Type 1} → statement M
 write-group-spec =
     tie.close
     (tie.spec
-    slice-aggregate-columns
+    add-cols
+    add-cols-2
     columns-requires
-    array-share-prefix-cols
-    slice-aggregate-place
-    slice-aggregate-place-2
+    add-place
     place-requires
-    array-share-prefix-cols-2
-    slice-aggregate-write-runs
-    slice-aggregate-write-runs-2
-    write-runs-requires
+    write-laid-requires
     same-length
+    same-length-2
     returns)

@@ -1,9 +1,8 @@
-use Prim.Native.Nat.{_+_}
+use mathlib.Core.Path.{_≡_}
+use Prim.Native.Nat.{_+_, _*_}
 use denote.Ref.{now}
-use lib.ListN.{length, getD}
-use Rattle.laws.proofs.RangeLaws.{length-seg}
-use Rattle.store.specs.Lent.{groupBytes, finalAt}
-use Rattle.store.proofs.GroupLaws.{part-seg}
+use Rattle.laws.specs.LentRange.{seg}
+use Rattle.writing.proofs.LaidLaws.{row-to, one-shape, one-ids, one-sets, one-bytes}
 use native.Mathlib.Omega.{arith}
 use borrow.Author.Needs.{needs}
 use Rattle.writing.proofs.groups.write_one.Statement.{statement}
@@ -13,92 +12,75 @@ use Rattle.writing.proofs.groups.write_one.Lts as lts
 use Rattle.writing.proofs.groups.write_group.Reads as write-group-reads
 
 mul-shape : tie.Need-mul-shape
-mul-shape c = search needs
+mul-shape c = omega (arith, c .before .before .pre .1 .0, row-to (c .before .before .args .t .regions) (c .before .before .args .t .index) (c .before .before .args .scratch) (c .before .before .args .group) (now (c .before .before .args .work)) (omega (arith, c .before .before .pre .1 .0)) (c .before .before .pre .1 .1 .0))
 
-shared-slice-read-shape : tie.Need-shared-slice-read-shape
-shared-slice-read-shape c = search needs
+slice-read-shape : tie.Need-slice-read-shape
+slice-read-shape c = omega (arith, c .before .before .before .pre .1 .0, row-to (c .before .before .before .args .t .regions) (c .before .before .before .args .t .index) (c .before .before .before .args .scratch) (c .before .before .before .args .group) (now (c .before .before .before .args .work)) (omega (arith, c .before .before .before .pre .1 .0)) (c .before .before .before .pre .1 .1 .0))
 
 cast-shape : tie.Need-cast-shape
-cast-shape c = search needs
+cast-shape c = omega (arith, c .slice-known3 .given (c .before .before .before .args .group))
 
 add-t9 : tie.Need-add-t9
-add-t9 c = search needs
+add-t9 c = omega (arith, c .before .before .before .pre .1 .0, row-to (c .before .before .before .args .t .regions) (c .before .before .before .args .t .index) (c .before .before .before .args .scratch) (c .before .before .before .args .group) (now (c .before .before .before .args .work)) (omega (arith, c .before .before .before .pre .1 .0)) (c .before .before .before .pre .1 .1 .0))
 
 mul-t12 : tie.Need-mul-t12
-mul-t12 c = search needs
+mul-t12 c = omega (arith, c .before .before .before .pre .1 .0, row-to (c .before .before .before .args .t .regions) (c .before .before .before .args .t .index) (c .before .before .before .args .scratch) (c .before .before .before .args .group) (now (c .before .before .before .args .work)) (omega (arith, c .before .before .before .pre .1 .0)) (c .before .before .before .pre .1 .1 .0))
 
-shared-slice-read-t11 : tie.Need-shared-slice-read-t11
-shared-slice-read-t11 c = search needs
+slice-read-t11 : tie.Need-slice-read-t11
+slice-read-t11 c = omega (arith, c .before .before .before .before .pre .1 .0, row-to (c .before .before .before .before .args .t .regions) (c .before .before .before .before .args .t .index) (c .before .before .before .before .args .scratch) (c .before .before .before .before .args .group) (now (c .before .before .before .before .args .work)) (omega (arith, c .before .before .before .before .pre .1 .0)) (c .before .before .before .before .pre .1 .1 .0))
 
 cast-t14 : tie.Need-cast-t14
-cast-t14 c = search needs
+cast-t14 c = omega (arith, c .before .before .slice-known2 .given (c .before .before .before .before .args .group + 1))
 
-add-write-group : tie.Need-add-write-group
-add-write-group c = search needs
+add-t15 : tie.Need-add-t15
+add-t15 c = omega (arith, c .before .before .before .before .pre .1 .0, row-to (c .before .before .before .before .args .t .regions) (c .before .before .before .before .args .t .index) (c .before .before .before .before .args .scratch) (c .before .before .before .before .args .group) (now (c .before .before .before .before .args .work)) (omega (arith, c .before .before .before .before .pre .1 .0)) (c .before .before .before .before .pre .1 .1 .0))
 
-mul-write-group : tie.Need-mul-write-group
-mul-write-group c = search needs
+mul-t16 : tie.Need-mul-t16
+mul-t16 c = omega (arith, c .before .before .before .before .pre .1 .0, row-to (c .before .before .before .before .args .t .regions) (c .before .before .before .before .args .t .index) (c .before .before .before .before .args .scratch) (c .before .before .before .before .args .group) (now (c .before .before .before .before .args .work)) (omega (arith, c .before .before .before .before .pre .1 .0)) (c .before .before .before .before .pre .1 .1 .0))
 
-shared-slice-read-write-group : tie.Need-shared-slice-read-write-group
-shared-slice-read-write-group c = search needs
+slice-read-t18 : tie.Need-slice-read-t18
+slice-read-t18 c = omega (arith, c .before .before .before .before .before .pre .1 .0, row-to (c .before .before .before .before .before .args .t .regions) (c .before .before .before .before .before .args .t .index) (c .before .before .before .before .before .args .scratch) (c .before .before .before .before .before .args .group) (now (c .before .before .before .before .before .args .work)) (omega (arith, c .before .before .before .before .before .pre .1 .0)) (c .before .before .before .before .before .pre .1 .1 .0))
 
-cast-write-group : tie.Need-cast-write-group
-cast-write-group c = search needs
-
-add-write-group-2 : tie.Need-add-write-group-2
-add-write-group-2 c = search needs
-
-mul-write-group-2 : tie.Need-mul-write-group-2
-mul-write-group-2 c = search needs
-
-sub-write-group : tie.Need-sub-write-group
-sub-write-group c = search needs
-
-part-write-group-start : tie.Need-part-write-group-start
-part-write-group-start c = search needs
-
-part-write-group-end : tie.Need-part-write-group-end
-part-write-group-end c = search needs
+cast-t19 : tie.Need-cast-t19
+cast-t19 c = omega (arith, c .before .before .slice-known3 .given (c .before .before .before .before .before .args .group + 2))
 
 write-group-requires : tie.Need-write-group-requires
-unfolding groupBytes finalAt
 write-group-requires c κs =
-    let a = c .before .before .before .before .before .before .before .before .before .args in
-    let h = c .before .before .before .before .before .before .before .before .before .pre .1 .1 .0 in
-    let s = getD (now (a .work)) (a .group) 0 in
-    let l = length-seg s (a .t .regions) (now (a .work)) (h .shape) in
-    (rw (part-seg s (a .t .regions) (now (a .work))) (omega (arith, c .before .before .before .before .before .before .before .before .before .pre .0)), (rw (part-seg s (a .t .regions) (now (a .work))) (omega (arith, c .before .before .before .before .before .before .before .before .before .pre .1 .0)), (omega (arith, c .before .before .before .shared-slice-known5 .given (a .group + 2)), (h .ids, (h .sets, rw (part-seg s (a .t .regions) (now (a .work))) (c .before .before .before .before .before .before .before .before .before .pre .1 .1 .1))))))
+    let a = c .before .before .before .before .before .before .before .args in
+    let q = c .before .before .before .before .before .before .before .pre in
+    let w = now (a .work) in
+    let h = q .1 .1 .0 in
+    (q .0, (q .1 .0, (one-shape (a .t .regions) (a .t .index) (a .scratch) (a .group) w (omega (arith, q .1 .0)) h, (omega (arith, c .before .before .before .before .slice-known3 .given (a .group + 2)), (one-ids (a .t .regions) (a .t .index) (a .scratch) (a .group) w (omega (arith, q .1 .0)) h, (one-sets (a .t .regions) (a .t .index) (a .scratch) (a .group) w (omega (arith, q .1 .0)) h, rw (← one-bytes (a .t .regions) (a .t .index) (a .scratch) (a .group) w (omega (arith, q .1 .0)) h (seg (a .scratch + a .t .regions) (a .t .regions) w)) (q .1 .1 .1)))))))
 
 same-length : tie.Need-same-length
 same-length c = search needs
 
+same-length-2 : tie.Need-same-length-2
+same-length-2 c = search needs
+
 returns : tie.Need-returns
-unfolding groupBytes finalAt
 returns c =
     let a = c .before .before .before .before .before .before .before .before .before .before .before .before .args in
-    let s = getD (now (a .work)) (a .group) 0 in
-    rw (part-seg s (a .t .regions) (now (a .work))) at (c .before .before .write-group .ensures)
+    let q = c .before .before .before .before .before .before .before .before .before .before .before .before .pre in
+    let w = now (a .work) in
+    (rw (one-bytes (a .t .regions) (a .t .index) (a .scratch) (a .group) w (omega (arith, q .1 .0)) (q .1 .1 .0) (seg (a .scratch + a .t .regions) (a .t .regions) w)) (c .before .before .before .before .write-group .ensures .0), c .before .before .before .before .write-group .ensures .1)
 
 pub write-one-spec : {M : Type 1} → statement M
 write-one-spec =
     tie.close
     (tie.spec
     mul-shape
-    shared-slice-read-shape
+    slice-read-shape
     cast-shape
     add-t9
     mul-t12
-    shared-slice-read-t11
+    slice-read-t11
     cast-t14
-    add-write-group
-    mul-write-group
-    shared-slice-read-write-group
-    cast-write-group
-    add-write-group-2
-    mul-write-group-2
-    sub-write-group
-    part-write-group-start
-    part-write-group-end
+    add-t15
+    mul-t16
+    slice-read-t18
+    cast-t19
     write-group-requires
     same-length
+    same-length-2
     returns)
