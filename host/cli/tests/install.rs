@@ -128,13 +128,33 @@ fn without_the_prover() {
             .arg(no_rt.join("rt")),
     );
     let path = format!("{}:{}", no_rt.display(), std::env::var("PATH").unwrap());
-    let value = said(
-        Command::new(env!("CARGO"))
-            .args(["run", "--quiet", "-p", "ivs", "--example", "value"])
-            .current_dir(root().join("host"))
-            .env("PATH", path)
-            .env("IVS_LIB", &unpacked)
-            .env("CARGO_TARGET_DIR", folder.join("target")),
-    );
+    let mut example = example(&folder, &unpacked);
+    let value = said(example.env("PATH", path));
+    assert_eq!(value, "set 1, light: -300\n");
+}
+
+/// The command that builds `host/ivs` with a library that was made before, and runs an example.
+fn example(folder: &Path, library: &Path) -> Command {
+    let mut command = Command::new(env!("CARGO"));
+    command
+        .args(["run", "--quiet", "-p", "ivs", "--example", "value"])
+        .current_dir(root().join("host"))
+        .env("IVS_LIB", library)
+        .env("CARGO_TARGET_DIR", folder.join("target"));
+    command
+}
+
+/// Rattle's own archive, where it is for another machine than this: it runs under the kit's
+/// emulator.
+#[test]
+fn emulated_where_there_is_no_other() {
+    let archive = root().join("target/staticlib/libivs.a");
+    if cfg!(target_arch = "x86_64") || !archive.is_file() {
+        return;
+    }
+    let folder = folder("emulated");
+    let mut install = Command::new(root().join("tools/install"));
+    said(install.arg(folder.join("lib")).arg(archive));
+    let value = said(&mut example(&folder, &folder.join("lib")));
     assert_eq!(value, "set 1, light: -300\n");
 }
