@@ -1,5 +1,6 @@
-// The shape of a set: the width of its value at each region, walked densely from region 0 up.
+// The shape of a set: the width of its value at each region that it names, and none at all others.
 use laws::wide;
+use laws::zero_part;
 use shapes::ColumnBits;
 ghost use mathlib.Core.Path.{_≡_};
 ghost use Prim.Native.Nat.{_+_, _*_, _<_, _≤_};
@@ -7,19 +8,7 @@ ghost use lib.ListN.{length, getD};
 ghost use Rattle.laws.specs.Signed.{value};
 ghost use Rattle.shapes.specs.Width.{widthOf, costOf};
 ghost use Rattle.sets.specs.Lent.{Stored, entriesAt, countOf};
-ghost use Rattle.shaping.specs.Lent.{ShapedAt};
-ghost use Rattle.shaping.specs.Lent.{namesAt, EntriesFit, ShapedFrom};
-
-// Whether the j-th of m entries from index `from` on names region k.
-fn names(work: &[u32], from: usize, m: usize, j: usize, k: usize) -> bool
-    requires { ⌜ from + 2 * m ≤ length (now work) ⌝ }
-    ensures { λ r. ⌜ r ≡ namesAt (now (work .entry)) from m j k ⌝ }
-{
-    if m <= j {
-        return false;
-    }
-    wide(work[from + 2 * j]) == k
-}
+ghost use Rattle.shaping.specs.Lent.{FillFit, EntriesFit, ShapedFrom, ShapedAt};
 
 // The cost of the width of the value whose word is at p.
 fn width_at(work: &[u32], p: usize) -> u32
@@ -30,23 +19,31 @@ fn width_at(work: &[u32], p: usize) -> u32
     bits.cost()
 }
 
-// The widths of m entries from index `from` on, into the words from `at` on, one for each region.
+// The widths of m entries from index `from` on, into those words from `at` on whose regions they name, where all are 0. They are walked from
+// the last to the first: what is left is then a list's end.
+fn fill(work: &mut [u32], from: usize, m: usize, at: usize, regions: usize)
+    requires { ⌜ FillFit (now work) from m at regions ⌝ }
+    ensures { λ _. ⌜ ShapedFrom from m at regions (now (work .entry)) (now (work .exit)) ⌝ }
+{
+    let mut j = m;
+    while 0 < j {
+        let region = wide(work[from + 2 * j - 2]);
+        if region < regions {
+            work[at + region] = width_at(work, from + 2 * j - 1);
+            j -= 1;
+        } else {
+            j -= 1;
+        }
+    }
+}
+
+// The same into words that may hold anything.
 fn widths(work: &mut [u32], from: usize, m: usize, at: usize, regions: usize)
     requires { ⌜ EntriesFit (now work) from m at regions ⌝ }
     ensures { λ _. ⌜ ShapedFrom from m at regions (now (work .entry)) (now (work .exit)) ⌝ }
 {
-    let mut j = 0;
-    let mut k = 0;
-    while k < regions {
-        if names(work, from, m, j, k) {
-            work[at + k] = width_at(work, from + 2 * j + 1);
-            j += 1;
-            k += 1;
-        } else {
-            work[at + k] = 0;
-            k += 1;
-        }
-    }
+    zero_part(work, at, regions);
+    fill(work, from, m, at, regions);
 }
 
 // Writes the shape of set x into the words from `at` on.
