@@ -1,0 +1,4 @@
+pub mod RowLaws
+pub mod HomeLaws
+pub mod CostLaws
+pub mod ReasonLaws

@@ -1,0 +1,2 @@
+pub mod ShownTells
+pub mod WhyTells

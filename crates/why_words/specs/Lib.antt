@@ -1,0 +1,3 @@
+pub mod ShownWords
+pub mod Explained
+pub mod WhyWords
