@@ -117,7 +117,7 @@ module _ {axes : ℕ} {job w : List ℕ} {s : Stage} {m : Merged} (old : List �
 
   late-is : s .early ≡ false → outcome axes 0 job (length old) pairs ≡ recordsFrom axes 0 job job (recordCount job) 0 inAxes
   unfolding outcome
-  late-is e = none-early (earlyNo axes 0 (length job) (length old) pairs) records (p .after e .0)
+  late-is e = none-early (earlyNo axes 0 job (length old) pairs) records (p .after e .0)
 
   pub look-early : (a b : ℕ) → s .early ≡ true → Looked axes job old pairs a b None w
   look-early a b e =

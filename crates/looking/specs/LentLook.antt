@@ -31,4 +31,4 @@ pub record CloseLookFit (s : Stage) (m : Merged) (w : List ℕ) : Type 0 where
 -- the reason, and work as a build leaves it
 pub record Looked (axes : ℕ) (job work : List ℕ) (pairs first second : ℕ) (r : Reason) (work′ : List ℕ) : Type 0 where
   pub answer : r ≡ whyFrom (outcome axes 0 job (length work) pairs) first second
-  pub work-is : work′ ≡ workLeft axes 0 (length job) pairs work
+  pub work-is : work′ ≡ workLeft axes 0 job pairs work
