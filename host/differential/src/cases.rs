@@ -150,7 +150,7 @@ pub fn edges(visit: &mut dyn FnMut(&Case<'_>)) {
     show("40 sets behind 65,536", edges::behind(65_536));
     show("1,024 shapes", edges::shapes(1_024));
     show("1,025 shapes", edges::shapes(1_025));
-    show("257 regions", edges::regions(257));
+    show("258 regions", edges::regions(258));
     show("32,767 regions", edges::regions(32_767));
     show("32,768 regions", edges::regions(32_768));
     show("1,048,576 records", edges::most_records());

@@ -4,7 +4,7 @@
 
 use differential::proved::alike;
 use differential::{cases, Case};
-use jobs::hex;
+use jobs::{edges, hex};
 use plain::{number, Refused};
 use std::collections::BTreeMap;
 
@@ -82,6 +82,20 @@ fn high_bytes() {
     assert_eq!(answer(1, &[REGION, "0200ff010000000500000000"]), (31, 1, 2));
 }
 
+/// Sets that name regions on both sides of what one byte can number, up to the last.
+#[test]
+fn regions_of_two_bytes() {
+    for regions in [258, 32_767] {
+        let job = edges::regions(regions).to_bytes();
+        for mode in [0, 1] {
+            assert!(
+                alike(1, mode, &job).is_ok(),
+                "{regions} regions, mode {mode}"
+            );
+        }
+    }
+}
+
 /// Late and the next, or late and another: the turn goes on behind the sets.
 #[test]
 fn late_axis_records() {
@@ -134,10 +148,11 @@ fn a_region_that_lacks_an_axis() {
 #[test]
 fn several_at_once() {
     // Kind, zero byte, turn: 30, then 31, then 32 as each is mended.
-    assert_eq!(answer(1, &[END, "090700010000400040000002"]), (30, 1, 0));
-    assert_eq!(answer(1, &[END, "010700010000400040000002"]), (31, 1, 3));
-    assert_eq!(answer(1, &[END, "010700000000400040000002"]), (31, 1, 11));
-    assert_eq!(answer(1, &[END, "010700000000400040000000"]), (32, 1, 0));
+    assert_eq!(answer(1, &[END, "090700010000400040000302"]), (30, 1, 0));
+    assert_eq!(answer(1, &[END, "010700010000400040000302"]), (31, 1, 10));
+    assert_eq!(answer(1, &[END, "010700010000400040000002"]), (31, 1, 11));
+    assert_eq!(answer(1, &[END, "010700010000400040000000"]), (32, 1, 0));
+    assert_eq!(answer(1, &[END, "010000010000400040000000"]), (32, 1, 0));
     assert_eq!(answer(1, &[END, "010000000000400040000000"]), (33, 1, 0));
     // A value in a region that lacks an axis, of a region that there is not.
     assert_eq!(

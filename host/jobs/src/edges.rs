@@ -71,12 +71,11 @@ pub fn most_records() -> Job {
     job
 }
 
-/// `count` regions, and sets that name the first, the last, and those on both sides of what
-/// one byte can number; the last set names one in 50.
+/// `count` regions, at least 258, and sets that name the first, the last, and those on both
+/// sides of what one byte can number; the last set names one in 50.
 pub fn regions(count: usize) -> Job {
     let mut job = Job::one_axis(count);
-    let there = |&r: &usize| r < count;
-    let edges = || [0, 255, 256, 257, count - 1].into_iter().filter(there);
+    let edges = || [0, 255, 256, count - 1].into_iter();
     let one = |r: usize| vec![(r as u16, 300 - r as i32)];
     job.sets = edges().map(one).collect();
     job.sets
@@ -98,9 +97,11 @@ mod tests {
 
     #[test]
     fn regions_of_two_bytes() {
-        let job = regions(32_767);
-        assert_eq!(Job::parse(1, &job.to_bytes()).as_ref(), Some(&job));
-        assert_eq!(job.sets[1], [(255, 45)]);
+        for count in [258, 32_767] {
+            let job = regions(count);
+            assert_eq!(Job::parse(1, &job.to_bytes()).as_ref(), Some(&job));
+            assert_eq!(job.sets[1], [(255, 45)]);
+        }
         let over = Job::one_axis(32_768).to_bytes();
         assert_eq!(Job::parse(1, &over), None);
     }
