@@ -50,13 +50,13 @@ fn all_that_is_wrong_with_a_job() {
     assert_eq!(lines[0], "job: a job");
     assert!(lines[1].starts_with("refused: 31 NOT_ZERO at record 0 (byte 0): byte 1 is 0x03"));
     assert!(lines[2].starts_with("refused: 31 NOT_ZERO at record 0 (byte 0): byte 2 is 0x03"));
-    assert_eq!(lines.len(), 1 + 11 + 6 + 1 + 1, "{out}");
+    assert_eq!(lines.len(), 1 + 11 + 5 + 1 + 1, "{out}");
     assert!(
-        lines[18].starts_with("refused: 6 UNKNOWN_REGION at record 1 (byte 12)"),
+        lines[17].starts_with("refused: 6 UNKNOWN_REGION at record 1 (byte 12)"),
         "{out}"
     );
     assert!(
-        lines[19].starts_with("refused: 31 NOT_ZERO at record 2 (byte 24): byte 11"),
+        lines[18].starts_with("refused: 31 NOT_ZERO at record 2 (byte 24): byte 11"),
         "{out}"
     );
 }

@@ -4,7 +4,7 @@
 
 use differential::proved::alike;
 use differential::{cases, Case};
-use jobs::hex;
+use jobs::{edges, hex};
 use plain::{number, Refused};
 use std::collections::BTreeMap;
 
@@ -80,6 +80,20 @@ fn high_bytes() {
     assert_eq!(answer(1, &[REGION, "010100010000400040000000"]), (32, 1, 0));
     assert_eq!(answer(1, &[REGION, "020000010000000500000000"]), (6, 1, 0));
     assert_eq!(answer(1, &[REGION, "0200ff010000000500000000"]), (31, 1, 2));
+}
+
+/// Sets that name regions on both sides of what one byte can number, up to the last.
+#[test]
+fn regions_of_two_bytes() {
+    for regions in [258, 32_767] {
+        let job = edges::regions(regions).to_bytes();
+        for mode in [0, 1] {
+            assert!(
+                alike(1, mode, &job).is_ok(),
+                "{regions} regions, mode {mode}"
+            );
+        }
+    }
 }
 
 /// Late and the next, or late and another: the turn goes on behind the sets.

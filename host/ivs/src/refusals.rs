@@ -146,7 +146,7 @@ impl Refused {
     /// ```
     pub fn head(&self) -> String {
         let (number, name) = (self.number, self.name());
-        let (record, byte) = (self.place, RECORD as u64 * self.place);
+        let (record, byte) = (self.place, self.place.saturating_mul(RECORD as u64));
         match number {
             UNKNOWN_REGION
             | REGION_TWICE
