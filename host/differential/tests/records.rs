@@ -84,7 +84,7 @@ fn high_bytes() {
 
 /// Sets that name regions on both sides of what one byte can number, up to the last.
 #[test]
-fn regions_of_two_bytes() {
+fn sets_over_two_bytes() {
     for regions in [258, 32_767] {
         let job = edges::regions(regions).to_bytes();
         for mode in [0, 1] {
