@@ -3,6 +3,8 @@ mod foretelling;
 mod glyph_map;
 mod panel_build;
 mod part;
+mod show;
+mod why_rows;
 mod width_table;
 
 pub use crate::foretelling::ivs_forecast;
@@ -10,6 +12,8 @@ pub use crate::glyph_map::ivs_read_glyph;
 pub use crate::glyph_map::ivs_write_glyphs;
 pub use crate::panel_build::ivs_build_panel;
 pub use crate::part::ivs_part;
+pub use crate::show::ivs_show;
+pub use crate::why_rows::ivs_why;
 pub use crate::width_table::ivs_read_width;
 pub use crate::width_table::ivs_write_widths;
 use packer::Profile;
