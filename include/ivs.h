@@ -159,6 +159,28 @@ uint32_t ivs_forecast(uint32_t axes, uint32_t mode, const uint8_t *job, size_t j
 uint32_t ivs_part(uint32_t axes, const uint8_t *job, size_t job_len, uint32_t first, uint32_t second, uint32_t *work,
                   size_t work_len, uint64_t *report);
 
+/* Why two ids of a job are where they are (Z1 to Z4, Z8): the job is built anew in mode 0, in all that is lent for it,
+ * which is left as ivs_build leaves it. The answer is the refusal number, 0 where there is a reason: ivs_build's own in
+ * mode 0; then 62 NO_ID, if either id is not below the number of distinct ids; then 63 OTHER_STORE, if the store that is
+ * lent is not, in length and every byte, what the build writes.
+ *
+ * The report has 16 words, and all are written: 0 the number, 1 the place and 12 the byte as for a build; 2 the reason:
+ * 1 same subtable, 2 cut apart at 65,535 rows, 3 groups never joined; and for 3: 3 and 4 what the first and the second
+ * id's final group cost, 5 what they would cost as one, 6 the gain, which is 0 or less, as two's complement of 64 bits.
+ * All other words are zero. */
+uint32_t ivs_why(uint32_t axes, const uint8_t *job, size_t job_len, const uint8_t *store, size_t store_len, uint32_t first,
+                 uint32_t second, uint32_t *work, size_t work_len, ivs_pair *pairs, size_t pairs_len, uint8_t *out,
+                 size_t out_len, uint32_t *ids, size_t ids_len, uint32_t *map, size_t map_len, uint32_t *log,
+                 size_t log_len, uint32_t *origins, size_t origins_len, uint64_t *report);
+
+/* The bytes that show an id (Z5 to Z8): where `what` is 0 the end record in the job that first gave it, else its row
+ * in the store. All else is as for ivs_why. The report's words 2 and 3 are where the part starts in the one that was
+ * asked for, and how long it is; an empty part, also a row of no bytes, is 0 and 0. */
+uint32_t ivs_show(uint32_t axes, const uint8_t *job, size_t job_len, const uint8_t *store, size_t store_len, uint32_t id,
+                  uint32_t what, uint32_t *work, size_t work_len, ivs_pair *pairs, size_t pairs_len, uint8_t *out,
+                  size_t out_len, uint32_t *ids, size_t ids_len, uint32_t *map, size_t map_len, uint32_t *log,
+                  size_t log_len, uint32_t *origins, size_t origins_len, uint64_t *report);
+
 /* The value of a region of the store's list in row `inner` of subtable `outer` (V1 to V8, H3). High half: 0 written, 1
  * no column (which means zero), else the refusal number (20 BAD_STORE, 21 NO_ROW, 22 NO_REGION); low half: the value's
  * 32 bits, 0 unless written. Any bytes may be read. */

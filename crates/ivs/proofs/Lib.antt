@@ -1,5 +1,6 @@
 pub mod Calls
 pub mod FewLaws
+pub mod AskedLaws
 pub mod PanelLaws
 pub mod FollowedLaws
 pub mod PartLaws

@@ -1,3 +1,4 @@
 pub mod Answered
+pub mod Asked
 pub mod Followed
 pub mod Reported

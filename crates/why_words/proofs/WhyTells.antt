@@ -18,7 +18,7 @@ use Rattle.reporting.specs.Answers.{refusedWords, filled}
 use Rattle.why_words.specs.declared.explained.Why.{Why}
 use Rattle.why_words.specs.declared.explained.Why.the-variants.{Refused, Same, CutApart, NeverJoined}
 use Rattle.why_words.specs.Explained.{because, explained, OutFits}
-use Rattle.why_words.specs.WhyWords.{whyNumber, gainWord, reasonWords, whyWords, whyFew, whyAt}
+use Rattle.why_words.specs.WhyWords.{whyNumber, costLimit, gainWord, reasonWords, whyWords, whyFew, whyAt}
 
 -- ---- the answer
 
@@ -59,13 +59,24 @@ module _ (b : Built) (r : Reason) (store out : List ℕ) (x y : ℕ) where
 
 -- ---- the gain
 
-pub gain-below : (a b j : ℕ) → a + b < j → j - (a + b) ≤ 18446744073709551616 → 18446744073709551615 - (j - (a + b) - 1) ≡ gainWord a b j
-unfolding gainWord
-gain-below a b j h k = rw (lt-ltb (a + b) j h) (omega arith)
+module _ (a b j : ℕ) where
+  pub gain-first : costLimit ≤ a → 0 ≡ gainWord a b j
+  unfolding gainWord
+  gain-first h = rw (le-ltb a costLimit h) refl
 
-pub gain-above : (a b j : ℕ) → j ≤ a + b → a + b - j ≡ gainWord a b j
-unfolding gainWord
-gain-above a b j h = rw (le-ltb (a + b) j h) refl
+  module _ (one : a < costLimit) where
+    pub gain-second : costLimit ≤ b → 0 ≡ gainWord a b j
+    unfolding gainWord
+    gain-second h = rw (lt-ltb a costLimit one, le-ltb b costLimit h) refl
+
+    module _ (two : b < costLimit) where
+      pub gain-below : a + b < j → j - (a + b) ≤ 18446744073709551616 → 18446744073709551615 - (j - (a + b) - 1) ≡ gainWord a b j
+      unfolding gainWord
+      gain-below h k = rw (lt-ltb a costLimit one, lt-ltb b costLimit two, lt-ltb (a + b) j h) (omega arith)
+
+      pub gain-above : j ≤ a + b → a + b - j ≡ gainWord a b j
+      unfolding gainWord
+      gain-above h = rw (lt-ltb a costLimit one, lt-ltb b costLimit two, le-ltb (a + b) j h) refl
 
 -- ---- as numbers
 
@@ -75,9 +86,6 @@ module _ (job w old : List ℕ) (y : Why) where
 
   pub number-few : (n at : ℕ) → y ≡ Refused n at → whyFew y → n < 4294967296
   number-few n at e h = subst whyFew e h
-
-  pub costs-few : (a b j : ℕ) → y ≡ NeverJoined a b j → whyFew y → a + b < 9223372036854775808
-  costs-few a b j e h = subst whyFew e h
 
   pub told-refused : (n at byte : ℕ) → y ≡ Refused n at → byte ≡ byteOf n (recordAt job at) → w ≡ filled 0 (refusedWords n at byte) old
       → (n ≡ whyNumber y) × (w ≡ filled 0 (whyWords job y) old)

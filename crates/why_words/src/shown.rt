@@ -7,7 +7,7 @@ ghost use Rattle.showing.specs.LentParts.{Within};
 ghost use Rattle.why_words.specs.ShownWords.{spanWords, shownNumber, shownWords, shownFew, shownAt};
 
 // Where a part starts, and how long it is.
-fn tell_span(report: &mut [u64; 16], at: u64, long: u64)
+pub fn tell_span(report: &mut [u64; 16], at: u64, long: u64)
     ensures { λ _. ⌜ now (report .exit) ≡ filled 0 (spanWords at long) (now (report .entry)) ⌝ }
 {
     report[0] = 0;

@@ -2,15 +2,19 @@
 use crate::explained::Why;
 use reporting::tell_refused;
 ghost use mathlib.Core.Path.{_≡_};
-ghost use Prim.Native.Nat.{_+_, _<_};
 ghost use Rattle.reporting.specs.Answers.{filled};
 ghost use Rattle.why_words.specs.WhyWords.{gainWord, reasonWords, whyNumber, whyWords, whyFew, whyAt};
 
-// What joining would gain, as two's complement of 64 bits.
+// What joining would gain, as two's complement of 64 bits; 0 of costs that no group has.
 fn gain_word(a: u64, b: u64, joined: u64) -> u64
-    requires { ⌜ a + b < 9223372036854775808 ⌝ }
     ensures { λ r. ⌜ r ≡ gainWord a b joined ⌝ }
 {
+    if 0x4000_0000_0000_0000 <= a {
+        return 0;
+    }
+    if 0x4000_0000_0000_0000 <= b {
+        return 0;
+    }
     if a + b < joined {
         return 18446744073709551615 - (joined - (a + b) - 1);
     }

@@ -1,7 +1,7 @@
 use denote.Ref.{now}
 use mathlib.Core.Path.{_≡_}
 use native.Mathlib.Omega.{arith}
-use Rattle.why_words.proofs.WhyTells.{byte-there, number-few, costs-few, told-refused, told-same, told-cut, told-apart}
+use Rattle.why_words.proofs.WhyTells.{byte-there, number-few, told-refused, told-same, told-cut, told-apart}
 use borrow.Author.Needs.{needs}
 use Rattle.why_words.proofs.told.tell_why.Statement.{statement}
 use Rattle.why_words.proofs.told.tell_why.Tie as tie
@@ -40,7 +40,7 @@ enum-known-w-2 : tie.Need-enum-known-w-2
 enum-known-w-2 c = search needs
 
 gain-word-requires : tie.Need-gain-word-requires
-gain-word-requires c κs = costs-few (now (c .before .before .before .before .before .args .job)) (now (c .before .before .before .before .before .args .job)) (now (c .before .before .before .before .before .args .job)) (c .before .before .before .before .before .args .w) _ _ _ (c .before .before .w2 .given .1) (c .before .before .before .before .before .pre .0)
+gain-word-requires c κs = search needs
 
 tell-reason-requires-3 : tie.Need-tell-reason-requires-3
 tell-reason-requires-3 c κs = search needs
