@@ -54,6 +54,8 @@ extern "C" {
     EACH(53, JOB_SHORT) \
     EACH(60, STORE_TOO_BIG) \
     EACH(61, ORIGINS_SHORT) \
+    EACH(62, NO_ID) \
+    EACH(63, OTHER_STORE) \
     EACH(64, NO_SET) \
     EACH(70, LONG_VALUE) \
     EACH(71, BAD_REGION) \

@@ -166,7 +166,15 @@ pub fn head_regions(axes: u32, job: &[u8]) -> usize {
     raw::head_regions(axes, job)
 }
 
-/// The words of work that a job needs.
+/// The words of work that a job needs: [`work_words`] of its records and [`head_regions`].
+///
+/// ```
+/// let mut writer = ivs::JobWriter::new(1);
+/// writer.region(&[(0, 0x4000, 0x4000)])?;
+/// writer.set(&[])?;
+/// assert_eq!(ivs::job_words(1, &writer.finish()), ivs::work_words(2, 1));
+/// # Ok::<(), ivs::JobError>(())
+/// ```
 pub fn job_words(axes: u32, job: &[u8]) -> usize {
     work_words(job.len() / RECORD, head_regions(axes, job))
 }

@@ -82,6 +82,8 @@ refusals! {
     53 JobShort JOB_SHORT
     60 StoreTooBig STORE_TOO_BIG
     61 OriginsShort ORIGINS_SHORT
+    62 NoId NO_ID
+    63 OtherStore OTHER_STORE
     64 NoSet NO_SET
     70 LongValue LONG_VALUE
     71 BadRegion BAD_REGION

@@ -57,7 +57,7 @@ pub(crate) const NO_SET: u32 = 64;
 pub struct Refused {
     /// The refusal number: 1 to 14, 30 to 34, 60 and 61 of a job, 70 to 72 by the panel's profile,
     /// 20 to 22 of a store, 40 to 42 of a glyph map, 43 of a width table, 50 to 53 of a store that
-    /// is recovered, 64 of a set, 73 and 74 of rows that are kept.
+    /// is recovered, 62 and 63 of a question to a build, 64 of a set, 73 and 74 of rows that are kept.
     pub number: u32,
     /// The record's index from 0 for 6, 7, 9, 30 to 34, 70 and 71; the record count for 8; else 0.
     pub place: u64,

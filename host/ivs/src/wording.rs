@@ -154,6 +154,16 @@ pub fn of(number: u32) -> (&'static str, &'static str, &'static str) {
             "the origins lent are too few",
             "lend 2 words for each shape (2,048 always do)",
         ),
+        62 => (
+            "NO_ID",
+            "the build of the job gives no such id",
+            "ask for ids below the distinct ids of the build, counted from 0",
+        ),
+        63 => (
+            "OTHER_STORE",
+            "the store is not what a build of the job writes",
+            "lend the store of this very job, built in mode 0",
+        ),
         64 => (
             "NO_SET",
             "the job has no set of that number",

@@ -67,7 +67,8 @@ fn refusals() {
         .chain(30..=34)
         .chain(40..=43)
         .chain(50..=53)
-        .chain([60, 61, 64, 73, 74])
+        .chain(60..=64)
+        .chain([73, 74])
     {
         let name = ivs::Refused::bare(number).name();
         assert!(

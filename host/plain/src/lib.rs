@@ -33,7 +33,7 @@ use groups::Group;
 pub const RECORD_LIMIT: usize = 1_048_576;
 
 /// The most regions of a job (J3).
-pub const REGION_LIMIT: usize = 256;
+pub const REGION_LIMIT: usize = 32_767;
 
 /// The pair records that every job needs (J7).
 pub const PAIRS: usize = 1_048_576;
