@@ -8,6 +8,7 @@ use crate::keep::Keep;
 use crate::manual::{Completions, Man};
 use crate::recover::Recover;
 use crate::report::Report;
+use crate::why;
 use clap::{Args, Parser, Subcommand, ValueEnum};
 use std::path::PathBuf;
 
@@ -36,6 +37,7 @@ pub enum Command {
     Read(Read),
     Show(Show),
     Part(Part),
+    Why(why::Asked),
     Explain(Explain),
     Report(Report),
     Pack(Pack),
@@ -59,6 +61,7 @@ impl Command {
             Command::Read(arguments) => arguments.json,
             Command::Show(arguments) => arguments.json,
             Command::Part(arguments) => arguments.json,
+            Command::Why(arguments) => arguments.json,
             Command::Explain(arguments) => arguments.json,
             Command::Report(arguments) => arguments.json,
             Command::Pack(arguments) => arguments.json,

@@ -39,6 +39,7 @@ mod show_job;
 mod show_store;
 mod story;
 mod text;
+mod why;
 mod widths;
 mod words;
 mod wrong;
@@ -93,6 +94,7 @@ fn run(command: &Command) -> Result<(), Failure> {
         Command::Read(arguments) => read::run(arguments),
         Command::Show(arguments) => show::run(arguments),
         Command::Part(arguments) => part::run(arguments),
+        Command::Why(arguments) => why::run(arguments),
         Command::Explain(arguments) => explain::run(arguments),
         Command::Report(arguments) => report::run(arguments),
         Command::Pack(arguments) => pack::run(arguments),

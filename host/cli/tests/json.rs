@@ -83,6 +83,7 @@ fn what_is_not_done() {
         "forecast bad",
         "show bad",
         "part bad 0 1",
+        "why bad 0 1",
         "widths bad -o hvar",
     ] {
         let (out, said) = ended(&folder, &format!("{command} --axes 1 --json"), 2);
@@ -102,6 +103,7 @@ fn what_is_not_done() {
         "pack wrong -o job",
         "show wrong",
         "part wrong 0 1",
+        "why wrong 0 1",
     ] {
         let (out, _) = ended(&folder, &format!("{command} --json"), 1);
         assert_eq!(

@@ -352,37 +352,62 @@ pub fn pack(axes: u32, mode: u32, job: &[u8]) -> Result<Packed, Refused> {
 /// # Ok::<(), Box<dyn std::error::Error>>(())
 /// ```
 pub fn pack_for(profile: Profile, axes: u32, mode: u32, job: &[u8]) -> Result<Packed, Refused> {
-    let mut work = vec![0; job_words(axes, job)];
-    let mut pairs = vec![Pair::default(); PAIRS];
-    let told = match forecast_with(axes, mode, job, &mut work, &mut pairs) {
-        Ok(told) => told,
+    let mut room = match Room::of(axes, mode, job) {
+        Ok(room) => room,
         Err(refused) => return Err(earlier(profile, axes, mode, job, refused)),
     };
-    let sets = job.chunks_exact(RECORD).filter(|r| r[0] == 3).count();
-    let mut out = vec![0; told.store_bytes as usize];
-    let (mut ids, mut map) = (vec![0; sets], vec![0; told.distinct_ids as usize]);
-    let mut log = vec![0; 3 * told.shapes.saturating_sub(1) as usize];
-    let mut origins = vec![0; 2 * told.shapes as usize];
-    let mut lent = Lent {
-        work: &mut work,
-        pairs: &mut pairs,
-        out: &mut out,
-        ids: &mut ids,
-        map: &mut map,
-        log: &mut log,
-        origins: &mut origins,
-    };
-    let done = build_into_for(profile, axes, mode, job, &mut lent)?;
-    log.truncate(3 * done.merges as usize);
+    let done = build_into_for(profile, axes, mode, job, &mut room.lent())?;
+    room.log.truncate(3 * done.merges as usize);
     Ok(Packed {
         done,
-        regions: kept::regions(axes, job, &out),
-        store: out,
-        ids,
-        map,
-        log,
-        origins,
+        regions: kept::regions(axes, job, &room.out),
+        store: room.out,
+        ids: room.ids,
+        map: room.map,
+        log: room.log,
+        origins: room.origins,
     })
+}
+
+/// Memory for a build, of which there is as much as a forecast says.
+pub(crate) struct Room {
+    work: Vec<u32>,
+    pairs: Vec<Pair>,
+    out: Vec<u8>,
+    ids: Vec<u32>,
+    map: Vec<u32>,
+    log: Vec<u32>,
+    origins: Vec<u32>,
+}
+
+impl Room {
+    pub(crate) fn of(axes: u32, mode: u32, job: &[u8]) -> Result<Room, Refused> {
+        let mut work = vec![0; job_words(axes, job)];
+        let mut pairs = vec![Pair::default(); PAIRS];
+        let told = forecast_with(axes, mode, job, &mut work, &mut pairs)?;
+        let sets = job.chunks_exact(RECORD).filter(|r| r[0] == 3).count();
+        Ok(Room {
+            work,
+            pairs,
+            out: vec![0; told.store_bytes as usize],
+            ids: vec![0; sets],
+            map: vec![0; told.distinct_ids as usize],
+            log: vec![0; 3 * told.shapes.saturating_sub(1) as usize],
+            origins: vec![0; 2 * told.shapes as usize],
+        })
+    }
+
+    pub(crate) fn lent(&mut self) -> Lent<'_> {
+        Lent {
+            work: &mut self.work,
+            pairs: &mut self.pairs,
+            out: &mut self.out,
+            ids: &mut self.ids,
+            map: &mut self.map,
+            log: &mut self.log,
+            origins: &mut self.origins,
+        }
+    }
 }
 
 /// What a job that is refused without a profile is refused by with it: the profile may not

@@ -22,6 +22,8 @@ const READ_GLYPH: u64 = 4;
 const FORECAST: u64 = 5;
 const PART: u64 = 6;
 const BUILD_PANEL: u64 = 7;
+const WHY: u64 = 8;
+const SHOW: u64 = 9;
 const WRITE_WIDTHS: u64 = 20;
 const READ_WIDTH: u64 = 21;
 const HEAD_REGIONS: u64 = 29;
@@ -33,7 +35,17 @@ const KEEP_WORDS: u64 = 34;
 const KEEP: u64 = 35;
 
 /// Those that have a report.
-const REPORTS: [u64; 7] = [BUILD, BUILD_PANEL, FORECAST, PART, RECOVER, JUDGE, KEEP];
+const REPORTS: [u64; 9] = [
+    BUILD,
+    BUILD_PANEL,
+    FORECAST,
+    PART,
+    WHY,
+    SHOW,
+    RECOVER,
+    JUDGE,
+    KEEP,
+];
 
 /// The program that answers. It leaves when its standard input ends, with this process, so
 /// nobody waits for it.
@@ -89,6 +101,44 @@ pub fn part(
     let lent = &mut lending(work, &mut [], &mut []);
     let what = [PART, axes.into(), first.into(), second.into()];
     ask(what, job, lent, report) as u32
+}
+
+pub fn why(
+    axes: u32,
+    job: &[u8],
+    store: &[u8],
+    first: u32,
+    second: u32,
+    lent: &mut Lent<'_>,
+    report: &mut [u64; 16],
+) -> u32 {
+    ask_both(WHY, axes, [job, store], [first, second], lent, report)
+}
+
+pub fn show(
+    axes: u32,
+    job: &[u8],
+    store: &[u8],
+    id: u32,
+    what: u32,
+    lent: &mut Lent<'_>,
+    report: &mut [u64; 16],
+) -> u32 {
+    ask_both(SHOW, axes, [job, store], [id, what], lent, report)
+}
+
+/// The store goes behind the job, whose length is told, and the two numbers go as one.
+fn ask_both(
+    what: u64,
+    axes: u32,
+    both: [&[u8]; 2],
+    numbers: [u32; 2],
+    lent: &mut Lent<'_>,
+    report: &mut [u64; 16],
+) -> u32 {
+    let numbers = u64::from(numbers[1]) << 32 | u64::from(numbers[0]);
+    let asked = [what, axes.into(), numbers, both[0].len() as u64];
+    ask(asked, &both.concat(), lent, report) as u32
 }
 
 pub fn read(store: &[u8], outer: u32, inner: u32, region: u32) -> u64 {

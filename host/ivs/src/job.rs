@@ -1,7 +1,7 @@
 //! A job with its axis count, so that it is said once; the mode by its name; one error.
 
-use crate::{building, forecast, judging, part};
-use crate::{Done, JobError, JobWriter, Packed, Parted, Profile, Refused, Verdict};
+use crate::{building, forecast, judging, part, why};
+use crate::{Done, JobError, JobWriter, Packed, Parted, Profile, Refused, Shows, Verdict, Why};
 use std::error;
 use std::fmt;
 
@@ -137,6 +137,34 @@ impl Job {
     /// ```
     pub fn part(&self, first: u32, second: u32) -> Result<Parted, Refused> {
         part::part(self.axes, &self.bytes, first, second)
+    }
+
+    /// Why two ids of its store are where they are: [`why`](crate::why()).
+    ///
+    /// ```
+    /// let mut writer = ivs::JobWriter::new(1);
+    /// writer.set(&[])?;
+    /// let job = writer.job();
+    /// let store = job.pack(ivs::Mode::Deduplicating)?.store;
+    /// assert_eq!(job.why(&store, 0, 0)?, ivs::Why::SameSubtable);
+    /// # Ok::<(), ivs::Error>(())
+    /// ```
+    pub fn why(&self, store: &[u8], first: u32, second: u32) -> Result<Why, Refused> {
+        why::why(self.axes, &self.bytes, store, first, second)
+    }
+
+    /// The part of it, or of its store, that shows an id: [`show`](crate::show()).
+    ///
+    /// ```
+    /// let mut writer = ivs::JobWriter::new(1);
+    /// writer.set(&[])?;
+    /// let job = writer.job();
+    /// let store = job.pack(ivs::Mode::Deduplicating)?.store;
+    /// assert_eq!(job.show(&store, 0, ivs::Shows::EndRecord)?, job.bytes());
+    /// # Ok::<(), ivs::Error>(())
+    /// ```
+    pub fn show<'a>(&'a self, store: &'a [u8], id: u32, what: Shows) -> Result<&'a [u8], Refused> {
+        why::show(self.axes, &self.bytes, store, id, what)
     }
 
     /// Whether a store gives its sets, by a row's word for each: [`judge`](crate::judge).

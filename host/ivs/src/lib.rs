@@ -7,7 +7,8 @@
 //!   [`build_report`] with the bare report.
 //! * [`pack_for`], [`build_into_for`]: the same by a [`Profile`], for a reader that takes less.
 //! * [`forecast`]: what a build would say, the store's bytes first, without building.
-//! * [`part`]: where two sets of a job part.
+//! * [`part`]: where two sets of a job part; [`why`]: why two ids are where they are, [`show`]: the
+//!   bytes that show one.
 //! * [`read`]: one value of a store, whatever its bytes are; [`Store`]: its regions, subtables
 //!   and rows.
 //! * [`recover`]: the job of a store, whoever wrote that; [`judge`]: whether a store gives the
@@ -63,6 +64,7 @@ mod recovering;
 mod refusal;
 mod refusals;
 mod store;
+mod why;
 mod widths;
 mod wording;
 mod writer;
@@ -85,6 +87,7 @@ pub use recovering::{
 pub use refusal::{numbers, Refusal};
 pub use refusals::{Refused, Short};
 pub use store::{Column, Row, Store, Subtable};
+pub use why::{show, show_report, show_with, why, why_report, why_with, Shows, Why};
 pub use widths::{read_width, set_words, write_widths, write_widths_into};
 pub use writer::{JobError, JobWriter, Tent};
 

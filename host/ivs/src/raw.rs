@@ -88,6 +88,56 @@ extern "C" {
         report: *mut u64,
     ) -> u32;
 
+    fn ivs_why(
+        axes: u32,
+        job: *const u8,
+        job_len: usize,
+        store: *const u8,
+        store_len: usize,
+        first: u32,
+        second: u32,
+        work: *mut u32,
+        work_len: usize,
+        pairs: *mut Pair,
+        pairs_len: usize,
+        out: *mut u8,
+        out_len: usize,
+        ids: *mut u32,
+        ids_len: usize,
+        map: *mut u32,
+        map_len: usize,
+        log: *mut u32,
+        log_len: usize,
+        origins: *mut u32,
+        origins_len: usize,
+        report: *mut u64,
+    ) -> u32;
+
+    fn ivs_show(
+        axes: u32,
+        job: *const u8,
+        job_len: usize,
+        store: *const u8,
+        store_len: usize,
+        id: u32,
+        what: u32,
+        work: *mut u32,
+        work_len: usize,
+        pairs: *mut Pair,
+        pairs_len: usize,
+        out: *mut u8,
+        out_len: usize,
+        ids: *mut u32,
+        ids_len: usize,
+        map: *mut u32,
+        map_len: usize,
+        log: *mut u32,
+        log_len: usize,
+        origins: *mut u32,
+        origins_len: usize,
+        report: *mut u64,
+    ) -> u32;
+
     fn ivs_read(store: *const u8, store_len: usize, outer: u32, inner: u32, region: u32) -> u64;
 
     fn ivs_write_glyphs(words: *const u32, words_len: usize, out: *mut u8, out_len: usize) -> u64;
@@ -264,6 +314,93 @@ pub fn part(
             second,
             work.as_mut_ptr(),
             work.len(),
+            report.as_mut_ptr(),
+        )
+    }
+}
+
+type Asked = unsafe extern "C" fn(
+    u32,
+    *const u8,
+    usize,
+    *const u8,
+    usize,
+    u32,
+    u32,
+    *mut u32,
+    usize,
+    *mut Pair,
+    usize,
+    *mut u8,
+    usize,
+    *mut u32,
+    usize,
+    *mut u32,
+    usize,
+    *mut u32,
+    usize,
+    *mut u32,
+    usize,
+    *mut u64,
+) -> u32;
+
+pub fn why(
+    axes: u32,
+    job: &[u8],
+    store: &[u8],
+    first: u32,
+    second: u32,
+    lent: &mut Lent<'_>,
+    report: &mut [u64; 16],
+) -> u32 {
+    asked(ivs_why, axes, [job, store], [first, second], lent, report)
+}
+
+pub fn show(
+    axes: u32,
+    job: &[u8],
+    store: &[u8],
+    id: u32,
+    what: u32,
+    lent: &mut Lent<'_>,
+    report: &mut [u64; 16],
+) -> u32 {
+    asked(ivs_show, axes, [job, store], [id, what], lent, report)
+}
+
+/// One of the two questions to a job and its store.
+fn asked(
+    call: Asked,
+    axes: u32,
+    [job, store]: [&[u8]; 2],
+    numbers: [u32; 2],
+    lent: &mut Lent<'_>,
+    report: &mut [u64; 16],
+) -> u32 {
+    // SAFETY: as for `build`; job and store are only read, so that they may overlap.
+    unsafe {
+        call(
+            axes,
+            job.as_ptr(),
+            job.len(),
+            store.as_ptr(),
+            store.len(),
+            numbers[0],
+            numbers[1],
+            lent.work.as_mut_ptr(),
+            lent.work.len(),
+            lent.pairs.as_mut_ptr(),
+            lent.pairs.len(),
+            lent.out.as_mut_ptr(),
+            lent.out.len(),
+            lent.ids.as_mut_ptr(),
+            lent.ids.len(),
+            lent.map.as_mut_ptr(),
+            lent.map.len(),
+            lent.log.as_mut_ptr(),
+            lent.log.len(),
+            lent.origins.as_mut_ptr(),
+            lent.origins.len(),
             report.as_mut_ptr(),
         )
     }

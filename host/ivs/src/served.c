@@ -9,7 +9,9 @@
  * anything. Pairs that hold nothing are zeros, and are not sent. Of a glyph map written the
  * output follows the word; its words were lent as work. So of a width table, whose store is
  * the job. A store that is recovered or cut down is the job, too; one that is judged is the
- * output. Rows and words of sets are lent as ids, places as the map. */
+ * output. Rows and words of sets are lent as ids, places as the map. Of a question to a job and
+ * its store both go as the job, one behind the other; the third number is the length of the
+ * first, the second has the question's two numbers, the lower half first. */
 typedef unsigned char u8;
 typedef unsigned int u32;
 typedef unsigned long u64;
@@ -28,6 +30,12 @@ u32 ivs_build_panel(u32 axes, u32 mode, const u8 *job, u64 job_len, u32 *work, u
 u32 ivs_forecast(u32 axes, u32 mode, const u8 *job, u64 job_len, u32 *work, u64 work_len, pair *pairs, u64 pairs_len,
                  u64 *report);
 u32 ivs_part(u32 axes, const u8 *job, u64 job_len, u32 first, u32 second, u32 *work, u64 work_len, u64 *report);
+u32 ivs_why(u32 axes, const u8 *job, u64 job_len, const u8 *store, u64 store_len, u32 first, u32 second, u32 *work,
+            u64 work_len, pair *pairs, u64 pairs_len, u8 *out, u64 out_len, u32 *ids, u64 ids_len, u32 *map,
+            u64 map_len, u32 *log, u64 log_len, u32 *origins, u64 origins_len, u64 *report);
+u32 ivs_show(u32 axes, const u8 *job, u64 job_len, const u8 *store, u64 store_len, u32 id, u32 what, u32 *work,
+             u64 work_len, pair *pairs, u64 pairs_len, u8 *out, u64 out_len, u32 *ids, u64 ids_len, u32 *map,
+             u64 map_len, u32 *log, u64 log_len, u32 *origins, u64 origins_len, u64 *report);
 u64 ivs_read(const u8 *store, u64 store_len, u32 outer, u32 inner, u32 region);
 u64 ivs_write_glyphs(const u32 *words, u64 words_len, u8 *out, u64 out_len);
 u64 ivs_read_glyph(const u8 *map, u64 map_len, u32 glyph);
@@ -111,7 +119,8 @@ static int holds(const u8 *at, u64 count) {
 #define PAIRS_ROOM (1ul << 25)
 
 /* What is asked. */
-enum { WORK_WORDS, BUILD, READ, WRITE_GLYPHS, READ_GLYPH, FORECAST, PART, BUILD_PANEL, WRITE_WIDTHS = 20, READ_WIDTH };
+enum { WORK_WORDS, BUILD, READ, WRITE_GLYPHS, READ_GLYPH, FORECAST, PART, BUILD_PANEL, WHY, SHOW };
+enum { WRITE_WIDTHS = 20, READ_WIDTH };
 enum { HEAD_REGIONS = 29, RECOVER_WORDS, RECOVER, JUDGE_WORDS, JUDGE, KEEP_WORDS, KEEP };
 
 /* The parts of a question, with the bytes of one of each. */
@@ -164,6 +173,17 @@ static u64 part(const u64 *asked, const u64 *count, u8 **at) {
                     (u64 *)at[REPORT]);
 }
 
+/* A question to a job and its store: why, or what shows an id. */
+static u64 question(const u64 *asked, const u64 *count, u8 **at) {
+    u32 (*call)(u32, const u8 *, u64, const u8 *, u64, u32, u32, u32 *, u64, pair *, u64, u8 *, u64, u32 *, u64, u32 *,
+                u64, u32 *, u64, u32 *, u64, u64 *) = asked[0] == WHY ? ivs_why : ivs_show;
+    if (asked[3] > count[JOB]) leave(3);
+    return call((u32)asked[1], at[JOB], asked[3], at[JOB] + asked[3], count[JOB] - asked[3], (u32)asked[2],
+                (u32)(asked[2] >> 32), (u32 *)at[WORK], count[WORK], (pair *)at[PAIRS], count[PAIRS], at[OUT],
+                count[OUT], (u32 *)at[IDS], count[IDS], (u32 *)at[MAP], count[MAP], (u32 *)at[LOG], count[LOG],
+                (u32 *)at[ORIGINS], count[ORIGINS], (u64 *)at[REPORT]);
+}
+
 static u64 recover(const u64 *count, u8 **at) {
     return ivs_recover(at[JOB], count[JOB], (u32 *)at[WORK], count[WORK], at[OUT], count[OUT], (u64 *)at[REPORT]);
 }
@@ -186,6 +206,8 @@ static u64 answered(const u64 *asked, const u64 *count, u8 **at) {
     case BUILD_PANEL: return build_panel(asked, count, at);
     case FORECAST: return forecast(asked, count, at);
     case PART: return part(asked, count, at);
+    case WHY:
+    case SHOW: return question(asked, count, at);
     case WRITE_GLYPHS: return ivs_write_glyphs((u32 *)at[WORK], count[WORK], at[OUT], count[OUT]);
     case WRITE_WIDTHS:
         return ivs_write_widths(at[JOB], count[JOB], (u32 *)at[WORK], count[WORK], at[OUT], count[OUT]);
@@ -203,8 +225,8 @@ static u64 answered(const u64 *asked, const u64 *count, u8 **at) {
 
 /* Whether the call has a report. */
 static int reports(u64 what) {
-    return what == BUILD || what == BUILD_PANEL || what == FORECAST || what == PART || what == RECOVER ||
-           what == JUDGE || what == KEEP;
+    return what == BUILD || what == BUILD_PANEL || what == FORECAST || what == PART || what == WHY ||
+           what == SHOW || what == RECOVER || what == JUDGE || what == KEEP;
 }
 
 __attribute__((force_align_arg_pointer)) void _start(void) {

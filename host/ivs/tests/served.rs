@@ -160,7 +160,7 @@ fn the_same_both_ways() {
     };
     env::set_var("IVS_SERVER", program);
     let rng = &mut Rng::new(28);
-    let (mut done, mut refused) = (0, 0);
+    let (mut done, mut refused, mut reasons) = (0, 0, 0);
     for (number, (axes, job)) in jobs().iter().enumerate() {
         let (axes, mode) = (*axes, rng.below(2) as u32);
         let (records, regions) = (job.len() / 12, ivs::head_regions(axes, job));
@@ -191,10 +191,36 @@ fn the_same_both_ways() {
         if let Ok(packed) = ivs::pack(axes, mode, job) {
             tables(&packed);
         }
+        reasons += questions(rng, number, axes, job);
     }
     assert!(done > 100 && refused > 50, "{done} {refused}");
+    assert!(reasons > 30, "{reasons}");
     let done: usize = (0..80).map(|seed| whole(rng, seed)).sum();
     assert!(done > 100, "{done}");
+}
+
+/// Both questions to a job and its store, which one time in eight has a byte changed. How many
+/// reasons there were.
+fn questions(rng: &mut Rng, number: usize, axes: u32, job: &[u8]) -> usize {
+    let mut store = ivs::pack(axes, 0, job).map_or(Vec::new(), |packed| packed.store);
+    if !store.is_empty() && rng.one_in(8) {
+        let at = rng.below(store.len());
+        store[at] ^= 4;
+    }
+    let memory = Memory::of(rng, axes, 0, job);
+    let (first, second) = (rng.below(4) as u32, rng.below(12) as u32);
+    let why = memory.both(
+        &format!("job {number}, why"),
+        |lent, report| ivs::why_report(axes, job, &store, first, second, lent, report),
+        |lent, report| emulated::why(axes, job, &store, first, second, lent, report),
+    );
+    let what = rng.below(3) as u32;
+    memory.both(
+        &format!("job {number}, show"),
+        |lent, report| ivs::show_report(axes, job, &store, second, what, lent, report),
+        |lent, report| emulated::show(axes, job, &store, second, what, lent, report),
+    );
+    usize::from(why == 0)
 }
 
 /// A store that others wrote, and once it is damaged: recovered, judged by what it was recovered

@@ -6,7 +6,7 @@
 //! part names the rules that it renders by their labels.
 //!
 //! [`build`] says what one build call must answer and write, [`part`] where two sets
-//! of a job part; [`read`] says what reading one value must answer, and [`stores`] what is made
+//! of a job part, [`why`] why two ids of a build are where they are; [`read`] says what reading one value must answer, and [`stores`] what is made
 //! of a whole store.
 
 mod forecast;
@@ -21,6 +21,7 @@ mod sets;
 mod store;
 pub mod stores;
 pub mod table;
+pub mod why;
 mod widths;
 
 pub use part::{part, Parted, Parting};

@@ -32,6 +32,8 @@ pub mod number {
     pub const JOB_SHORT: u32 = 53;
     pub const STORE_TOO_BIG: u32 = 60;
     pub const ORIGINS_SHORT: u32 = 61;
+    pub const NO_ID: u32 = 62;
+    pub const OTHER_STORE: u32 = 63;
     pub const NO_SET: u32 = 64;
     pub const LONG_VALUE: u32 = 70;
     pub const BAD_REGION: u32 = 71;
@@ -70,6 +72,8 @@ pub fn name(refusal: u32) -> &'static str {
         number::JOB_SHORT => "JOB_SHORT",
         number::STORE_TOO_BIG => "STORE_TOO_BIG",
         number::ORIGINS_SHORT => "ORIGINS_SHORT",
+        number::NO_ID => "NO_ID",
+        number::OTHER_STORE => "OTHER_STORE",
         number::NO_SET => "NO_SET",
         number::LONG_VALUE => "LONG_VALUE",
         number::BAD_REGION => "BAD_REGION",

@@ -5,7 +5,7 @@ use crate::sets::{dense, Numbered};
 use crate::widths::{Shape, Width};
 
 /// The most sets of a run (F3).
-const RUN: usize = 65_535;
+pub const RUN: usize = 65_535;
 
 /// The store and what came with it.
 pub struct Laid {
