@@ -1,7 +1,8 @@
 //! The times of the proved library beside the source's, on the same inputs in one run:
 //! whole builds, and merging alone. Both must have given the same before a time is told.
 //!
-//! `bench` measures and prints all; `bench whole` and `bench merging` a part of it. With
+//! `bench` measures and prints all; `bench whole` and `bench merging` a part of it, `bench
+//! memory` how much the source holds at once. With
 //! `write` the tables of whole builds go into ../docs/BENCH.md as well.
 
 mod clearing;
@@ -31,6 +32,10 @@ fn main() -> ExitCode {
         return ExitCode::FAILURE;
     }
     let said = |word: &str| asked.iter().any(|other| other == word);
+    if said("memory") {
+        table::memory();
+        return ExitCode::SUCCESS;
+    }
     let parts = [said("whole"), said("merging")];
     let all = parts == [false; 2];
     if all || parts[0] {
@@ -49,4 +54,4 @@ fn main() -> ExitCode {
 }
 
 /// What may be asked for.
-const WORDS: [&str; 3] = ["whole", "merging", "write"];
+const WORDS: [&str; 4] = ["whole", "merging", "memory", "write"];

@@ -6,7 +6,6 @@
 
 use std::alloc::{GlobalAlloc, Layout, System};
 use std::sync::atomic::{AtomicBool, AtomicIsize, Ordering::Relaxed};
-use std::time::Duration;
 
 struct Counting;
 
@@ -54,18 +53,15 @@ unsafe impl GlobalAlloc for Counting {
 #[global_allocator]
 static ALLOCATOR: Counting = Counting;
 
-/// A clock that shows bytes, one to a nanosecond: at its first reading it begins to count, and
-/// at every later one it shows the most that was held since.
-pub fn clock() -> Duration {
-    if !COUNTS.swap(true, Relaxed) {
-        HELD.store(0, Relaxed);
-        MOST.store(0, Relaxed);
-    }
-    Duration::from_nanos(MOST.load(Relaxed).max(0) as u64)
+/// Begins to count.
+pub fn count() {
+    HELD.store(0, Relaxed);
+    MOST.store(0, Relaxed);
+    COUNTS.store(true, Relaxed);
 }
 
-/// The bytes between two readings of that clock; it is stopped.
-pub fn bytes(shown: Duration) -> u64 {
+/// The most bytes that were held at once since; no more is counted.
+pub fn most() -> u64 {
     COUNTS.store(false, Relaxed);
-    shown.as_nanos() as u64
+    MOST.load(Relaxed).max(0) as u64
 }

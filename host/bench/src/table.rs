@@ -3,7 +3,7 @@
 use std::fmt::Display;
 use std::time::Duration;
 
-use crate::whole::{measure, Best, Measured, MOST, RUNS};
+use crate::whole::{measure, source_bytes, Best, Measured, MOST, RUNS};
 use crate::workloads::{self, Workload};
 
 /// From so many shapes on N is large.
@@ -35,6 +35,14 @@ pub fn whole() -> String {
     all.extend(growing);
     lines.add(&ratios(&all));
     lines.0
+}
+
+/// Prints the source's memory alone, which takes seconds.
+pub fn memory() {
+    let all = workloads::fonts().chain(workloads::large());
+    for workload in all.chain(workloads::growing()) {
+        println!("{}: {} MB", workload.name, mb(source_bytes(&workload)));
+    }
 }
 
 /// A line of a table, as far as it is looked at again.

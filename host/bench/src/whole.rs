@@ -44,7 +44,7 @@ pub struct Measured {
     pub done: Done,
     /// The times.
     pub best: Best,
-    /// Bytes that the source holds at once at the most, beyond the sets that it is given.
+    /// Bytes that the source holds at once at the most, the sets that it is given among them.
     pub source_bytes: u64,
     /// Bytes that are lent to the library, the store's among them.
     pub lent_bytes: u64,
@@ -74,11 +74,12 @@ pub fn measure(workload: &Workload) -> Measured {
 }
 
 /// The most memory that the source holds, in a run of its own: counting takes time.
-fn source_bytes(workload: &Workload) -> u64 {
+pub fn source_bytes(workload: &Workload) -> u64 {
     let Workload { mode, job, .. } = workload;
-    let clock = memory::clock;
-    let shown = oracle::build_whole(job.axes as u16, *mode, &job.regions, &job.sets, clock);
-    memory::bytes(shown.expect("the source is there"))
+    memory::count();
+    let took = oracle::build_whole(job.axes as u16, *mode, &job.regions, &job.sets, cpu_time);
+    took.expect("the source is there");
+    memory::most()
 }
 
 /// Store, ids, map, log, N and sizes are the source's.
