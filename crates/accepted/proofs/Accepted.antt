@@ -24,7 +24,7 @@ use Rattle.rule.specs.Model.{merged}
 use Rattle.rule.specs.Told.{words}
 use Rattle.rule.proofs.Theorems.{words-length}
 use Rattle.store.specs.Placing.{allRuns, idWords, stored}
-use Rattle.said.specs.Records.{recordBytes}
+use Rattle.said.specs.Records.{recordBytes, mostRecords, mostAxes}
 use Rattle.said.specs.Refusals.{mostBytes}
 use Rattle.said.specs.Sets.{Region}
 use Rattle.said.specs.Job.{Said, Outcome, refused, fine, inAxes, recordsFrom}
@@ -105,7 +105,7 @@ module _ (axes mode : ℕ) (job : List ℕ) (records : ℕ) (s : Said) (e : reco
       go (same l) = l
       go (above l) = absurd (differ y x l h (sym equal))
 
-  pub sized : axes ≤ 64 → records ≤ 1048576 → Sized axes (length (s .used)) (coordsInUse s) (s .sets)
+  pub sized : axes ≤ mostAxes → records ≤ mostRecords → Sized axes (length (s .used)) (coordsInUse s) (s .sets)
   sized a n =
       let room = room-of axes job records s some (well .counted) in
       record {

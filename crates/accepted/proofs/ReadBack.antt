@@ -73,7 +73,7 @@ module _ (axes regions : ℕ) (coords : List (List ℕ)) (jobs : List Set) (s : 
   unfolding own
   own-groups = omega arith
 
-  storable : (k : Packed) → WellPacked regions k → k .groups ≤ 1024 → length (k .sets) ≤ 1048576 → Storable axes regions coords k
+  storable : (k : Packed) → WellPacked regions k → k .groups ≤ maxShapes → length (k .sets) ≤ mostRecords → Storable axes regions coords k
   storable k good groups sets = record {
     good = good;
     coords-are = s .coords-are;

@@ -59,7 +59,7 @@ module _ (axes regions : ℕ) (coords : List (List ℕ)) (k : Packed) (s : Stora
   rows-few = rows-most regions k (s .good)
 
   runs-most : length (allRuns gs) ≤ 17408
-  runs-most = omega (arith, all-runs gs (ids-most gs 1048576 (omega (arith, rows-few, s .sets-few))), s .good .finals-few (s .groups-few))
+  runs-most = omega (arith, all-runs gs (ids-most gs mostRecords (omega (arith, rows-few, s .sets-few))), s .good .finals-few (s .groups-few))
 
   pub fit : Fit axes coords (λ y. getD (k .sets) y []) (k .finals)
   fit = record {

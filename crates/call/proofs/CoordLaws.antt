@@ -52,12 +52,12 @@ module _ (job : List ℕ) (bytes : (k : ℕ) → getD job k 0 < 256) where
 
   -- the axes from k on; the first of them is the record at byte `at`
   axes-are : (n k from at : ℕ) → at + 4 ≡ from + recordStart k → at + regionLong n ≤ length job
-      → joinAll (tabulate k n (λ a. seg (from + 12 * a) 6 job)) ≡ regionBytes (coordinates n (drop at job))
+      → joinAll (tabulate k n (λ a. seg (from + recordStart a) 6 job)) ≡ regionBytes (coordinates n (drop at job))
   unfolding joinAll tabulate coordinates regionBytes
   axes-are zero k from at e h = refl
   axes-are (suc n) k from at e h =
       let ih = axes-are n (suc k) from (at + recordBytes) (omega arith) (omega arith) in
-      let here : seg (from + 12 * k) 6 job ≡ seg (at + 4) 6 job = ap (λ (q : ℕ). seg q 6 job) (sym e) in
+      let here : seg (from + recordStart k) 6 job ≡ seg (at + 4) 6 job = ap (λ (q : ℕ). seg q 6 job) (sym e) in
       ap₂ _++_ (here ∙ axis-is at (omega arith)) (ih ∙ ap (λ (l : List ℕ). regionBytes (coordinates n l)) (sym (drop-drop recordBytes at job)))
       ∙ regroup (bytesOf 2 (be 2 (drop at job) 4)) (bytesOf 2 (be 2 (drop at job) 6)) (bytesOf 2 (be 2 (drop at job) 8)) (regionBytes (coordinates n (afterRecord (drop at job))))
     where

@@ -9,6 +9,7 @@ use lib.Dec.{eqb}
 use borrow.Author.Tests.{eq-eqb, ne-eqb}
 use Rattle.laws.specs.Pick.{pick}
 use Rattle.pairs.specs.declared.Pair.{Pair}
+use Rattle.said.specs.Records.{recordCount}
 use Rattle.said.specs.Refusals.{earlyNo}
 use Rattle.said.specs.Job.{Said, Outcome, refused, fine, outcome}
 use Rattle.job.specs.Check.{workLeft}
@@ -49,7 +50,7 @@ module _ (c : Lending) where
   some-early : (n p : ℕ) → n ≤ 4 → answerOf c ≡ Refused n p → early c ≡ 0 → ⊥
   some-early n p h e z =
       let f = job-only c n p (λ x. absurd (omega arith)) e in
-      let g = walk-no (c .axes) (c .mode) (c .job) (length (c .job) / 12) n p (sym (outcome-walked c z) ∙ f) in
+      let g = walk-no (c .axes) (c .mode) (c .job) (recordCount (c .job)) n p (sym (outcome-walked c z) ∙ f) in
       let l = g .low in
       omega arith
 

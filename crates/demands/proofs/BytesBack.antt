@@ -15,7 +15,7 @@ use Rattle.laws.proofs.SignedLaws.{value-twos, word-value}
 use Rattle.sets.specs.Set.{wordOf}
 use Rattle.reader.specs.declared.reader.Reading.the-variants.{Written}
 use Rattle.reader.specs.Store.{readStore, valueOf, regionCount}
-use Rattle.said.specs.Records.{regionOf, valueWord, recordAt}
+use Rattle.said.specs.Records.{regionOf, valueWord, recordAt, recordStart}
 use Rattle.said.specs.Job.{Said}
 use Rattle.said.proofs.RecordLaws.{be-two, be-four}
 use Rattle.said.proofs.SoundLaws.{Bytes}
@@ -46,7 +46,7 @@ word-signed x h =
 
 pub value-at : (job : List ℕ) (i : ℕ) → Bytes job → value (valueWord (recordAt job i)) ≡ valueAt job i
 unfolding valueWord
-value-at job i b = word-signed (be 4 (recordAt job i) 4) (four-low (recordAt job i) (λ k. rw (getD-drop (12 * i) job k 0) (b (12 * i + k))))
+value-at job i b = word-signed (be 4 (recordAt job i) 4) (four-low (recordAt job i) (λ k. rw (getD-drop (recordStart i) job k 0) (b (recordStart i + k))))
 
 -- ---- one set
 

@@ -9,6 +9,7 @@ use lib.ListN.{length}
 use lib.Dec.{eqb, ltb, leb}
 use borrow.Author.Tests.{ltb-true, ltb-false, leb-true, leb-false, eqb-true, eqb-false, lt-ltb, le-ltb, le-leb, lt-leb, eq-eqb, ne-eqb}
 use Rattle.laws.proofs.Cases.{and-true}
+use Rattle.said.specs.Records.{recordsIn, recordCount, spareBytes, mostRecords}
 use Rattle.said.specs.Refusals.{firstFailed, jobWork, pairRecords, earlyNo}
 use Rattle.said.specs.Job.{outcome, refused}
 use Rattle.finishing.specs.declared.answers.Built.{Built}
@@ -44,26 +45,26 @@ module _ (axes : ℕ) where
 
 module _ (bytes : ℕ) where
   abbrev lengthOk : Bool
-  lengthOk = eqb (bytes % 12) 0 && leb (bytes / 12) 1048576
+  lengthOk = eqb (spareBytes bytes) 0 && leb (recordsIn bytes) mostRecords
 
-  length-whole : lengthOk ≡ true → bytes % 12 ≡ 0
-  length-whole e = eqb-true (bytes % 12) 0 (and-true (eqb (bytes % 12) 0) (leb (bytes / 12) 1048576) e .0)
+  length-whole : lengthOk ≡ true → spareBytes bytes ≡ 0
+  length-whole e = eqb-true (spareBytes bytes) 0 (and-true (eqb (spareBytes bytes) 0) (leb (recordsIn bytes) mostRecords) e .0)
 
-  length-few : lengthOk ≡ true → bytes / 12 ≤ 1048576
-  length-few e = leb-true (bytes / 12) 1048576 (and-true (eqb (bytes % 12) 0) (leb (bytes / 12) 1048576) e .1)
+  length-few : lengthOk ≡ true → recordsIn bytes ≤ mostRecords
+  length-few e = leb-true (recordsIn bytes) mostRecords (and-true (eqb (spareBytes bytes) 0) (leb (recordsIn bytes) mostRecords) e .1)
 
-  fit-length : bytes % 12 ≡ 0 → bytes / 12 ≤ 1048576 → lengthOk ≡ true
-  fit-length a b = and-both (eqb (bytes % 12) 0) (leb (bytes / 12) 1048576) (eq-eqb (bytes % 12) 0 a) (le-leb (bytes / 12) 1048576 b)
+  fit-length : spareBytes bytes ≡ 0 → recordsIn bytes ≤ mostRecords → lengthOk ≡ true
+  fit-length a b = and-both (eqb (spareBytes bytes) 0) (leb (recordsIn bytes) mostRecords) (eq-eqb (spareBytes bytes) 0 a) (le-leb (recordsIn bytes) mostRecords b)
 
-  length-bad : lengthOk ≡ false → (bytes % 12 ≡ 0 → ⊥) ⊎ (1048576 < bytes / 12)
+  length-bad : lengthOk ≡ false → (spareBytes bytes ≡ 0 → ⊥) ⊎ (mostRecords < recordsIn bytes)
   length-bad e =
-      ⊎-elim (λ (p : eqb (bytes % 12) 0 ≡ false). inl (eqb-false (bytes % 12) 0 p)) (λ (p : leb (bytes / 12) 1048576 ≡ false). inr (leb-false (bytes / 12) 1048576 p))
-      (and-false (eqb (bytes % 12) 0) (leb (bytes / 12) 1048576) e)
+      ⊎-elim (λ (p : eqb (spareBytes bytes) 0 ≡ false). inl (eqb-false (spareBytes bytes) 0 p)) (λ (p : leb (recordsIn bytes) mostRecords ≡ false). inr (leb-false (recordsIn bytes) mostRecords p))
+      (and-false (eqb (spareBytes bytes) 0) (leb (recordsIn bytes) mostRecords) e)
 
-  bad-length-ok : (bytes % 12 ≡ 0 → ⊥) ⊎ (1048576 < bytes / 12) → lengthOk ≡ false
+  bad-length-ok : (spareBytes bytes ≡ 0 → ⊥) ⊎ (mostRecords < recordsIn bytes) → lengthOk ≡ false
   bad-length-ok b =
-      ⊎-elim (λ (z : bytes % 12 ≡ 0 → ⊥). and-first (eqb (bytes % 12) 0) (leb (bytes / 12) 1048576) (ne-eqb (bytes % 12) 0 z))
-      (λ (z : 1048576 < bytes / 12). and-second (eqb (bytes % 12) 0) (leb (bytes / 12) 1048576) (lt-leb (bytes / 12) 1048576 z)) b
+      ⊎-elim (λ (z : spareBytes bytes ≡ 0 → ⊥). and-first (eqb (spareBytes bytes) 0) (leb (recordsIn bytes) mostRecords) (ne-eqb (spareBytes bytes) 0 z))
+      (λ (z : mostRecords < recordsIn bytes). and-second (eqb (spareBytes bytes) 0) (leb (recordsIn bytes) mostRecords) (lt-leb (recordsIn bytes) mostRecords z)) b
 
 -- ---- their numbers
 
@@ -132,7 +133,7 @@ module _ (axes mode : ℕ) (job : List ℕ) (work pairs : ℕ) where
         (a .0, leb-false mode 1 (this 2 third (leb mode 1) (omega arith) (omega arith, (omega arith, (omega arith, tt))) (a .1)));
   }
 
-  pub early-length : Exactly (earlyNo axes mode job work pairs ≡ 3) (ModeFit axes mode × ((length job % 12 ≡ 0 → ⊥) ⊎ (1048576 < length job / 12)))
+  pub early-length : Exactly (earlyNo axes mode job work pairs ≡ 3) (ModeFit axes mode × ((spareBytes (length job) ≡ 0 → ⊥) ⊎ (mostRecords < recordCount job)))
   early-length = record {
     given = λ b. to-mode 3 (b .0) (failed 3 fourth (lengthOk (length job)) (bad-length-ok (length job) (b .1)));
     only = λ e.
@@ -188,8 +189,8 @@ module _ (c : Lending) (p : ℕ) where
   bad-mode = row 2 (AxesFit (c .axes) × (1 < (c .mode))) (omega arith) (omega arith) (early-mode (c .axes) (c .mode) (c .job) (length (c .work)) (length (c .pairs)))
 
   -- R3 BAD_JOB_LENGTH
-  pub bad-job-length : Exactly (answerOf c ≡ Refused 3 p) ((p ≡ 0) × (ModeFit (c .axes) (c .mode) × ((length (c .job) % 12 ≡ 0 → ⊥) ⊎ (1048576 < length (c .job) / 12))))
-  bad-job-length = row 3 (ModeFit (c .axes) (c .mode) × ((length (c .job) % 12 ≡ 0 → ⊥) ⊎ (1048576 < length (c .job) / 12))) (omega arith) (omega arith) (early-length (c .axes) (c .mode) (c .job) (length (c .work)) (length (c .pairs)))
+  pub bad-job-length : Exactly (answerOf c ≡ Refused 3 p) ((p ≡ 0) × (ModeFit (c .axes) (c .mode) × ((spareBytes (length (c .job)) ≡ 0 → ⊥) ⊎ (mostRecords < recordCount (c .job)))))
+  bad-job-length = row 3 (ModeFit (c .axes) (c .mode) × ((spareBytes (length (c .job)) ≡ 0 → ⊥) ⊎ (mostRecords < recordCount (c .job)))) (omega arith) (omega arith) (early-length (c .axes) (c .mode) (c .job) (length (c .work)) (length (c .pairs)))
 
   -- R4 WORK_SHORT
   pub work-short : Exactly (answerOf c ≡ Refused 4 p) ((p ≡ 0) × (LengthFit (c .axes) (c .mode) (length (c .job)) × (((length (c .work)) < jobWork (c .axes) (c .job)) ⊎ ((length (c .pairs)) < pairRecords))))

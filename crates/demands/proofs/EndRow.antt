@@ -4,6 +4,7 @@ use mathlib.Core.Path.{_≡_, refl, sym, ap, ap₂, _∙_}
 use Prim.Native.Nat.{ℕ, _/_}
 use native.Mathlib.Omega.{arith}
 use lib.ListN.{length}
+use Rattle.said.specs.Records.{recordCount}
 use Rattle.said.specs.Refusals.{earlyNo}
 use Rattle.said.specs.Job.{Said, State, Outcome, refused, fine, ended}
 use Rattle.finishing.specs.declared.answers.Built.the-variants.{Refused}
@@ -25,7 +26,7 @@ use Rattle.refusing.proofs.FineLaws.{passed-fine, fine-passed}
 
 module _ (c : Lending) where
   abbrev records : ℕ
-  records = length (c .job) / 12
+  records = recordCount (c .job)
 
   abbrev early-fits : Exactly (earlyNo (c .axes) (c .mode) (c .job) (length (c .work)) (length (c .pairs)) ≡ 0) (Fits c)
   early-fits = early-none (c .axes) (c .mode) (c .job) (length (c .work)) (length (c .pairs))

@@ -7,6 +7,7 @@ use native.Mathlib.Omega.{arith}
 use lib.ListN.{length}
 use borrow.Author.Tests.{ne-eqb}
 use Rattle.laws.proofs.Cases.{lt-or-ge, same-or-not}
+use Rattle.said.specs.Records.{recordCount}
 use Rattle.said.specs.Refusals.{earlyNo}
 use Rattle.said.specs.Job.{Said, inAxes, Outcome, refused, fine, recordsFrom, outcome, outcomeFrom}
 use Rattle.finishing.specs.declared.answers.Built.the-variants.{Refused, Done}
@@ -52,7 +53,7 @@ late-many axes s mode l =
 
 module _ (c : Lending) where
   abbrev pub walked : Outcome
-  walked = recordsFrom (c .axes) (c .mode) (c .job) (c .job) (length (c .job) / 12) 0 inAxes
+  walked = recordsFrom (c .axes) (c .mode) (c .job) (c .job) (recordCount (c .job)) 0 inAxes
 
   abbrev pub early : ℕ
   early = earlyNo (c .axes) (c .mode) (c .job) (length (c .work)) (length (c .pairs))
@@ -77,7 +78,7 @@ module _ (c : Lending) where
   early-only n p h e = ⊎-elim none some outcome-by
     where
       none : early ≡ 0 → (early ≡ n) × (p ≡ 0)
-      none z = let w = walk-no (c .axes) (c .mode) (c .job) (length (c .job) / 12) n p (sym (outcome-walked z) ∙ e) in let l = w .low in absurd (omega arith)
+      none z = let w = walk-no (c .axes) (c .mode) (c .job) (recordCount (c .job)) n p (sym (outcome-walked z) ∙ e) in let l = w .low in absurd (omega arith)
 
       some : (0 < early) × (outcomeOf c ≡ refused early 0) → (early ≡ n) × (p ≡ 0)
       some f = let g = f .1 in let a : early ≡ n = cc in let b : p ≡ 0 = cc in (a, b)
@@ -125,7 +126,7 @@ module _ (c : Lending) where
 
   job-no : (n p : ℕ) → outcomeOf c ≡ refused n p → JobNo n
   job-no n p e =
-      ⊎-elim (λ z. let w = walk-no (c .axes) (c .mode) (c .job) (length (c .job) / 12) n p (sym (outcome-walked c z) ∙ e) in let l = w .low in record { some = omega arith; most = w .high; gap = w .gap; not-five = λ x. omega arith })
+      ⊎-elim (λ z. let w = walk-no (c .axes) (c .mode) (c .job) (recordCount (c .job)) n p (sym (outcome-walked c z) ∙ e) in let l = w .low in record { some = omega arith; most = w .high; gap = w .gap; not-five = λ x. omega arith })
       (λ f. let g = f .1 in let a : early c ≡ n = cc in let b = early-few (c .axes) (c .mode) (c .job) (length (c .work)) (length (c .pairs)) in let h = f .0 in record { some = omega arith; most = omega arith; gap = λ x. omega arith; not-five = λ x. omega arith })
       (outcome-by c)
 

@@ -7,7 +7,7 @@ use native.Mathlib.Omega.{arith}
 use lib.ListN.{length}
 use lib.Dec.{eqb}
 use borrow.Author.Tests.{eq-eqb}
-use Rattle.said.specs.Records.{kind, recordAt}
+use Rattle.said.specs.Records.{kind, recordAt, recordCount}
 use Rattle.said.specs.Refusals.{endNo}
 use Rattle.said.specs.Job.{State, saidAt}
 use Rattle.told.specs.Told.{countKind, endsBefore}
@@ -61,7 +61,7 @@ plain c r m e =
     let a = accepted c r e in
     let t = told (c .axes) (c .mode) (c .job) (length (c .work)) (length (c .pairs)) (a .said) (a .said-is) in
     let p = taken-passes c (a .said) (a .said-is) in
-    let few = ends-few (c .axes) (c .job) (length (c .job) / 12) (p .state) (subst (λ (k : ℕ). Passed (c .axes) k (c .job) (length (c .job) / 12) (p .state)) m (p .all-pass)) in
+    let few = ends-few (c .axes) (c .job) (recordCount (c .job)) (p .state) (subst (λ (k : ℕ). Passed (c .axes) k (c .job) (recordCount (c .job)) (p .state)) m (p .all-pass)) in
     record {
       sets-few = omega arith;
       ids-are = plain-count c r a m ∙ t .sets-are;

@@ -6,7 +6,7 @@ use Prim.Native.Nat.{ℕ, _/_, _≤_, _<_}
 use native.Mathlib.Omega.{arith}
 use lib.ListN.{length}
 use Rattle.said.specs.Job.{State, Step, stop, on, step, refused}
-use Rattle.said.specs.Records.{recordAt}
+use Rattle.said.specs.Records.{recordAt, recordCount}
 use Rattle.said.specs.Refusals.{notZero, byteOf}
 use Rattle.finishing.specs.declared.answers.Built.the-variants.{Refused}
 use Rattle.call.specs.Lending.{Lending}
@@ -35,7 +35,7 @@ use Rattle.demands.proofs.EarlyRows.{early-none}
 
 module _ (c : Lending) (i : ℕ) where
   abbrev records : ℕ
-  records = length (c .job) / 12
+  records = recordCount (c .job)
 
   -- refused at record i where the walk stops there
   refused-at : (n : ℕ) → Fits c → i < records → (s : State) → Passed (c .axes) (c .mode) (c .job) i s

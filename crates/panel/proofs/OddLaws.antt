@@ -14,7 +14,7 @@ use borrow.Author.Tests.{lt-ltb, le-ltb, eq-eqb, ne-eqb}
 use Rattle.laws.specs.Signed.{fits, signed, zeroWord, value}
 use Rattle.laws.proofs.SignedLaws.{value-below, value-above, mag-fits}
 use Rattle.laws.proofs.Cases.{lt-or-ge}
-use Rattle.said.specs.Records.{kind, axisKind, valueKind, startOf, peakOf, endOf, valueWord, recordAt}
+use Rattle.said.specs.Records.{kind, axisKind, valueKind, startOf, peakOf, endOf, valueWord, recordAt, recordBytes, recordStart}
 use Rattle.said.specs.Refusals.{longValue, badRegion, firstFailed}
 use Rattle.panel.specs.declared.Profile.{Profile}
 use Rattle.panel.specs.declared.Profile.the-variants.{Plain, Panel}
@@ -87,8 +87,8 @@ module _ (job : List ℕ) (limit i : ℕ) (h : i < limit) where
   pub odd-later : (n : ℕ) → n ≡ panelNo (recordAt job i) → n ≡ 0 → firstOf (recordAt job i) (limit - i) i ≡ firstOf (recordAt job (i + 1)) (limit - (i + 1)) (i + 1)
   unfolding firstOf
   odd-later n e z =
-      let k : 12 * i + 12 ≡ 12 * (i + 1) = omega arith in
-      rw (one-more, ← e, eq-eqb n 0 z, drop-drop 12 (12 * i) job, k)
+      let k : recordStart i + recordBytes ≡ recordStart (i + 1) = omega arith in
+      rw (one-more, ← e, eq-eqb n 0 z, drop-drop recordBytes (recordStart i) job, k)
 
 pub odd-start : (job : List ℕ) (limit : ℕ) → firstOf (recordAt job 0) (limit - 0) 0 ≡ firstOf job limit 0
 odd-start job limit = rw (sub-zero limit)

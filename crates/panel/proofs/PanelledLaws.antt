@@ -12,7 +12,7 @@ use borrow.Author.Tests.{eq-eqb, ne-eqb}
 use Rattle.laws.proofs.Cases.{Tri, tri, same-or-not, lt-or-ge, Which, which}
 use Rattle.laws.proofs.Cases.Tri.{below, same, above}
 use Rattle.laws.proofs.Cases.Which.{holds, fails}
-use Rattle.said.specs.Records.{recordAt, recordCount, isAxis, isValue}
+use Rattle.said.specs.Records.{recordAt, recordCount, isAxis, isValue, recordBytes, recordStart}
 use Rattle.said.specs.Refusals.{longValue, badRegion, firstFailed}
 use Rattle.said.specs.Job.{Said, Outcome, refused, fine}
 use Rattle.panel.specs.declared.Profile.{Profile}
@@ -42,8 +42,8 @@ module _ (job : List ℕ) where
 
       taken : (AllTaken job (i + 1) → From n (firstOf (recordAt job (i + 1)) left (i + 1))) → panelNo (recordAt job i) ≡ 0 → From n (firstOf (recordAt job i) (suc left) i)
       taken rec z =
-          let k : 12 * i + 12 ≡ 12 * (i + 1) = omega arith in
-          rw (eq-eqb (panelNo (recordAt job i)) 0 z, drop-drop 12 (12 * i) job, k) (rec (one-more z))
+          let k : recordStart i + recordBytes ≡ recordStart (i + 1) = omega arith in
+          rw (eq-eqb (panelNo (recordAt job i)) 0 z, drop-drop recordBytes (recordStart i) job, k) (rec (one-more z))
 
       odd : (panelNo (recordAt job i) ≡ 0 → ⊥) → From n (firstOf (recordAt job i) (suc left) i)
       odd d = rw (ne-eqb (panelNo (recordAt job i)) 0 d) (found (record { within = omega arith; before-taken = t; number-is = refl; some = d }))

@@ -7,7 +7,7 @@ use native.Mathlib.Nat.{sub-zero}
 use native.Mathlib.Numerals.{add-one}
 use native.Mathlib.Omega.{arith}
 use lib.Seq.{drop-drop}
-use Rattle.said.specs.Records.{recordAt}
+use Rattle.said.specs.Records.{recordAt, recordBytes, recordStart}
 use Rattle.said.specs.Job.{State, inAxes, Step, stop, on, step, Outcome, refused, ended, follow, recordsFrom}
 use Rattle.refusing.proofs.Passing.{Passed, StopsAt, EndsAs}
 
@@ -17,8 +17,8 @@ module _ (axes mode : ℕ) (job : List ℕ) where
       → recordsFrom axes mode job (recordAt job i) (suc left) i t ≡ recordsFrom axes mode job (recordAt job (suc i)) left (suc i) s
   unfolding recordsFrom follow
   turn i left s t e =
-      let k : 12 * i + 12 ≡ 12 * suc i = omega arith in
-      rw (e, drop-drop 12 (12 * i) job, k, add-one i)
+      let k : recordStart i + recordBytes ≡ recordStart (suc i) = omega arith in
+      rw (e, drop-drop recordBytes (recordStart i) job, k, add-one i)
 
   halt : (i left n : ℕ) (t : State) → step axes mode job (recordAt job i) i t ≡ stop n → recordsFrom axes mode job (recordAt job i) (suc left) i t ≡ refused n i
   unfolding recordsFrom follow
