@@ -155,7 +155,7 @@ module _ {c : Lending} {store : List ℕ} {id : ℕ} {l : Left} (t : Taken c sto
       let k = accepted.packedIn c s .ids in
       omega (arith, ap length ids-left, ap length (accepted.ids-is c (t .report) a), length-append k (drop (0 + length k) (c .lent .ids)), ids-long (c .mode) s)
 
-  first-of : FirstOf (c .job) (l .lent .ids) id (firstAt id (l .lent .ids))
+  pub first-of : FirstOf (c .job) (l .lent .ids) id (firstAt id (l .lent .ids))
   first-of =
       let f = shared-ids s id (omega (arith, count-is t m, t .first-below)) in
       let e : getD ids (f .0) 0 ≡ id = ids-at (f .0) (f .1) ∙ f .2 in

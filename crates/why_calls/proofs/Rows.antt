@@ -56,7 +56,7 @@ use Rattle.why_calls.specs.PartShown.{startTold, longTold, bytesTold, Is
 use Rattle.why_calls.proofs.Taken.{Taken, shown-fine, saidIn, packed-here, good-is}
 use Rattle.why_calls.proofs.RunPlaces.{home-in, tableOf, table-below, row-below, word-of}
 use Rattle.why_calls.proofs.Reports.{filled-all}
-use Rattle.why_calls.proofs.Ends.{span-long}
+use Rattle.why_calls.proofs.Ends.{first-of, span-long}
 
 -- ---- a row of a store that is well formed
 
@@ -290,6 +290,8 @@ module _ {c : Lending} {store : List ℕ} {id : ℕ} {l : Left} (t : Taken c sto
       at = offsetAt store outer;
       is-row = subst (λ (x : ℕ). IsRow store x (word % 65536) (offsetAt store outer) report) (sym outer-word)
           (subst (λ (x : ℕ). IsRow store outer x (offsetAt store outer) report) (sym inner-word) is-row);
+      set = firstAt id (l .lent .ids);
+      first-of = first-of t m (ap (λ (x : Left). x .lent .ids) left);
       gives = gives;
     }
 

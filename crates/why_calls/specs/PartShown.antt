@@ -82,5 +82,7 @@ pub record RowShown (c : Lending) (store : List ℕ) (id : ℕ) (l : Left) (repo
   pub at : ℕ
   -- the row of the id's map word (F4)
   pub is-row : IsRow store (getD (l .lent .map) id 0 / 65536) (getD (l .lent .map) id 0 % 65536) at report
-  -- every set that has the id
+  -- a set has the id, and the row gives back every set that has it
+  pub set : ℕ
+  pub first-of : FirstOf (c .job) (l .lent .ids) id set
   pub gives : (n : ℕ) → n < endsBefore (c .job) (recordCount (c .job)) → getD (l .lent .ids) n 0 ≡ id → RowGives (c .axes) (c .job) store at (bytesTold store report) n
