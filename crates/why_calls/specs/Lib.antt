@@ -1,0 +1,2 @@
+pub mod WhyTaken
+pub mod PartShown
