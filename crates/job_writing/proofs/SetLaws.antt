@@ -12,36 +12,40 @@ use Rattle.laws.specs.Bounded.{tabulate}
 use Rattle.laws.specs.Signed.{signed, twos}
 use Rattle.reader.specs.Store.{columnBytes, columnAt, wordAt, columnCount, itemCount}
 use Rattle.stores.specs.Stores.{Table, Parsed, tableCount, offsetAt, rowsAt, rowLong, tableAt, slotAt, storeAt}
+use Rattle.cells.specs.Lent.{NextCell}
 use Rattle.recovering.specs.Recovering.{Row, valueBytes, endRecord, entriesOf, rowsOf, setBytes, setsBytes}
 use Rattle.tallying.specs.LentTally.{entriesIn, rowsIn, RowIn}
 use Rattle.rows.specs.Lent.{Put}
 use Rattle.rows.proofs.PutLaws.{Putting, put-start}
 use Rattle.job_writing.proofs.PieceLaws.{piece-room, put-nothing}
-use Rattle.tallying.proofs.RowLaws.{leftFrom, entries-are, left-zero, left-more, left-none}
+use Rattle.tallying.proofs.RowLaws.{leftFrom, AtCell, entries-from, left-skip, left-more, left-none}
 use Rattle.tallying.proofs.TableLaws.{rowsFrom, rows-are, rows-step, rows-end, rows-all}
 
 -- ---- one row
 
-module _ (s : List ℕ) (row word n names j x : ℕ) (h : j < n) (e : x ≡ be (columnBytes word j) s (row + columnAt word j)) where
-  pub set-zero : x ≡ 0 → setBytes (leftFrom s row word n names j) ≡ setBytes (leftFrom s row word n names (j + 1))
-  set-zero z = ap setBytes (left-zero s row word n names j x h e z)
-
-  pub set-more : (x ≡ 0 → ⊥) → (q k y : ℕ) → q ≡ be 2 s (names + 2 * j) → k ≡ columnBytes word j → y ≡ twos 4 (signed k x)
+module _ (s : List ℕ) (row word n names j x : ℕ) (h : j < n) (e : x ≡ be (columnBytes word j) s (row + columnAt word j)) (c : AtCell s row word n j) where
+  set-one : (q k y : ℕ) → q ≡ be 2 s (names + 2 * j) → k ≡ columnBytes word j → y ≡ twos 4 (signed k x)
       → setBytes (leftFrom s row word n names j) ≡ valueBytes q y ++ setBytes (leftFrom s row word n names (j + 1))
-  set-more z q k y f d g = ap setBytes (left-more s row word n names j x h e z) ∙ (unfold setBytes in rw (f, g, d))
+  set-one q k y f d g = ap setBytes (left-more s row word n names j x h e (λ z. c .there h (sym e ∙ z))) ∙ (unfold setBytes in rw (f, g, d))
 
-  pub set-room : {at : ℕ} {all old new : List ℕ} {p : ℕ} → at + length all ≤ length old → Putting at all old new p (setBytes (leftFrom s row word n names j)) → (x ≡ 0 → ⊥) → p + 12 ≤ length new
-  set-room room p z =
+  -- what is left from the next column on that is not zero
+  pub set-more : {r : ℕ} → NextCell s row word n (j + 1) r → (q k y : ℕ) → q ≡ be 2 s (names + 2 * j) → k ≡ columnBytes word j → y ≡ twos 4 (signed k x)
+      → setBytes (leftFrom s row word n names j) ≡ valueBytes q y ++ setBytes (leftFrom s row word n names r)
+  set-more m q k y f d g = set-one q k y f d g ∙ ap (λ (l : Row). valueBytes q y ++ setBytes l) (left-skip s row word n names m)
+
+  pub set-room : {at : ℕ} {all old new : List ℕ} {p : ℕ} → at + length all ≤ length old → Putting at all old new p (setBytes (leftFrom s row word n names j)) → p + 12 ≤ length new
+  set-room room p =
       let q = be 2 s (names + 2 * j) in
       let k = columnBytes word j in
-      piece-room (valueBytes q (twos 4 (signed k x))) (setBytes (leftFrom s row word n names (j + 1))) room p (set-more z q k (twos 4 (signed k x)) refl refl refl)
+      piece-room (valueBytes q (twos 4 (signed k x))) (setBytes (leftFrom s row word n names (j + 1))) room p (set-one q k (twos 4 (signed k x)) refl refl refl)
 
 pub set-end : (s : List ℕ) (row word n names j : ℕ) → n ≤ j → setBytes (leftFrom s row word n names j) ≡ endRecord
 set-end s row word n names j h = ap setBytes (left-none s row word n names j h) ∙ (unfold setBytes in refl)
 
-pub set-put : (s : List ℕ) (table row : ℕ) → RowIn s table row → (word n : ℕ) → word ≡ wordAt s table → n ≡ columnCount s table → (at : ℕ) (old : List ℕ)
-    → Putting at (setBytes (entriesIn s table row)) old old at (setBytes (leftFrom s row word n (table + 6) 0))
-set-put s table row r word n a b at old = rw (entries-are s table row r word n a b) (put-start at (setBytes (entriesIn s table row)) old)
+-- from the first column that is not zero
+pub set-put : (s : List ℕ) (table row : ℕ) → RowIn s table row → (word n : ℕ) → word ≡ wordAt s table → n ≡ columnCount s table → (at : ℕ) (old : List ℕ) → {f j : ℕ} → NextCell s row word n f j → f ≡ 0
+    → Putting at (setBytes (entriesIn s table row)) old old at (setBytes (leftFrom s row word n (table + 6) j))
+set-put s table row r word n a b at old c e = rw (entries-from s table row r word n a b c e) (put-start at (setBytes (entriesIn s table row)) old)
 
 -- ---- a subtable
 

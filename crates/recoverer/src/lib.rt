@@ -1,4 +1,5 @@
 // A store read back into a job (#105): what is refused, in its order, and the job written.
+use cells::look_ahead;
 use job_writing::write_job;
 use laws::zero_part;
 use limits::Limits;
@@ -10,6 +11,7 @@ ghost use mathlib.Core.Path.{_≡_};
 ghost use mathlib.Core.Bool.{true};
 ghost use Prim.Native.Nat.{_≤_};
 ghost use lib.ListN.{length};
+ghost use Rattle.cells.specs.Lent.{Ahead};
 ghost use Rattle.reader.specs.Store.{headerOk};
 ghost use Rattle.stores.specs.Stores.{storeAt, wholeOk};
 ghost use Rattle.stores.specs.Coordinates.{once};
@@ -89,9 +91,9 @@ fn bounds_no(regions: usize, axes: usize) -> usize
     0
 }
 
-// R51 to R53, and the job.
-fn finish(store: &[u8], out: &mut [u8]) -> Recovered
-    requires { ⌜ wholeOk (now store) ≡ true ⌝ }
+// R51 to R53, and the job. Work says how many zeros follow from each byte on.
+fn finish(store: &[u8], work: &[u32], out: &mut [u8]) -> Recovered
+    requires { ⌜ (wholeOk (now store) ≡ true) × Ahead (now store) 0 (now work) ⌝ }
     ensures { λ r. ⌜ r ≡ answerFor (storeAt (now (store .entry))) (lateNo (storeAt (now (store .entry))) (length (now (out .entry)))) ⌝ }
     ensures { λ _. ⌜ now (out .exit) ≡ leftFor (storeAt (now (store .entry))) (lateNo (storeAt (now (store .entry))) (length (now (out .entry)))) (now (out .entry)) ⌝ }
 {
@@ -102,14 +104,14 @@ fn finish(store: &[u8], out: &mut [u8]) -> Recovered
     if no != 0 {
         return Recovered::Refused(no);
     }
-    let t = tally(store);
+    let t = tally(store, work);
     if Limits::RECORDS < t.records {
         return Recovered::Refused(Recovered::JOB_TOO_LONG);
     }
     if out.len() < 12 * t.records {
         return Recovered::Refused(Recovered::JOB_SHORT);
     }
-    write_job(out, store);
+    write_job(out, store, work);
     Recovered::Done(12 * t.records, axes, regions, t.sets)
 }
 
@@ -124,9 +126,12 @@ pub fn recover(store: &[u8], work: &mut [u32], out: &mut [u8]) -> Recovered
     }
     let no = look(store, work);
     let n = work.len();
-    zero_part(work, 0, n);
     if no != 0 {
+        zero_part(work, 0, n);
         return Recovered::Refused(no);
     }
-    finish(store, out)
+    look_ahead(store, work, 0);
+    let answer = finish(store, work, out);
+    zero_part(work, 0, n);
+    answer
 }

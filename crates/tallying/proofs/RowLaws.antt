@@ -2,7 +2,7 @@
 use mathlib.Core.Path.{_≡_, refl, sym, ap, _∙_}
 use mathlib.Core.Bool.{Bool, true, false}
 use mathlib.Core.List.{List, [], _∷_}
-use Prim.Native.Nat.{ℕ, suc, _+_, _-_, _*_, _^_, _≤_, _<_}
+use Prim.Native.Nat.{ℕ, zero, suc, _+_, _-_, _*_, _^_, _≤_, _<_}
 use native.Mathlib.Nat.{add-zero}
 use native.Mathlib.Omega.{arith}
 use lib.Dec.{eqb, ltb}
@@ -21,6 +21,7 @@ use Rattle.reader.proofs.StoreLaws.{words-step}
 use Rattle.reader.proofs.ColumnLaws.{at-fits, bytes-range}
 use Rattle.stores.specs.Stores.{rowLong, cellIn}
 use Rattle.stores.proofs.PartLaws.{be-seg}
+use Rattle.cells.specs.Lent.{Ahead, cellOf, CellsFit, NextCell}
 use Rattle.recovering.specs.Recovering.{Row, entriesFrom}
 use Rattle.tallying.specs.LentTally.{entriesIn, RowIn}
 
@@ -65,17 +66,42 @@ pub left-none : (s : List ℕ) (row word n names j : ℕ) → n ≤ j → leftFr
 unfolding entriesFrom words
 left-none s row word n names j h = let z : n - j ≡ 0 = omega arith in rw z
 
+-- columns that are zero have no entries
+left-run : (s : List ℕ) (row word n names d j : ℕ) → j + d ≤ n → ((i : ℕ) → j ≤ i → i < j + d → cellOf s row word i ≡ 0)
+    → leftFrom s row word n names j ≡ leftFrom s row word n names (j + d)
+left-run s row word n names zero j h z = rw add-zero
+left-run s row word n names (suc d) j h z =
+    let e : j + 1 + d ≡ j + suc d = omega arith in
+    left-zero s row word n names j (cellOf s row word j) (omega arith) refl (z j (omega arith) (omega arith))
+    ∙ (rw e at (left-run s row word n names d (j + 1) (omega arith) (λ i a b. z i (omega arith) (omega arith))))
+
+pub left-skip : (s : List ℕ) (row word n names : ℕ) {j r : ℕ} → NextCell s row word n j r → leftFrom s row word n names j ≡ leftFrom s row word n names r
+left-skip s row word n names {j} {r} c =
+    let e : j + (r - j) ≡ r = omega (arith, c .behind) in
+    rw e at (left-run s row word n names (r - j) j (omega (arith, c .within)) (λ i a b. c .zeros i a (omega (arith, c .behind))))
+
+-- column j is there and not zero, or j is their count
+pub record AtCell (s : List ℕ) (row word n j : ℕ) : Type 0 where
+  pub within : j ≤ n
+  pub there : j < n → cellOf s row word j ≡ 0 → ⊥
+
+pub at-cell : {s : List ℕ} {row word n j r : ℕ} → NextCell s row word n j r → AtCell s row word n r
+at-cell c = record { within = c .within; there = c .there }
+
 -- ---- counted
 
 -- so many of the first j columns are not zero
 pub record Counting (s : List ℕ) (at row word n count j : ℕ) : Type 0 where
-  pub within : j ≤ n
+  pub cell : AtCell s row word n j
   pub few : count ≤ j
   pub left : count + length (leftFrom s row word n (at + 6) j) ≡ length (entriesIn s at row)
 
 module _ (s : List ℕ) (at row : ℕ) (r : RowIn s at row) (word n : ℕ) (a : word ≡ wordAt s at) (b : n ≡ columnCount s at) where
   pub row-inside : row + columnAt word n ≤ length s
   row-inside = rw (a, b) (r .inside)
+
+  pub cells-fit : {w : List ℕ} → Ahead s 0 w → word < 65536 → n < 65536 → (j : ℕ) → j ≤ n → CellsFit s w 0 row word n j
+  cells-fit f low few j h = record { ahead = f; word-low = low; columns-few = few; inside = row-inside; from = h }
 
   pub entries-are : leftFrom s row word n (at + 6) 0 ≡ entriesIn s at row
   unfolding entriesIn
@@ -84,23 +110,19 @@ module _ (s : List ℕ) (at row : ℕ) (r : RowIn s at row) (word n : ℕ) (a : 
       let y : at + 6 + 2 * 0 ≡ at + 6 = omega arith in
       rw (z, y, a, b)
 
-  pub count-start : Counting s at row word n 0 0
-  count-start = record { within = omega arith; few = omega arith; left = omega (arith, ap length entries-are) }
+  -- from the first column that is not zero
+  pub entries-from : {f j : ℕ} → NextCell s row word n f j → f ≡ 0 → leftFrom s row word n (at + 6) j ≡ entriesIn s at row
+  entries-from c e = sym (left-skip s row word n (at + 6) (rw e at c)) ∙ entries-are
 
-  module _ (count j x : ℕ) (c : Counting s at row word n count j) (h : j < n) (e : x ≡ be (columnBytes word j) s (row + columnAt word j)) where
-    pub count-more : (x ≡ 0 → ⊥) → Counting s at row word n (count + 1) (j + 1)
-    count-more z = record {
-      within = omega arith;
-      few = omega (arith, c .few);
-      left = (let f = ap length (left-more s row word n (at + 6) j x h e z) in omega (arith, c .left));
-    }
+  pub count-start : {f j : ℕ} → NextCell s row word n f j → f ≡ 0 → Counting s at row word n 0 j
+  count-start c e = record { cell = at-cell c; few = omega arith; left = omega (arith, ap length (entries-from c e)) }
 
-    pub count-zero : x ≡ 0 → Counting s at row word n count (j + 1)
-    count-zero z = record {
-      within = omega arith;
-      few = omega (arith, c .few);
-      left = (let f = ap length (left-zero s row word n (at + 6) j x h e z) in omega (arith, c .left));
-    }
+  pub count-more : {count j next more : ℕ} → Counting s at row word n count j → j < n → NextCell s row word n (j + 1) next → more ≡ count + 1 → Counting s at row word n more next
+  count-more {count} {j} {next} {more} c h d m = record {
+    cell = at-cell d;
+    few = omega (arith, c .few, d .behind);
+    left = (let f = ap length (left-more s row word n (at + 6) j (cellOf s row word j) h refl (c .cell .there h)) in let g = ap length (left-skip s row word n (at + 6) d) in omega (arith, c .left));
+  }
 
   pub count-done : (count j : ℕ) → Counting s at row word n count j → n ≤ j → count ≡ length (entriesIn s at row)
   count-done count j c h =

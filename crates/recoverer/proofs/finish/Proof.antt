@@ -14,16 +14,16 @@ use Rattle.recoverer.proofs.bounds_no.Reads as bounds-no-reads
 use Rattle.tallying.proofs.tally.Reads as tally-reads
 
 be-requires : tie.Need-be-requires
-be-requires c κs = let f = header-fits _ (header-of _ (c .before .before .pre)) in (omega arith, omega (arith, f .head))
+be-requires c κs = let f = header-fits _ (header-of _ (c .before .before .before .pre .0)) in (omega arith, omega (arith, f .head))
 
 be-requires-2 : tie.Need-be-requires-2
-be-requires-2 c κs = let f = header-fits _ (header-of _ (c .before .before .before .pre)) in (omega arith, omega (arith, f .list, c .be .ensures .is))
+be-requires-2 c κs = let f = header-fits _ (header-of _ (c .before .before .before .before .pre .0)) in (omega arith, omega (arith, f .list, c .be .ensures .is))
 
 add-be : tie.Need-add-be
-add-be c = let f = header-fits _ (header-of _ (c .before .before .before .before .pre)) in omega (arith, f .list, c .before .be .ensures .is)
+add-be c = let f = header-fits _ (header-of _ (c .before .before .before .before .before .pre .0)) in omega (arith, f .list, c .before .be .ensures .is)
 
 be-requires-3 : tie.Need-be-requires-3
-be-requires-3 c κs = let f = header-fits _ (header-of _ (c .before .before .before .before .pre)) in (omega arith, omega (arith, f .list, c .before .be .ensures .is))
+be-requires-3 c κs = let f = header-fits _ (header-of _ (c .before .before .before .before .before .pre .0)) in (omega arith, omega (arith, f .list, c .before .be .ensures .is))
 
 bounds-no-requires : tie.Need-bounds-no-requires
 bounds-no-requires c κs = search needs
@@ -32,16 +32,16 @@ returns : tie.Need-returns
 returns c =
     let h = head-of _ _ _ _ (c .before .before .before .before .be .ensures .is) (c .before .before .before .be2 .ensures .is) (c .before .before .be3 .ensures .is) in
     let e = late-bounds _ _ _ _ h _ _ (c .before .bounds-no .ensures) (c .if1 .taken) in
-    (refused-answer _ (now (c .before .before .before .before .before .before .before .args .out)) _ _ e (c .if1 .taken), refused-left _ _ _ _ e (c .if1 .taken))
+    (refused-answer _ (now (c .before .before .before .before .before .before .before .before .args .out)) _ _ e (c .if1 .taken), refused-left _ _ _ _ e (c .if1 .taken))
 
 tally-requires : tie.Need-tally-requires
-tally-requires c κs = search needs
+tally-requires c κs = (c .before .before .before .before .before .before .before .before .pre .0, c .before .before .before .before .before .before .before .before .pre .1)
 
 returns-2 : tie.Need-returns-2
 returns-2 c =
     let h = head-of _ _ _ _ (c .before .before .before .before .before .before .before .be .ensures .is) (c .before .before .before .before .before .before .be2 .ensures .is) (c .before .before .before .before .before .be3 .ensures .is) in
     let e = late-long _ _ _ _ h _ _ (c .before .before .before .before .bounds-no .ensures) (omega arith) _ _ (c .before .before .tally .ensures) (omega arith) in
-    (refused-answer _ (now (c .before .before .before .before .before .before .before .before .before .before .args .out)) _ _ e (λ z. omega arith), refused-left _ _ _ _ e (λ z. omega arith))
+    (refused-answer _ (now (c .before .before .before .before .before .before .before .before .before .before .before .args .out)) _ _ e (λ z. omega arith), refused-left _ _ _ _ e (λ z. omega arith))
 
 mul-if3 : tie.Need-mul-if3
 mul-if3 c = search needs
@@ -49,17 +49,17 @@ mul-if3 c = search needs
 returns-3 : tie.Need-returns-3
 returns-3 c =
     let h = head-of _ _ _ _ (c .before .before .before .before .before .before .before .before .before .be .ensures .is) (c .before .before .before .before .before .before .before .before .be2 .ensures .is) (c .before .before .before .before .before .before .before .be3 .ensures .is) in
-    let e = late-short _ _ _ _ h (length (now (c .before .before .before .before .before .before .before .before .before .before .before .before .args .out))) _ (c .before .before .before .before .before .before .bounds-no .ensures) (omega arith) _ _ (c .before .before .before .before .tally .ensures) (omega arith) (omega arith) in
-    (refused-answer _ (now (c .before .before .before .before .before .before .before .before .before .before .before .before .args .out)) _ _ e (λ z. omega arith), refused-left _ _ _ _ e (λ z. omega arith))
+    let e = late-short _ _ _ _ h (length (now (c .before .before .before .before .before .before .before .before .before .before .before .before .before .args .out))) _ (c .before .before .before .before .before .before .bounds-no .ensures) (omega arith) _ _ (c .before .before .before .before .tally .ensures) (omega arith) (omega arith) in
+    (refused-answer _ (now (c .before .before .before .before .before .before .before .before .before .before .before .before .before .args .out)) _ _ e (λ z. omega arith), refused-left _ _ _ _ e (λ z. omega arith))
 
 write-job-requires : tie.Need-write-job-requires
 write-job-requires c κs =
     let h = head-of _ _ _ _ (c .before .before .before .before .before .before .before .before .before .before .be .ensures .is) (c .before .before .before .before .before .before .before .before .before .be2 .ensures .is) (c .before .before .before .before .before .before .before .before .be3 .ensures .is) in
-    let few = job-axes _ _ _ _ h (length (now (c .before .before .before .before .before .before .before .before .before .before .before .before .before .args .out))) _ (c .before .before .before .before .before .before .before .bounds-no .ensures) (omega arith) _ _ (c .before .before .before .before .before .tally .ensures) (omega arith) in
-    ((c .before .before .before .before .before .before .before .before .before .before .before .before .before .pre, few), job-room _ _ _ _ h _ _ (c .before .before .before .before .before .before .before .bounds-no .ensures) (omega arith) _ _ (c .before .before .before .before .before .tally .ensures) (omega arith) (omega arith))
+    let few = job-axes _ _ _ _ h (length (now (c .before .before .before .before .before .before .before .before .before .before .before .before .before .before .args .out))) _ (c .before .before .before .before .before .before .before .bounds-no .ensures) (omega arith) _ _ (c .before .before .before .before .before .tally .ensures) (omega arith) in
+    ((c .before .before .before .before .before .before .before .before .before .before .before .before .before .before .pre .0, few, c .before .before .before .before .before .before .before .before .before .before .before .before .before .before .pre .1), job-room _ _ _ _ h _ _ (c .before .before .before .before .before .before .before .bounds-no .ensures) (omega arith) _ _ (c .before .before .before .before .before .tally .ensures) (omega arith) (omega arith))
 
-mul-t8 : tie.Need-mul-t8
-mul-t8 c = omega arith
+mul-t9 : tie.Need-mul-t9
+mul-t9 c = omega arith
 
 same-length : tie.Need-same-length
 same-length c = search needs
@@ -86,6 +86,6 @@ finish-spec =
     mul-if3
     returns-3
     write-job-requires
-    mul-t8
+    mul-t9
     same-length
     returns-4)

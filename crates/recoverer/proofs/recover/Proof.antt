@@ -8,6 +8,7 @@ use Rattle.recoverer.proofs.recover.Statement.{statement}
 use Rattle.recoverer.proofs.recover.Tie as tie
 use Rattle.recoverer.proofs.recover.Reads as reads
 use Rattle.recoverer.proofs.recover.Lts as lts
+use Rattle.cells.proofs.look_ahead.Reads as look-ahead-reads
 use Rattle.laws.proofs.zero_part.Reads as zero-part-reads
 use Rattle.recoverer.proofs.finish.Reads as finish-reads
 use Rattle.recoverer.proofs.look.Reads as look-reads
@@ -33,23 +34,29 @@ same-length c = search needs
 
 returns-2 : tie.Need-returns-2
 returns-2 c = (
-  refused-answer _ (now (c .before .before .before .before .before .before .before .before .before .before .before .before .before .before .args .out)) _ _ (recover-look _ _ _ (omega arith) _ (c .before .before .before .before .before .before .before .look .ensures) (c .if2 .taken)) (c .if2 .taken),
-  (work-zeros _ _ _ _ _ (omega arith) (omega (arith, c .before .before .before .before .before .before .before .look .kept .1 .0)) (c .before .before .before .zero-part .ensures) refl, refused-left _ _ _ _ (recover-look _ _ _ (omega arith) _ (c .before .before .before .before .before .before .before .look .ensures) (c .if2 .taken)) (c .if2 .taken)),
+  refused-answer _ (now (c .before .before .before .before .before .before .before .before .before .before .before .before .before .before .args .out)) _ _ (recover-look _ _ _ (omega arith) _ (c .before .before .before .before .before .before .before .look .ensures) (c .before .before .before .before .if2 .taken)) (c .before .before .before .before .if2 .taken),
+  (work-zeros _ _ _ _ _ (omega arith) (omega (arith, c .before .before .before .before .before .before .before .look .kept .1 .0)) (c .before .before .zero-part .ensures) refl, refused-left _ _ _ _ (recover-look _ _ _ (omega arith) _ (c .before .before .before .before .before .before .before .look .ensures) (c .before .before .before .before .if2 .taken)) (c .before .before .before .before .if2 .taken)),
 )
 
+look-ahead-requires : tie.Need-look-ahead-requires
+look-ahead-requires c κs = omega (arith, c .before .before .before .before .look .kept .1 .0)
+
 finish-requires : tie.Need-finish-requires
-finish-requires c κs = recover-whole _ (length (now (c .before .before .before .before .before .before .before .before .before .before .before .before .before .before .before .args .work))) (length (now (c .before .before .before .before .before .before .before .before .before .before .before .before .before .before .before .args .out))) (omega arith) _ (c .before .before .before .before .before .before .before .before .look .ensures) (omega arith)
+finish-requires c κs = (recover-whole _ (length (now (c .before .before .before .before .before .before .before .before .before .before .before .before .before .before .before .before .args .work))) (length (now (c .before .before .before .before .before .before .before .before .before .before .before .before .before .before .before .before .args .out))) (omega arith) _ (c .before .before .before .before .before .before .before .before .before .look .ensures) (omega arith), c .before .before .before .before .look-ahead .ensures .ahead)
+
+zero-part-requires-2 : tie.Need-zero-part-requires-2
+zero-part-requires-2 c κs = omega (arith, c .before .before .before .before .before .before .before .before .look-ahead .ensures .only .long)
 
 same-length-2 : tie.Need-same-length-2
-same-length-2 c = search needs
+same-length-2 c = omega (arith, c .before .before .before .before .before .before .before .before .before .before .before .before .before .before .before .before .look .kept .1 .0, c .before .before .before .before .before .before .before .before .before .before .before .look-ahead .ensures .only .long, c .before .before .zero-part2 .ensures .only .long)
 
 same-length-3 : tie.Need-same-length-3
 same-length-3 c = search needs
 
 returns-3 : tie.Need-returns-3
 returns-3 c = (
-  same-answer _ _ _ _ (c .before .before .finish .ensures .0) (recover-late _ _ _ (omega arith) _ (c .before .before .before .before .before .before .before .before .before .before .before .look .ensures) (omega arith)),
-  (work-zeros _ _ _ _ _ (omega arith) (omega (arith, c .before .before .before .before .before .before .before .before .before .before .before .look .kept .1 .0)) (c .before .before .before .before .before .before .before .zero-part .ensures) refl, same-left _ _ _ _ _ (c .before .before .finish .ensures .1) (recover-late _ _ _ (omega arith) _ (c .before .before .before .before .before .before .before .before .before .before .before .look .ensures) (omega arith))),
+  same-answer _ _ _ _ (c .before .before .before .before .before .before .finish .ensures .0) (recover-late _ _ _ (omega arith) _ (c .before .before .before .before .before .before .before .before .before .before .before .before .before .before .before .before .look .ensures) (omega arith)),
+  (work-zeros _ _ _ _ _ (omega arith) (omega (arith, c .before .before .before .before .before .before .before .before .before .before .before .before .before .before .before .before .look .kept .1 .0, c .before .before .before .before .before .before .before .before .before .before .before .look-ahead .ensures .only .long)) (c .before .before .zero-part2 .ensures) (omega (arith, c .before .before .before .before .before .before .before .before .before .before .before .look-ahead .ensures .only .long)), same-left _ _ _ _ _ (c .before .before .before .before .before .before .finish .ensures .1) (recover-late _ _ _ (omega arith) _ (c .before .before .before .before .before .before .before .before .before .before .before .before .before .before .before .before .look .ensures) (omega arith))),
 )
 
 pub recover-spec : {M : Type 1} → statement M
@@ -62,7 +69,9 @@ recover-spec =
     zero-part-requires
     same-length
     returns-2
+    look-ahead-requires
     finish-requires
+    zero-part-requires-2
     same-length-2
     same-length-3
     returns-3)

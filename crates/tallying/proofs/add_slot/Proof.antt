@@ -9,10 +9,10 @@ use Rattle.reader.proofs.be.Reads as be-reads
 use Rattle.tallying.proofs.table_values.Reads as table-values-reads
 
 returns : tie.Need-returns
-returns c = added-none _ _ _ _ (c .before .before .pre .1 .0) (c .before .before .pre .1 .1) (omega arith)
+returns c = added-none _ _ _ _ (c .before .before .before .pre .1 .0) (c .before .before .before .pre .1 .1) (omega arith)
 
 be-requires : tie.Need-be-requires
-be-requires c κs = (omega arith, omega (arith, c .before .before .pre .0 .there (λ e. omega arith) .inside))
+be-requires c κs = (omega arith, omega (arith, c .before .before .before .pre .0 .0 .there (λ e. omega arith) .inside))
 
 add-records : tie.Need-add-records
 add-records c = search needs
@@ -21,16 +21,16 @@ add-sets : tie.Need-add-sets
 add-sets c = search needs
 
 returns-2 : tie.Need-returns-2
-returns-2 c = added-over _ _ _ _ (c .before .before .before .before .before .before .pre .1 .0) (c .before .before .before .before .before .before .pre .1 .1) (λ e. omega arith) _ (c .before .before .before .be .ensures .is) (omega arith) (omega arith)
+returns-2 c = added-over _ _ _ _ (c .before .before .before .before .before .before .before .pre .1 .0) (c .before .before .before .before .before .before .before .pre .1 .1) (λ e. omega arith) _ (c .before .before .before .be .ensures .is) (omega arith) (omega arith)
 
 table-values-requires : tie.Need-table-values-requires
-table-values-requires c κs = c .before .before .before .before .before .before .pre .0 .there (λ e. omega arith)
+table-values-requires c κs = (c .before .before .before .before .before .before .before .pre .0 .0 .there (λ e. omega arith), c .before .before .before .before .before .before .before .pre .0 .1)
 
-add-t9 : tie.Need-add-t9
-add-t9 c = search needs
+add-t10 : tie.Need-add-t10
+add-t10 c = search needs
 
 returns-3 : tie.Need-returns-3
-returns-3 c = added-values _ _ _ _ (c .before .before .before .before .before .before .before .pre .1 .0) (c .before .before .before .before .before .before .before .pre .1 .1) (λ e. omega arith) _ (c .before .before .before .before .be .ensures .is) (omega arith) _ (c .table-values .ensures .0) (c .table-values .ensures .1)
+returns-3 c = added-values _ _ _ _ (c .before .before .before .before .before .before .before .before .pre .1 .0) (c .before .before .before .before .before .before .before .before .pre .1 .1) (λ e. omega arith) _ (c .before .before .before .before .be .ensures .is) (omega arith) _ (c .table-values .ensures .0) (c .table-values .ensures .1)
 
 pub add-slot-spec : {M : Type 1} → statement M
 add-slot-spec =
@@ -42,5 +42,5 @@ add-slot-spec =
     add-sets
     returns-2
     table-values-requires
-    add-t9
+    add-t10
     returns-3)

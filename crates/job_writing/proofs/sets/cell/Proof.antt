@@ -1,9 +1,9 @@
 use borrow.Author.Needs.{needs}
 use native.Mathlib.Omega.{arith}
-use Rattle.tallying.proofs.cell.Statement.{statement}
-use Rattle.tallying.proofs.cell.Tie as tie
-use Rattle.tallying.proofs.cell.Reads as reads
-use Rattle.tallying.proofs.cell.Lts as lts
+use Rattle.job_writing.proofs.sets.cell.Statement.{statement}
+use Rattle.job_writing.proofs.sets.cell.Tie as tie
+use Rattle.job_writing.proofs.sets.cell.Reads as reads
+use Rattle.job_writing.proofs.sets.cell.Lts as lts
 use Rattle.reader.proofs.be.Reads as be-reads
 use Rattle.reader.proofs.column_at.Reads as column-at-reads
 use Rattle.reader.proofs.column_bytes.Reads as column-bytes-reads
