@@ -12,6 +12,12 @@ pub record ZerosFrom (s : List ℕ) (p z : ℕ) : Type 0 where
   pub zeros : (i : ℕ) → i < z → getD s (p + i) 0 ≡ 0
   pub stops : z < 4294967295 → p + z < length s → getD s (p + z) 0 ≡ 0 → ⊥
 
+-- one byte before z zeros: none from it on where it is not zero, else one more, as far as a word can say it
+pub record OneMore (byte z r : ℕ) : Type 0 where
+  pub none : (byte ≡ 0 → ⊥) → r ≡ 0
+  pub more : byte ≡ 0 → z < 4294967295 → r ≡ z + 1
+  pub full : byte ≡ 0 → 4294967295 ≤ z → r ≡ z
+
 -- word at + p says it of each byte p
 pub record Ahead (s : List ℕ) (at : ℕ) (w : List ℕ) : Type 0 where
   pub room : at + length s ≤ length w
@@ -32,6 +38,12 @@ pub record CellsFit (s w : List ℕ) (at row word n j : ℕ) : Type 0 where
   pub columns-few : n < 65536
   pub inside : row + columnAt word n ≤ length s
   pub from : j ≤ n
+
+-- the columns from i on up to r are of one width
+pub record RunEnd (word n i r : ℕ) : Type 0 where
+  pub behind : i < r
+  pub within : r ≤ n
+  pub same : (m : ℕ) → i ≤ m → m < r → columnBytes word m ≡ columnBytes word i
 
 pub record NextCell (s : List ℕ) (row word n j r : ℕ) : Type 0 where
   pub behind : j ≤ r

@@ -2,23 +2,35 @@
 use laws::wide;
 use reader::column_at;
 use reader::column_bytes;
-ghost use Rattle.cells.specs.Lent.{CellsFit, NextCell};
+ghost use Prim.Native.Nat.{_<_};
+ghost use Rattle.cells.specs.Lent.{RunEnd, CellsFit, NextCell};
 
 // Where the columns of column i's width end, of n columns.
 fn run_end(word: usize, n: usize, i: usize) -> usize
+    requires { ⌜ i < n ⌝ }
+    ensures { λ r. ⌜ RunEnd word n i r ⌝ }
 {
     let w = word % 32768;
-    if i < w {
-        if w < n {
-            return w;
-        }
+    if w <= i {
+        return n;
+    }
+    if w < n {
+        return w;
     }
     n
 }
 
-// The first of n columns from j on whose cell is not zero, in the row that begins at `row`; n where there is none. It is found in four steps at the
+// The first of n columns from j on whose cell is not zero, in the row that begins at `row`; n where there is none. It is found in three steps at the
 // most: all zeros up to the next byte that is not zero, or to the end of the columns of one width, are one.
-pub fn next_cell(s: &[u8], work: &[u32], at: usize, row: usize, word: usize, n: usize, j: usize) -> usize
+pub fn next_cell(
+    s: &[u8],
+    work: &[u32],
+    at: usize,
+    row: usize,
+    word: usize,
+    n: usize,
+    j: usize,
+) -> usize
     requires { ⌜ CellsFit (now s) (now work) at row word n j ⌝ }
     ensures { λ r. ⌜ NextCell (now (s .entry)) row word n j r ⌝ }
 {
@@ -29,8 +41,8 @@ pub fn next_cell(s: &[u8], work: &[u32], at: usize, row: usize, word: usize, n: 
         if zeros < k {
             return i;
         }
-        let end = run_end(word, n, i);
         let cells = zeros / k;
+        let end = run_end(word, n, i);
         if cells < end - i {
             i += cells;
         } else {
