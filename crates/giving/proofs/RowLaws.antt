@@ -3,13 +3,14 @@ use mathlib.Core.Path.{_≡_, refl, sym, ap, subst, _∙_}
 use mathlib.Core.Bool.{Bool, true, false, not}
 use mathlib.Core.List.{List, [], _∷_}
 use mathlib.Core.Logic.{_⊎_, inl, inr, ⊎-elim}
-use Prim.Native.Nat.{ℕ, zero, suc, _+_, _-_, _*_, _≤_, _<_}
+use Prim.Native.Nat.{ℕ, zero, suc, _+_, _-_, _*_, _^_, _≤_, _<_}
 use native.Mathlib.Omega.{arith}
 use lib.IntN.{ℤ, pos}
 use lib.ListN.{length, getD}
-use borrow.Author.Tests.{not-true, not-false}
+use borrow.Author.Tests.{not-true, not-false, lt-ltb}
 use Rattle.laws.specs.LentRange.{Only}
-use Rattle.laws.specs.Signed.{value, zeroWord}
+use Rattle.laws.specs.Signed.{signed, value, zeroWord}
+use Rattle.laws.proofs.BytesLaws.{pow-top}
 use Rattle.laws.proofs.Cases.{Tri, tri, lt-or-ge, same-or-not, true-false}
 use Rattle.laws.proofs.Cases.Tri.{below, same, above}
 use Rattle.laws.proofs.Products.{product, row-fits}
@@ -17,14 +18,15 @@ use Rattle.laws.proofs.RangeLaws.{only-trans}
 use Rattle.sets.specs.Lent.{entries}
 use Rattle.reader.specs.declared.column.Column.{Column}
 use Rattle.reader.specs.declared.column.Column.the-variants.{At, Missing}
-use Rattle.reader.specs.Store.{words, find, absent, columnsOk, columnAt, columnCount, itemCount, wordAt, regionsAt, subtableOk, cell, inColumn, valueOf}
+use Rattle.reader.specs.Store.{words, find, absent, columnsOk, columnAt, columnBytes, columnCount, itemCount, wordAt, regionsAt, subtableOk, cell, inColumn, valueOf}
 use Rattle.reader.proofs.StoreLaws.{SubtableFits, subtable-fits, words-length, words-at, find-below, find-at, absent-at, absent-intro, ok-once}
 use Rattle.stores.proofs.PartLaws.{be-two}
 use Rattle.stores.proofs.WholeLaws.{subtable-named}
+use Rattle.cells.specs.Lent.{cellOf}
 use Rattle.giving.specs.declared.entries.Aims.{Aims}
-use Rattle.giving.specs.Lent.{aimAt, aim, Clean, EntriesFit, Lost, Laid, Unmet, Met, columnOf, cellAt, ColumnsFit, Differs, Passed, rowValue, Given, RowFit, RowJudged}
+use Rattle.giving.specs.Lent.{aimAt, aim, Clean, EntriesFit, Lost, Laid, Unmet, Met, columnOf, cellAt, ColumnsFit, Nonzero, Differs, Passed, rowValue, Given, RowFit, RowJudged}
 use Rattle.giving.proofs.LayLaws.{Aiming, aim-cases, aim-kept, fits-kept}
-use Rattle.giving.proofs.PassLaws.{value-once, column-low}
+use Rattle.giving.proofs.PassLaws.{ahead-kept, value-once, column-low, column-once}
 
 -- the value of zero's word, and no other word has it
 zero-is : value zeroWord ≡ pos 0
@@ -88,6 +90,14 @@ module _ (s : List ℕ) (at inner regions : ℕ) (good : subtableOk s at regions
   row-none q d =
       rw (find-none q (regionsAt s at) (λ j l e. d j (omega (arith, long)) (sym (words-at s (at + 6) n j (omega (arith, long))) ∙ e)))
 
+-- a cell of zeros is zero
+cell-zero : (s : List ℕ) (row word j : ℕ) → cellOf s row word j ≡ 0 → cellAt s row word j ≡ pos 0
+unfolding signed
+cell-zero s row word j e =
+    let l : 0 ≤ columnBytes word j = omega arith in
+    let h : 256 ^ 0 ≤ 256 ^ columnBytes word j = pow-top (columnBytes word j) l in
+    rw (e, lt-ltb 0 (256 ^ columnBytes word j) (omega arith)) refl
+
 -- a region has a column or none
 column-or : (s : List ℕ) (at n q : ℕ) → ((j : ℕ) × (j < n) × (columnOf s at j ≡ q)) ⊎ ((j : ℕ) → j < n → columnOf s at j ≡ q → ⊥)
 column-or s at zero q = inr (λ j l e. omega arith)
@@ -138,7 +148,8 @@ module _ (s : List ℕ) (at inner start count : ℕ) (t : Aims) (old : List ℕ)
         columns-in = omega (arith, m-is, sub .rows);
         cells-in = rw (w-is, m-is, r-is) (omega (arith, sub .rows, row-fits (columnAt (wordAt s at) (columnCount s at)) (itemCount s at) inner (f .inner-in)));
         named = rw m-is (subtable-named s at (t .listed) (f .good));
-        room = rw (l .only .long) (f .fits .room);
+        room = f .behind;
+        ahead = ahead-kept (l .only) (f .behind) (f .ahead);
       }
 
       column-cell : (j : ℕ) → j < m → rowValue s at inner (columnOf s (at + 6) j) ≡ cellAt s r w j
@@ -149,6 +160,36 @@ module _ (s : List ℕ) (at inner start count : ℕ) (t : Aims) (old : List ℕ)
 
       column-in : (j : ℕ) → j < m → columnOf s (at + 6) j < t .listed
       column-in j h = column-low s (at + 6) r w m t laid columns-fit j h
+
+      -- the column of a region, where its cell is not zero; else the row has zero for the region
+      module _ (q : ℕ) where
+        abbrev Seen : Type 0
+        Seen = (j : ℕ) × (j < m) × Nonzero s r w j × (columnOf s (at + 6) j ≡ q)
+
+        abbrev Unseen : Type 0
+        Unseen = (rowValue s at inner q ≡ pos 0) × ((j : ℕ) → j < m → Nonzero s r w j → columnOf s (at + 6) j ≡ q → ⊥)
+
+        -- two columns of one region are one
+        zero-there : (i j : ℕ) → i < m → j < m → columnOf s (at + 6) i ≡ q → columnOf s (at + 6) j ≡ q → cellOf s r w i ≡ 0 → Nonzero s r w j → ⊥
+        zero-there i j a b e f z d = go (tri i j)
+          where
+            go : Tri i j → ⊥
+            go (below l) = column-once s (at + 6) r w m t laid columns-fit i j l b (e ∙ sym f)
+            go (same l) = d (ap (λ (k : ℕ). cellOf s r w k) (sym l) ∙ z)
+            go (above l) = column-once s (at + 6) r w m t laid columns-fit j i l a (f ∙ sym e)
+
+        seen-or : Seen ⊎ Unseen
+        seen-or = ⊎-elim
+            (λ (a : (j : ℕ) × (j < m) × (columnOf s (at + 6) j ≡ q)). ⊎-elim
+            (λ (z : cellOf s r w (a .0) ≡ 0).
+            inr (
+              ap (rowValue s at inner) (sym (a .2)) ∙ column-cell (a .0) (a .1) ∙ cell-zero s r w (a .0) z,
+              λ j l d e. zero-there (a .0) j (a .1) l (a .2) e z d,
+            ))
+            (λ d. inl (a .0, a .1, d, a .2))
+            (same-or-not (cellOf s r w (a .0)) 0))
+            (λ (d : (j : ℕ) → j < m → columnOf s (at + 6) j ≡ q → ⊥). inr (no-column q d, λ j l x e. d j l e))
+            (column-or s (at + 6) m q)
 
       module _ (passed : List ℕ) where
         pub not-passed : {ok : Bool} → Passed s (at + 6) r w m t laid passed ok → not ok ≡ true → RowJudged s at inner start count t old passed false
@@ -179,12 +220,12 @@ module _ (s : List ℕ) (at inner start count : ℕ) (t : Aims) (old : List ℕ)
           abbrev aimed : ℕ → ℕ
           aimed q = aim old t (entries start count old) q
 
-          -- a listed region that the row has no column for has the set's word still
-          stays : (q : ℕ) → q < t .listed → ((j : ℕ) → j < m → columnOf s (at + 6) j ≡ q → ⊥) → getD passed (t .values + q) 0 ≡ aimed q
-          stays q b d = p .rest refl q b d ∙ l .is refl q b
+          -- a listed region that the row has zero for has the set's word still
+          stays : (q : ℕ) → q < t .listed → Unseen q → getD passed (t .values + q) 0 ≡ aimed q
+          stays q b d = p .rest refl q b (d .1) ∙ l .is refl q b
 
           module _ (ok : Bool) (e : Met passed start count t ok) where
-            none-left : ok ≡ true → (q : ℕ) → q < t .listed → ((j : ℕ) → j < m → columnOf s (at + 6) j ≡ q → ⊥) → aimed q ≡ zeroWord
+            none-left : ok ≡ true → (q : ℕ) → q < t .listed → Unseen q → aimed q ≡ zeroWord
             none-left z q b d = ⊎-elim
                 (λ (a : aimed q ≡ zeroWord). a)
                 (λ (a : Aiming old t start count q).
@@ -195,23 +236,22 @@ module _ (s : List ℕ) (at inner start count : ℕ) (t : Aims) (old : List ℕ)
 
             reads : ok ≡ true → (q : ℕ) → q < t .listed → rowValue s at inner q ≡ value (aimed q)
             reads z q b = ⊎-elim
-                (λ (a : (j : ℕ) × (j < m) × (columnOf s (at + 6) j ≡ q)).
-                ap (rowValue s at inner) (sym (a .2))
+                (λ (a : Seen q).
+                ap (rowValue s at inner) (sym (a .3))
                 ∙ column-cell (a .0) (a .1)
-                ∙ sym (p .same refl (a .0) (a .1))
-                ∙ ap (λ (k : ℕ). value (getD laid (t .values + k) 0)) (a .2)
+                ∙ sym (p .same refl (a .0) (a .1) (a .2))
+                ∙ ap (λ (k : ℕ). value (getD laid (t .values + k) 0)) (a .3)
                 ∙ ap value (l .is refl q b))
-                (λ (d : (j : ℕ) → j < m → columnOf s (at + 6) j ≡ q → ⊥). no-column q d ∙ sym (ap value (none-left z q b d) ∙ zero-is))
-                (column-or s (at + 6) m q)
+                (λ (d : Unseen q). d .0 ∙ sym (ap value (none-left z q b d) ∙ zero-is))
+                (seen-or q)
 
             cleaned : ok ≡ true → (q : ℕ) → q < t .listed → getD passed (t .values + q) 0 ≡ zeroWord
             cleaned z q b = ⊎-elim
-                (λ (a : (j : ℕ) × (j < m) × (columnOf s (at + 6) j ≡ q)).
-                ap (λ (k : ℕ). getD passed (t .values + k) 0) (sym (a .2)) ∙ p .crossed refl (a .0) (a .1))
-                (λ (d : (j : ℕ) → j < m → columnOf s (at + 6) j ≡ q → ⊥). stays q b d ∙ none-left z q b d)
-                (column-or s (at + 6) m q)
+                (λ (a : Seen q). ap (λ (k : ℕ). getD passed (t .values + k) 0) (sym (a .3)) ∙ p .crossed refl (a .0) (a .1) (a .2))
+                (λ (d : Unseen q). stays q b d ∙ none-left z q b d)
+                (seen-or q)
 
-            -- an entry whose region the row has no column for
+            -- an entry whose region the row has zero for
             left-over : ok ≡ false → Given s at inner old start count t → ⊥
             left-over z g =
                 let x = e .unmet z in
@@ -219,12 +259,12 @@ module _ (s : List ℕ) (at inner start count : ℕ) (t : Aims) (old : List ℕ)
                 let b = l .listed-all refl (x .entry) (x .within) in
                 let here : aimAt passed t (start + 2 * x .entry) ≡ q = aims-same (x .entry) (x .within) in
                 ⊎-elim
-                (λ (a : (j : ℕ) × (j < m) × (columnOf s (at + 6) j ≡ q)).
-                x .differs (ap (λ (k : ℕ). getD passed (t .values + k) 0) (here ∙ sym (a .2)) ∙ p .crossed refl (a .0) (a .1)))
-                (λ (d : (j : ℕ) → j < m → columnOf s (at + 6) j ≡ q → ⊥).
+                (λ (a : Seen q).
+                x .differs (ap (λ (k : ℕ). getD passed (t .values + k) 0) (here ∙ sym (a .3)) ∙ p .crossed refl (a .0) (a .1) (a .2)))
+                (λ (d : Unseen q).
                 x .differs (ap (λ (k : ℕ). getD passed (t .values + k) 0) here ∙ stays q b d
-                ∙ value-once (aimed q) zeroWord (sym (g .reads q b) ∙ no-column q d ∙ sym zero-is)))
-                (column-or s (at + 6) m q)
+                ∙ value-once (aimed q) zeroWord (sym (g .reads q b) ∙ d .0 ∙ sym zero-is)))
+                (seen-or q)
 
             pub row-judged : RowJudged s at inner start count t old passed ok
             row-judged = record {

@@ -22,6 +22,7 @@ use Rattle.stores.proofs.WholeLaws.Slot.{null, good}
 use Rattle.giving.specs.declared.entries.Aims.{Aims}
 use Rattle.giving.specs.Lent.{aimAt, aim, Clean, EntriesFit, Given, RowFit, RowJudged, outerOf, innerOf, startIn, countIn, SetGiven, SetsFit, SetJudged, FirstFailing}
 use Rattle.giving.proofs.LayLaws.{aim-here, aim-else, aim-none, kept-below, aim-kept, fits-kept}
+use Rattle.giving.proofs.PassLaws.{ahead-kept}
 
 -- ---- a store that parses
 
@@ -87,6 +88,8 @@ module _ (s words : List ℕ) (k : ℕ) (t : Aims) (old : List ℕ) where
           row-fit = record {
             fits = rw (start-is, count-is) (f .fits);
             clean = f .clean;
+            behind = f .behind;
+            ahead = f .ahead;
             good = table-good;
             inner-in = omega (arith, i-is);
             inner-low = omega arith;
@@ -169,6 +172,8 @@ module _ (s words : List ℕ) (k : ℕ) (t : Aims) (old new : List ℕ) (f : Set
     row = f .row;
     fits = rw (start-same, count-same) (fits-kept (startIn old k) (countIn old k) t old new (f .fits) o);
     clean = c;
+    behind = f .behind;
+    ahead = ahead-kept o (f .behind) (f .ahead);
   }
 
   pub given-back : SetGiven s words new t k → SetGiven s words old t k

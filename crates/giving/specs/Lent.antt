@@ -14,6 +14,7 @@ use Rattle.laws.specs.Signed.{signed, value, zeroWord}
 use Rattle.sets.specs.Set.{Set}
 use Rattle.sets.specs.Lent.{entries}
 use Rattle.reader.specs.Store.{words, regionCount, find, columnsOk, columnAt, columnBytes, itemCount, regionsAt, subtableOk, inColumn, valueOf}
+use Rattle.cells.specs.Lent.{Ahead, cellOf}
 use Rattle.stores.specs.Stores.{tableCount, offsetAt, parse, parses}
 use Rattle.giving.specs.declared.entries.Aims.{Aims}
 
@@ -76,19 +77,26 @@ pub record ColumnsFit (s : List ℕ) (at row word n : ℕ) (w : List ℕ) (t : A
   pub columns-in : at + 2 * n ≤ length s
   pub cells-in : row + columnAt word n ≤ length s
   pub named : columnsOk (t .listed) (words s at n) ≡ true
-  pub room : t .values + t .listed ≤ length w
+  pub room : t .values + t .listed ≤ t .zeros
+  pub ahead : Ahead s (t .zeros) w
 
--- a column whose value is not that of its region's word
+-- column j's cell is not zero
+abbrev pub Nonzero : List ℕ → (row word j : ℕ) → Type 0
+Nonzero s row word j = cellOf s row word j ≡ 0 → ⊥
+
+-- a column whose cell is not zero, and whose value is not that of its region's word
 pub record Differs (s : List ℕ) (at row word n : ℕ) (w : List ℕ) (t : Aims) : Type 0 where
   pub column : ℕ
   pub within : column < n
+  pub nonzero : Nonzero s row word column
   pub differs : value (getD w (t .values + columnOf s at column) 0) ≡ cellAt s row word column → ⊥
 
 pub record Passed (s : List ℕ) (at row word n : ℕ) (t : Aims) (old new : List ℕ) (r : Bool) : Type 0 where
   pub only : Only ((t .values, t .listed) ∷ []) old new
-  pub same : r ≡ true → (j : ℕ) → j < n → value (getD old (t .values + columnOf s at j) 0) ≡ cellAt s row word j
-  pub crossed : r ≡ true → (j : ℕ) → j < n → getD new (t .values + columnOf s at j) 0 ≡ zeroWord
-  pub rest : r ≡ true → (q : ℕ) → q < t .listed → ((j : ℕ) → j < n → columnOf s at j ≡ q → ⊥) → getD new (t .values + q) 0 ≡ getD old (t .values + q) 0
+  pub same : r ≡ true → (j : ℕ) → j < n → Nonzero s row word j → value (getD old (t .values + columnOf s at j) 0) ≡ cellAt s row word j
+  pub crossed : r ≡ true → (j : ℕ) → j < n → Nonzero s row word j → getD new (t .values + columnOf s at j) 0 ≡ zeroWord
+  pub rest : r ≡ true → (q : ℕ) → q < t .listed → ((j : ℕ) → j < n → Nonzero s row word j → columnOf s at j ≡ q → ⊥)
+      → getD new (t .values + q) 0 ≡ getD old (t .values + q) 0
   pub other : r ≡ false → Differs s at row word n old t
 
 -- ---- a row
@@ -105,6 +113,8 @@ pub record Given (s : List ℕ) (at inner : ℕ) (w : List ℕ) (start count : �
 pub record RowFit (s : List ℕ) (at inner : ℕ) (w : List ℕ) (start count : ℕ) (t : Aims) : Type 0 where
   pub fits : EntriesFit w start count t
   pub clean : Clean w t
+  pub behind : t .values + t .listed ≤ t .zeros
+  pub ahead : Ahead s (t .zeros) w
   pub good : subtableOk s at (t .listed) ≡ true
   pub inner-in : inner < itemCount s at
   pub inner-low : inner < 65536
@@ -146,6 +156,8 @@ pub record SetsFit (s : List ℕ) (k : ℕ) (w : List ℕ) (t : Aims) : Type 0 w
   pub row : 2 * k + 2 ≤ t .to
   pub fits : EntriesFit w (startIn w k) (countIn w k) t
   pub clean : Clean w t
+  pub behind : t .values + t .listed ≤ t .zeros
+  pub ahead : Ahead s (t .zeros) w
 
 pub record SetJudged (s words : List ℕ) (k : ℕ) (t : Aims) (old new : List ℕ) (r : Bool) : Type 0 where
   pub only : Only ((t .values, t .listed) ∷ []) old new

@@ -1,6 +1,7 @@
-// The columns of one row, each compared with the word of its region.
+// The cells of one row that are not zero, each compared with the word of its column's region.
 use crate::entries::Aims;
 use crate::entries::ZERO;
+use cells::next_cell;
 use reader::be;
 use reader::column_at;
 use reader::column_bytes;
@@ -38,8 +39,8 @@ fn cell(store: &[u8], p: usize, k: usize) -> u32
     (0x8000_0000 + x - m) as u32
 }
 
-// Whether each of n columns has the word of its region. Those that were looked at have zero's afterwards. The subtable's region indexes are at `at`,
-// and the row at `row`.
+// Whether each of n columns whose cell is not zero has the word of its region. Those regions have zero's afterwards; no other cell is looked at. The
+// subtable's region indexes are at `at`, and the row at `row`.
 pub fn pass(
     store: &[u8],
     at: usize,
@@ -54,13 +55,17 @@ pub fn pass(
 {
     let mut j = 0;
     while j < n {
-        let q = be(store, at + 2 * j, 2);
-        let v = cell(store, row + column_at(word, j), column_bytes(word, j));
+        let i = next_cell(store, work, t.zeros, row, word, n, j);
+        if n <= i {
+            return true;
+        }
+        let q = be(store, at + 2 * i, 2);
+        let v = cell(store, row + column_at(word, i), column_bytes(word, i));
         if work[t.values + q] != v {
             return false;
         }
         work[t.values + q] = ZERO;
-        j += 1;
+        j = i + 1;
     }
     true
 }

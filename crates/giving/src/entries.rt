@@ -9,11 +9,12 @@ ghost use Rattle.giving.specs.Lent.{aimAt, Clean, EntriesFit, Laid, Met}
 pub const ZERO: u32 = 0x8000_0000;
 
 // Tables in work: from `to` on, by region index, the listed region of the same coordinates, or a number that is no listed region's; from `values` on a
-// word for each of so many listed regions.
+// word for each of so many listed regions; from `zeros` on, for each byte of the store, how many zeros there are from it on.
 pub struct Aims {
     pub to: usize,
     pub listed: usize,
     pub values: usize,
+    pub zeros: usize,
 }
 
 // Lays the values of so many entries, from `start` on, out by listed region, the last entry first. Or one names a region that is not listed.

@@ -183,6 +183,7 @@ module _ {axes records sets uses : ℕ} {job store w : List ℕ} (f : JudgeFit a
         room = rw (m .only .long) (sides-fit .room);
         few = sides-fit .few;
       };
+      room = rw (m .only .long) (omega (arith, split, listed-words, list-long, uses-words, f .room, k .only .long));
       used-are = λ u l. used-same u l ∙ used-said u l;
       held = held-kept (f .held .held) kept-all;
       sets-are = sets-same (f .held .held) kept-all ∙ f .held .sets-are;

@@ -20,7 +20,7 @@ use Rattle.giving.specs.Lent.{Clean, EntriesFit, startIn, countIn, SetGiven, Se
 use Rattle.judging.specs.declared.judging.Judged.{Judged}
 use Rattle.judging.specs.declared.judging.Judged.the-variants.{Refused, Right, WrongSet, WrongStore}
 use Rattle.judging.specs.Judge.{setGiven, firstFailing, judgedIn}
-use Rattle.judging.specs.LentJudge.{NotFirst, Firsts, Filled, Sided}
+use Rattle.judging.specs.LentJudge.{NotFirst, Firsts, SetOut, Sided}
 use Rattle.judging.proofs.EntryFacts.{entry-proper}
 use Rattle.judging.proofs.FailLaws.{all-right, first-wrong}
 use Rattle.judging.proofs.GivenLaws.{Aimed, SetIn, given-said, not-said}
@@ -28,7 +28,7 @@ use Rattle.judging.proofs.SideFacts.{distinct-once, not-once, parse-is-
 
 -- the tables that sets are judged by
 abbrev pub aimsOf : Sides → Aims
-aimsOf t = record { to = firstsOf t + t .listed; listed = t .listed; values = firstsOf t + total t }
+aimsOf t = record { to = firstsOf t + t .listed; listed = t .listed; values = firstsOf t + total t; zeros = firstsOf t + total t + t .listed }
 
 module _ {store job : List ℕ} {sets : ℕ} {w : List ℕ} {t : Sides} (f : Sided store job sets w t) (bytes : (k : ℕ) → getD store k 0 < 256) (words : List ℕ) where
   abbrev q : Parsed
@@ -64,7 +64,7 @@ module _ {store job : List ℕ} {sets : ℕ} {w : List ℕ} {t : Sides} (f : Sid
     sets-are : length (f .said .sets) ≡ sets
     sets-are = ap length (sym (f .sets-are)) ∙ sets-length 0 sets w
 
-    module _ (new : List ℕ) (c : Filled (firstsOf t + total t) (t .listed) w new) where
+    module _ (new : List ℕ) (c : SetOut store (firstsOf t + total t) (t .listed) w new) where
       kept : Kept (t .used) w new
       kept = kept-only (c .only) (omega (arith, f .fits .used-to), tt)
 
@@ -120,6 +120,8 @@ module _ {store job : List ℕ} {sets : ℕ} {w : List ℕ} {t : Sides} (f : Sid
         row = omega (arith, f .held .rows, f .fits .used-to);
         fits = entries-fit k l;
         clean = record { zero = c .is };
+        behind = omega arith;
+        ahead = c .ahead;
       }
 
       module _ (r : ℕ) {last : List ℕ} (x : FirstFailing store words sets (aimsOf t) new last r) where

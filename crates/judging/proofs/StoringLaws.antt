@@ -12,11 +12,12 @@ use Rattle.laws.specs.LentRange.{Only, seg, Zeroed}
 use Rattle.laws.specs.Signed.{zeroWord}
 use Rattle.laws.proofs.Cases.{true-false}
 use Rattle.laws.proofs.PartLaws.{only-mid}
-use Rattle.laws.proofs.RangeLaws.{only-refl, only-trans, only-set}
+use Rattle.laws.proofs.RangeLaws.{only-refl, only-trans, only-set, only-widen}
 use Rattle.laws.proofs.ZeroLaws.{zeroed-part}
 use Rattle.reader.proofs.StoreLaws.{zeros-at}
+use Rattle.cells.specs.Lent.{LooksAhead}
 use Rattle.stores.specs.Stores.{parse, parses}
-use Rattle.judging.specs.LentJudge.{Looked, NotFirst, Firsts, Filled}
+use Rattle.judging.specs.LentJudge.{Looked, NotFirst, Firsts, Filled, SetOut}
 
 -- ---- the word of zero for each
 
@@ -40,6 +41,16 @@ module _ (at n : ℕ) (old : List ℕ) (room : at + n ≤ length old) where
 
   pub filling-done : (new : List ℕ) (i : ℕ) → Filling at n old new i → n ≤ i → Filled at n old new
   filling-done new i g h = record { only = g .only; is = λ k l. g .done k (omega arith) }
+
+-- and the zeros of the store behind them
+pub set-out : (store : List ℕ) (at n : ℕ) (old mid new : List ℕ) → Filled at n old mid → LooksAhead store (at + n) mid new → SetOut store at n old new
+set-out store at n old mid new f l = record {
+  only = only-trans
+      (only-widen at (n + length store) (omega arith) (omega arith) (f .only))
+      (only-widen at (n + length store) (omega arith) (omega arith) (l .only));
+  is = λ k h. l .only .kept (at + k) (record { apart = λ z. absurd (omega arith) }, tt) ∙ f .is k h;
+  ahead = l .ahead;
+}
 
 -- ---- each its own number
 

@@ -40,9 +40,9 @@ pub words-long : (n r bytes : ℕ) → n ≤ mostRecords → 0x4000_0000_0000_00
 unfolding judgeWords
 words-long n r bytes h l = rw (le-leb n mostRecords h, lt-leb bytes 0x4000_0000_0000_0000 l)
 
-pub words-both : (n r bytes w : ℕ) → n ≤ mostRecords → bytes ≤ 0x4000_0000_0000_0000 → w ≡ workWords n r → w + 2 * bytes ≡ judgeWords n r bytes
+pub words-both : (n r bytes w : ℕ) → n ≤ mostRecords → bytes ≤ 0x4000_0000_0000_0000 → w ≡ workWords n r → w + 3 * bytes ≡ judgeWords n r bytes
 unfolding judgeWords
-words-both n r bytes w h l e = rw (le-leb n mostRecords h, le-leb bytes 0x4000_0000_0000_0000 l) (ap (λ (k : ℕ). k + 2 * bytes) (e ∙ published-words n r h))
+words-both n r bytes w h l e = rw (le-leb n mostRecords h, le-leb bytes 0x4000_0000_0000_0000 l) (ap (λ (k : ℕ). k + 3 * bytes) (e ∙ published-words n r h))
 
 -- ---- the refusals
 

@@ -53,9 +53,9 @@ judgedOf axes store words (fine s) = judgedIn axes words s (parse store)
 
 -- ---- a call
 
--- the words of work for so many records and regions, and a store of so many bytes: the job's number, and two words a byte
+-- the words of work for so many records and regions, and a store of so many bytes: the job's number, and three words a byte
 abbrev pub judgeWork : (records regions bytes : ℕ) → ℕ
-judgeWork n r bytes = publishedWork n r + 2 * bytes
+judgeWork n r bytes = publishedWork n r + 3 * bytes
 
 -- as it is asked for: 0 above the record limit, and for more bytes than any slice has; more regions than there may be count as so many
 unfoldable pub judgeWords : (records regions bytes : ℕ) → ℕ

@@ -14,6 +14,7 @@ use Rattle.said.specs.Job.{Said, inAxes, recordsFrom, fine}
 use Rattle.job.specs.Lent.{JobHeld}
 use Rattle.reader.specs.Store.{axisCount, regionCount, listAt}
 use Rattle.stores.specs.Stores.{parse, parses}
+use Rattle.cells.specs.Lent.{Ahead}
 use Rattle.matching.specs.declared.Sides.{Sides}
 use Rattle.matching.specs.Lent.{total, scratch, firstsOf, FirstSide, SidesFit}
 
@@ -22,7 +23,7 @@ use Rattle.matching.specs.Lent.{total, scratch, firstsOf, FirstSide, SidesFit}
 -- what refusals 1, 3 and 4 leave
 pub record JudgeOpen (axes : ℕ) (job : List ℕ) (store work : ℕ) : Type 0 where
   pub passed : Open axes 0 job work pairRecords
-  pub room : 16 * recordCount job + 2 * store ≤ work
+  pub room : 16 * recordCount job + 3 * store ≤ work
 
 -- ---- the store by itself
 
@@ -44,6 +45,12 @@ pub record Filled (at n : ℕ) (old new : List ℕ) : Type 0 where
   pub only : Only ((at, n) ∷ []) old new
   pub is : (k : ℕ) → k < n → getD new (at + k) 0 ≡ zeroWord
 
+-- and behind them the zeros of the store
+pub record SetOut (store : List ℕ) (at n : ℕ) (old new : List ℕ) : Type 0 where
+  pub only : Only ((at, n + length store) ∷ []) old new
+  pub is : (k : ℕ) → k < n → getD new (at + k) 0 ≡ zeroWord
+  pub ahead : Ahead store (at + n) new
+
 -- ---- a job whose sets work holds, and room for judging
 
 pub record JudgeFit (axes : ℕ) (job : List ℕ) (records sets uses store : ℕ) (w : List ℕ) : Type 0 where
@@ -52,7 +59,7 @@ pub record JudgeFit (axes : ℕ) (job : List ℕ) (records sets uses store : ℕ
   pub few : records ≤ mostRecords
   pub bytes : (k : ℕ) → getD job k 0 < 256
   pub whole : recordStart records ≤ length job
-  pub room : 16 * records + 2 * store ≤ length w
+  pub room : 16 * records + 3 * store ≤ length w
   pub regions : ℕ
   pub values : ℕ
   pub held : JobHeld axes 0 job records w regions sets values uses
@@ -73,6 +80,7 @@ pub record Sided (store job : List ℕ) (sets : ℕ) (w : List ℕ) (t : Sides) 
   pub list-is : t .list ≡ listAt store + 4
   pub uses-are : t .uses ≡ length (said .used)
   pub fits : SidesFit store job t w
+  pub room : t .index + scratch t + length store ≤ length w
   pub used-are : (u : ℕ) → u < t .uses → getD w (t .used + u) 0 ≡ getD (said .used) u 0
   pub held : Held w 0 sets (t .uses) (t .used)
   pub sets-are : setsIn 0 sets w ≡ said .sets

@@ -1,6 +1,6 @@
 // A job, a store and a word for each set: whether the store gives every set at its word.
 use crate::storing::all_first;
-use crate::storing::fill;
+use crate::storing::set_out;
 use crate::storing::store_ok;
 use crate::work::judge_no;
 use giving::Aims;
@@ -46,11 +46,12 @@ fn by_sets(
     if !all_first(work, first, t.listed) {
         return Judged::WrongStore;
     }
-    fill(work, values, t.listed);
+    set_out(store, work, values, t.listed);
     let aims = Aims {
         to: first + t.listed,
         listed: t.listed,
         values,
+        zeros: values + t.listed,
     };
     let k = first_failing(store, words, sets, work, aims);
     if k < sets {

@@ -1,11 +1,12 @@
-// The store by itself: whether it is well formed throughout, and lists no region twice.
+// The store by itself: whether it is well formed throughout, and lists no region twice; where its zeros are.
+use cells::look_ahead;
 use laws::wide;
 use laws::zero_part;
 use stores::whole_ok;
 ghost use mathlib.Core.Path.{_≡_};
 ghost use Prim.Native.Nat.{_+_, _≤_};
 ghost use lib.ListN.{length};
-ghost use Rattle.judging.specs.LentJudge.{Looked, Firsts, Filled};
+ghost use Rattle.judging.specs.LentJudge.{Looked, Firsts, Filled, SetOut};
 
 // The word of zero.
 const ZERO: u32 = 0x8000_0000;
@@ -36,7 +37,7 @@ pub fn all_first(work: &[u32], first: usize, n: usize) -> bool
 }
 
 // The word of zero for each of n words from `at` on.
-pub fn fill(work: &mut [u32], at: usize, n: usize)
+fn fill(work: &mut [u32], at: usize, n: usize)
     requires { ⌜ at + n ≤ length (now work) ⌝ }
     ensures { λ _. ⌜ Filled at n (now (work .entry)) (now (work .exit)) ⌝ }
 {
@@ -45,4 +46,13 @@ pub fn fill(work: &mut [u32], at: usize, n: usize)
         work[at + i] = ZERO;
         i += 1;
     }
+}
+
+// The word of zero for each of n words from `at` on; behind them, for each byte of the store, how many zeros there are from it on.
+pub fn set_out(store: &[u8], work: &mut [u32], at: usize, n: usize)
+    requires { ⌜ at + n + length (now store) ≤ length (now work) ⌝ }
+    ensures { λ _. ⌜ SetOut (now (store .entry)) at n (now (work .entry)) (now (work .exit)) ⌝ }
+{
+    fill(work, at, n);
+    look_ahead(store, work, at + n);
 }

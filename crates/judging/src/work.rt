@@ -23,7 +23,7 @@ pub fn judge_words(records: usize, regions: usize, bytes: usize) -> usize
     if MOST_BYTES < bytes {
         return 0;
     }
-    work_words(records, regions) + 2 * bytes
+    work_words(records, regions) + 3 * bytes
 }
 
 // Refusals 1, 3 and 4 in that order, or 0, of a job and a store of so many bytes.
@@ -35,10 +35,10 @@ pub fn judge_no(axes: u32, job: &[u8], store: usize, work: usize) -> usize
     if no != 0 {
         return no;
     }
-    if work / 2 < store {
+    if work / 3 < store {
         return Refusal::WORK_SHORT;
     }
-    if work - 2 * store < work_words(records_in(job.len()), head_regions(axes, job)) {
+    if work - 3 * store < work_words(records_in(job.len()), head_regions(axes, job)) {
         return Refusal::WORK_SHORT;
     }
     0

@@ -8,7 +8,7 @@ use Rattle.judging.proofs.judging.by_sets.Reads as reads
 use Rattle.judging.proofs.judging.by_sets.Lts as lts
 use Rattle.giving.proofs.first_failing.Reads as first-failing-reads
 use Rattle.judging.proofs.storing.all_first.Reads as all-first-reads
-use Rattle.judging.proofs.storing.fill.Reads as fill-reads
+use Rattle.judging.proofs.storing.set_out.Reads as set-out-reads
 
 add-all : tie.Need-add-all
 add-all c = omega (arith, c .before .before .before .before .before .pre .fits .few)
@@ -43,26 +43,29 @@ same-length c = search needs
 returns : tie.Need-returns
 returns c = λ f. wrong-store f (λ k. omega (arith, c .before .before .before .before .before .before .before .before .before .shared-slice-known .given k)) (c .before .before .before .before .before .before .before .before .before .before .args .words .now) (c .before .all-first .ensures) (c .if1 .taken)
 
-fill-requires : tie.Need-fill-requires
-fill-requires c κs = omega (arith, c .before .before .before .before .before .before .before .before .before .before .before .pre .fits .room)
+set-out-requires : tie.Need-set-out-requires
+set-out-requires c κs = omega (arith, c .before .before .before .before .before .before .before .before .before .before .before .pre .room)
 
 add-t12 : tie.Need-add-t12
 add-t12 c = omega (arith, c .before .before .before .before .before .before .before .before .before .before .before .before .before .before .before .pre .fits .few)
 
+add-t13 : tie.Need-add-t13
+add-t13 c = omega (arith, c .before .before .before .before .before .before .before .before .before .before .before .before .before .before .before .before .pre .fits .few)
+
 first-failing-requires : tie.Need-first-failing-requires
-first-failing-requires c κs = sets-fit (c .before .before .before .before .before .before .before .before .before .before .before .before .before .before .before .before .pre) (λ k. omega (arith, c .before .before .before .before .before .before .before .before .before .before .before .before .before .before .before .shared-slice-known .given k)) (c .before .before .before .before .before .before .before .before .before .before .before .before .before .before .before .before .args .words .now) (c .before .before .before .before .before .before .before .all-first .ensures) (c .before .before .before .before .before .before .if1 .left) _ (c .before .before .before .before .fill .ensures)
+first-failing-requires c κs = sets-fit (c .before .before .before .before .before .before .before .before .before .before .before .before .before .before .before .before .before .pre) (λ k. omega (arith, c .before .before .before .before .before .before .before .before .before .before .before .before .before .before .before .before .shared-slice-known .given k)) (c .before .before .before .before .before .before .before .before .before .before .before .before .before .before .before .before .before .args .words .now) (c .before .before .before .before .before .before .before .before .all-first .ensures) (c .before .before .before .before .before .before .before .if1 .left) _ (c .before .before .before .before .before .set-out .ensures)
 
 same-length-2 : tie.Need-same-length-2
 same-length-2 c = search needs
 
 returns-2 : tie.Need-returns-2
-returns-2 c = λ f. wrong-set f (λ k. omega (arith, c .before .before .before .before .before .before .before .before .before .before .before .before .before .before .before .before .before .before .before .shared-slice-known .given k)) (c .before .before .before .before .before .before .before .before .before .before .before .before .before .before .before .before .before .before .before .before .args .words .now) (c .before .before .before .before .before .before .before .before .before .before .before .all-first .ensures) (c .before .before .before .before .before .before .before .before .before .before .if1 .left) _ (c .before .before .before .before .before .before .before .before .fill .ensures) _ (c .before .before .before .first-failing .ensures) (omega arith)
+returns-2 c = λ f. wrong-set f (λ k. omega (arith, c .before .before .before .before .before .before .before .before .before .before .before .before .before .before .before .before .before .before .before .before .shared-slice-known .given k)) (c .before .before .before .before .before .before .before .before .before .before .before .before .before .before .before .before .before .before .before .before .before .args .words .now) (c .before .before .before .before .before .before .before .before .before .before .before .before .all-first .ensures) (c .before .before .before .before .before .before .before .before .before .before .before .if1 .left) _ (c .before .before .before .before .before .before .before .before .before .set-out .ensures) _ (c .before .before .before .first-failing .ensures) (omega arith)
 
 same-length-3 : tie.Need-same-length-3
 same-length-3 c = search needs
 
 returns-3 : tie.Need-returns-3
-returns-3 c = λ f. right-store f (λ k. omega (arith, c .before .before .before .before .before .before .before .before .before .before .before .before .before .before .before .before .before .before .before .shared-slice-known .given k)) (c .before .before .before .before .before .before .before .before .before .before .before .before .before .before .before .before .before .before .before .before .args .words .now) (c .before .before .before .before .before .before .before .before .before .before .before .all-first .ensures) (c .before .before .before .before .before .before .before .before .before .before .if1 .left) _ (c .before .before .before .before .before .before .before .before .fill .ensures) _ (c .before .before .before .first-failing .ensures) (omega arith)
+returns-3 c = λ f. right-store f (λ k. omega (arith, c .before .before .before .before .before .before .before .before .before .before .before .before .before .before .before .before .before .before .before .before .shared-slice-known .given k)) (c .before .before .before .before .before .before .before .before .before .before .before .before .before .before .before .before .before .before .before .before .before .args .words .now) (c .before .before .before .before .before .before .before .before .before .before .before .before .all-first .ensures) (c .before .before .before .before .before .before .before .before .before .before .before .if1 .left) _ (c .before .before .before .before .before .before .before .before .before .set-out .ensures) _ (c .before .before .before .first-failing .ensures) (omega arith)
 
 pub by-sets-spec : {M : Type 1} → statement M
 by-sets-spec =
@@ -79,8 +82,9 @@ by-sets-spec =
     all-first-requires
     same-length
     returns
-    fill-requires
+    set-out-requires
     add-t12
+    add-t13
     first-failing-requires
     same-length-2
     returns-2
