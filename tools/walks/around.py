@@ -82,7 +82,8 @@ class Crate:
             s.lines += [f"{here(k.crate, 'specs')}.declared.{k.path}: {k.denot}", f"{here(k.crate, 'proofs')}.{k.path} as {k.a}", f"{here(k.crate, 'proofs')}.{k.path}.Laws as {k.a}′"]
             if isinstance(k, Enum):
                 s.lines.append(f"{here(k.crate, 'specs')}.declared.{k.path}.the-variants: " + " ".join(v for v, _ in k.fields))
-        s.lines += [f"{here('pairs', 'proofs')}.Loan: Loan both Gives gives loan-call", f"{here('pairs', 'proofs')}.Slices: ref Has Sees lent-mut lent-shr lent-see", f"{here('pairs', 'proofs')}.Refs: HasRef at-ref lent-ref", f"{here('pairs', 'proofs')}.Clauses: needs-more needs-none"]
+        s.lines += [f"{here('pairs', 'proofs')}.Loan: Loan both Gives gives loan-call", f"{here('pairs', 'proofs')}.Slices: ref Has Sees lent-mut lent-shr lent-see", f"{here('pairs', 'proofs')}.Refs: HasRef at-ref lent-ref", f"{here('pairs', 'proofs')}.Clauses: needs-more needs-none",
+                    f"{here('ivs', 'proofs')}.Together: lent-two uint-halves"]
         for f in fns:
             f.crate = f.crate or name
             s.fns[f.mir()] = f
@@ -112,6 +113,7 @@ module _ {ALL} (mem : Memory → SProp 𝓤) (run : Routine → Fun 𝓤) where
 
     def walk(s, f, mir):
         types, stmts = mir[f.mir()]
+        assert not any(x.life for x in f.slices), f"{f.name}: a walked function has a lifetime for each slice"
         d, S, K, N = f.d, f.slices, len(f.slices), len(types)
         used = []
         w = Walk(f, s.fns, types, used)

@@ -61,8 +61,11 @@ def said(clauses, e):  # what is left of a goal once all that is owned was frame
     return " $ ".join([f"use0 W (raw (fact 𝓤 ({t}))) (factI 𝓤 ({t}) (emp 𝓤) {one(i)})" for i, t in reversed(list(enumerate(clauses)))] + ["done !"])
 
 
+COPIED = ("see", "two")  # a copy of a `&`, and two of them at one lifetime: whoever lends them has them as they were
+
+
 def call_name(fn, modes):
-    return fn.d + ("-call" if "see" not in modes else "-seen" if len(modes) == 1 else "-" + "-".join(modes))
+    return fn.d + ("-call" if not any(m in COPIED for m in modes) else "-seen" if len(modes) == 1 else "-" + "-".join(modes))
 
 
 def values(fn):
@@ -76,40 +79,46 @@ def prime(fn, text, to):  # the exit's lists by other names
 
 
 def call(fn, modes):
-    C, k, nm, S = fn.contract, fn.key(), fn.d, fn.slices
+    C, k, nm, S, L = fn.contract, fn.key(), fn.d, fn.slices, fn.loans
     name = call_name(fn, modes)
-    K = len(S)
+    K = len(L)
     args = "".join(f" ({p[0]} : {p[1].denot})" for p in fn.args)
     hyps = "".join(f"{p[1].has(p[0])} → " for p in fn.args)
     gs = "".join(f" g-{p[0]}" for p in fn.args)
     v = fn.result
     gpath = lambda i: "g" + part(i, K)
-    x = lambda s: "x" + part(s.at, K)
-    lft = lambda s: f"{gpath(s.at)} .0 ∷ []" if modes[s.at] != "see" else s.kappa
+    x = lambda s: "x" + part(s.loan, K)
+    lft = lambda s: {"see": s.kappa, "two": f"{gpath(s.loan)} ∷ []"}.get(modes[s.at], f"{gpath(s.loan)} .0 ∷ []")
     share = lambda s: "fullShare" if modes[s.at] != "see" else s.share
-    gname = lambda s: f"({gpath(s.at)} .1)" if modes[s.at] != "see" else s.gamma
-    left = times([f"List {s.denot}" if modes[s.at] == "mut" else "Unit {0}" for s in S]) if S else ""
+    gname = lambda s: f"({gpath(s.loan)} .1)" if modes[s.at] not in COPIED else s.gamma
+    left = times([f"List {s.denot}" if modes[s.at] == "mut" else "Unit {0}" for s, *_ in L]) if S else ""
     sized = [s for s in S if not s.array]
-    back = lambda s: {"mut": s.has(f"({x(s)})"), "shr": f"Has {s.of} 𝓤 {s.n} {s.name}", "see": f"Sees {s.of} 𝓤 {s.n} {s.name}"}[modes[s.at]]
+    lent = [s for s in sized if modes[s.at] not in COPIED]
+    back = lambda s: {"mut": s.has(f"({x(s)})"), "shr": f"Has {s.of} 𝓤 {s.n} {s.name}"}.get(modes[s.at], f"Sees {s.of} 𝓤 {s.n} {s.name}")
     loan = lambda s: f"lent-ref {s.of} 𝓤 H A W {s.name}" if s.array else {"mut": f"lent-mut {s.of} 𝓤 H A W {s.name} {s.n} {s.long} {s.room}", "shr": f"lent-shr {s.of} 𝓤 H A W {s.name} {s.n} {s.long}",
                       "see": f"lent-see {s.of} 𝓤 H A W {s.name} {s.n}"}[modes[s.at]]
-    def loans(ss):
-        return loan(ss[0]) if len(ss) == 1 else f"both 𝓤 H A W ({loan(ss[0])}) ({loans(ss[1:])})"
-    def backs(ss):
-        return back(ss[0]) if len(ss) == 1 else f"({back(ss[0])} ⊛ {backs(ss[1:])})"
+    halves = lambda s: f"(uint-halves w{s.row[1:]} 𝓤 H A W {s.name} {' '.join(s.vars.split()[3:])})"
+    def two(s, t):
+        return f"lent-two {s.of} {t.of} 𝓤 H A W {s.n} {s.name} {t.n} {t.name} {halves(s)} {halves(t)}"
+    def loans(ls):
+        first = loan(ls[0][0]) if len(ls[0]) == 1 else two(*ls[0])
+        return first if len(ls) == 1 else f"both 𝓤 H A W ({first}) ({loans(ls[1:])})"
+    def backs(ls):
+        first = back(ls[0][0]) if len(ls[0]) == 1 else f"({' ⊛ '.join(back(s) for s in ls[0])})"
+        return first if len(ls) == 1 else f"({first} ⊛ {backs(ls[1:])})"
     phi = prime(fn, fn.ensures, lambda s: f"({x(s)})" if K > 1 else "x")
-    lengths = "".join(f" ({s.long} : length {s.name} ≡ {s.n})" for s in sized if modes[s.at] != "see") + "".join(f" ({s.room} : Room {s.row} {s.n})" for s in sized if modes[s.at] == "mut")
-    lnames = "".join(f" {s.long}" for s in sized if modes[s.at] != "see") + "".join(f" {s.room}" for s in sized if modes[s.at] == "mut")
+    lengths = "".join(f" ({s.long} : length {s.name} ≡ {s.n})" for s in lent) + "".join(f" ({s.room} : Room {s.row} {s.n})" for s in sized if modes[s.at] == "mut")
+    lnames = "".join(f" {s.long}" for s in lent) + "".join(f" {s.room}" for s in sized if modes[s.at] == "mut")
     slices = "".join(f" {s.names} ({s.n} : ℕ) ({s.name} : List {s.denot})" for s in S)
-    ghost = f"{nest([lft(s) for s in S])}, {nest([share(s) for s in S])}, tt"
+    ghost = f"{nest([lft(s) for s, *_ in L])}, {nest([share(s) for s, *_ in L])}, tt"
     refs = nest([p.ref(gname(p)) if isinstance(p, Slice) else p[0] for p in fn.params])
     vals = nest([(p.value if isinstance(p, Slice) else p[1].val(p[0])) + " ∷ []" for p in fn.params])
     vs = values(fn)
     con = f"{C} 𝓤 H A mem run"
-    lfts = nest([lft(s) for s in S])
-    tokens = "".join(f"‵ (flft ({lft(s)}) {share(s)}) ⊛ " for s in S) + "‵ ftrue"
-    fits = pairs_of([f"l{sub(s.at)} ∙ {s.long}" if modes[s.at] == "mut" and s in sized else "tt" for s in S]) if S else ""
-    wsx = pairs_of(["ws" + path(fn.params.index(s)) if modes[s.at] == "mut" else "tt" for s in S]) if S else ""
+    lfts = nest([lft(s) for s, *_ in L])
+    tokens = "".join(f"‵ (flft ({lft(s)}) {share(s)}) ⊛ " for s, *_ in L) + "‵ ftrue"
+    fits = pairs_of([f"l{sub(s.at)} ∙ {s.long}" if modes[s.at] == "mut" and s in sized else "tt" for s, *_ in L]) if S else ""
+    wsx = pairs_of(["ws" + path(fn.params.index(s)) if modes[s.at] == "mut" else "tt" for s, *_ in L]) if S else ""
     at = f"at-{name}" + (" g" if S else "")
     # how the callee's post is taken apart
     c = Context(["lasts", "fact", "toks-own"])
@@ -140,35 +149,37 @@ def call(fn, modes):
             c.p(f"feqL ! (λ l{sub(p.at)}.")
             c.par += 1
     c.split("toks-own", "toks", "res")
-    for s in S:
+    for s, *_ in L:
         c.split("toks", "tok-" + s.name, "toks")
     c.p("at-once ! $")
-    for s in S:
+    for s, *_ in L:
         if modes[s.at] == "mut":
             c.join("tok-" + s.name, "fin-" + s.name, "c-" + s.name)
         else:
             c.ctx[c.at("tok-" + s.name)] = "c-" + s.name
     if S:
-        c.chain(["c-" + s.name for s in S[:-1]], "c-" + S[-1].name, "comes")
+        c.chain(["c-" + s.name for s, *_ in L[:-1]], "c-" + L[-1][0].name, "comes")
         c.ctx[c.at("comes" if K > 1 else "c-" + S[0].name)] = "comes"
         c.p(f"keep ! ({c.at('comes')} ∷ {c.at('res')} ∷ []) $ by ! (gives 𝓤 H A W (Loan-{name}{lnames}) {v.row} (λ x r. {phi}) g w r {atom(wsx)} ({fits}, {e})){')' * c.par}))")
     else:
         c.p(f"keep ! ({c.at('res')} ∷ []) $ show ! (λ (r : {v.denot}). guard 𝓤 ({phi}) (sem 𝓤 H A ({v.row} .own r (w ∷ [])))) r $ check ! {e} $ done !{')' * c.par}))")
     # how its pre is put together
     n = Context(["goes"] if S else [])
-    for i, s in enumerate(S):
+    for i, (s, *other) in enumerate(L):
         if i < K - 1:
             n.split("goes", "this", "goes")
         n.split("this" if i < K - 1 else "goes", "tok-" + s.name, "own-" + s.name)
+        for t in other:
+            n.split("own-" + s.name, "own-" + s.name, "own-" + t.name)
     n.new("toks", "nothing !")
-    n.chain(["tok-" + s.name for s in S], "toks", "toks")
+    n.chain(["tok-" + s.name for s, *_ in L], "toks", "toks")
     owns(n, fn)
     n.join("toks", "own", "all")
     n.gone("all", "frame !")
     n.p(said(fn.asks(), "l"))
-    names = times(["(ℕ × GName)" if modes[s.at] != "see" else "Unit {0}" for s in S]) if S else ""
+    names = times([{"see": "Unit {0}", "two": "ℕ"}.get(modes[s.at], "(ℕ × GName)") for s, *_ in L]) if S else ""
     gb = f" (g : {names}) →" if S else ""
-    known = times([f"(length ({x(s)}) ≡ {s.n})" if modes[s.at] == "mut" and s in sized else "Unit {0}" for s in S]) if S else ""
+    known = times([f"(length ({x(s)}) ≡ {s.n})" if modes[s.at] == "mut" and s in sized else "Unit {0}" for s, *_ in L]) if S else ""
     gv = " g" if S else ""
     gives = f"Gives 𝓤 H A W (Loan-{name}{lnames}) {v.row} (λ x r. {phi}) g w" if S else f"After-{name} w"
     lemma = f"""
@@ -176,10 +187,10 @@ def call(fn, modes):
 """
     if S:
         lemma += f"""    abbrev Loan-{name} :{lengths and lengths + ' →'} Loan 𝓤 H A
-    Loan-{name}{lnames} = {loans(S)}
+    Loan-{name}{lnames} = {loans(L)}
 
     abbrev pub After-{name} : Val → Item 𝓤
-    After-{name} w = later (some (λ (r : {v.denot}). some (λ (x : {left}). given (({known}) × ({phi})) ({backs(S)} ⊛ ‵ ({v.row} .own r (w ∷ []))))))
+    After-{name} w = later (some (λ (r : {v.denot}). some (λ (x : {left}). given (({known}) × ({phi})) ({backs(L)} ⊛ ‵ ({v.row} .own r (w ∷ []))))))
 """
     else:
         lemma += f"""    abbrev pub After-{name} : Val → Item 𝓤

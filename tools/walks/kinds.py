@@ -216,8 +216,8 @@ ELEMS = {"Pair": ("Pair", "T.the-row"), "u32": ("ℕ", "u32"), "u64": ("ℕ", "u
 
 
 class Slice:
-    def __init__(s, name, mut, elem, at):
-        s.name, s.mut, s.at = name, mut, at  # `at`: which of the slices
+    def __init__(s, name, mut, elem, at, life=None):
+        s.name, s.mut, s.at, s.life = name, mut, at, life  # `at`: which of the slices; `life`: the lifetime's name, where two slices share one
         s.array = elem.startswith("[")  # `&mut [u64; 16]`, a reference: it has no count, and its length is not said
         s.denot, s.row = ("ℕ", "(Array {} tt {})".format(*elem[1:-1].split("; "))) if s.array else ELEMS[elem]
         n = "" if at == 0 else sub(at + 1)
@@ -240,7 +240,7 @@ class Slice:
 class Fn:
     """requires: (name, clause), each a part of one clause, or each a clause where `apart`. ensures: a clause, or a list of clauses.
     A function of another crate goes by the name that this exports; `inside` is the module where it stands there. `called`: its name in a walk, where its own
-    is taken (`open` is a word of the language, `tables` is the kit's)."""
+    is taken (`open` is a word of the language, `tables` is the kit's). Two slices side by side that a callee takes at one lifetime are `&'a u8` each."""
 
     def __init__(s, name, params, result, ensures, requires=(), crate=None, contract=None, apart=False, inside=None, called=None, **walk):
         s.path, s.crate, s.result, s.apart, s.walk = name, crate, result, apart, walk  # the path: `waits.offer` of a module
@@ -252,13 +252,21 @@ class Fn:
         s.contract = contract or "".join(w.capitalize() for w in s.name.split("_")) + "-of"
         s.slices, s.params = [], []  # a parameter: (name, Kind) or a Slice
         for n, t in params:
-            m = re.fullmatch(r"(&mut|&) (\w+|\[.*\])", t) if isinstance(t, str) else None
+            m = re.fullmatch(r"(&mut|&)('\w+)? (\w+|\[.*\])", t) if isinstance(t, str) else None
             if m:
-                s.slices.append(Slice(n, m[1] == "&mut", m[2], len(s.slices)))
+                s.slices.append(Slice(n, m[1] == "&mut", m[3], len(s.slices), m[2]))
                 s.params.append(s.slices[-1])
             else:
                 s.params.append((n, t))
         s.args = [p for p in s.params if not isinstance(p, Slice)]
+        s.loans = []  # the slices by their lifetimes: one each, or two that share one
+        for x in s.slices:
+            if x.life and s.loans and s.loans[-1][0].life == x.life:
+                s.loans[-1].append(x)
+            else:
+                s.loans.append([x])
+            x.loan = len(s.loans) - 1
+        assert all(len(l) == (2 if x.life else 1) and not (x.life and x.mut) for l in s.loans for x in l), f"{name}: two `&` side by side may share a lifetime"
         s.requires = list(requires)
 
     def key(s):

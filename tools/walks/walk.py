@@ -133,22 +133,27 @@ class Walk(Context):
         modes, own = [], []
         for p, m in zip(callee.params, mine):
             if isinstance(p, Slice):
-                modes.append("mut" if p.mut else "shr" if m.mut else "see")
+                assert not (p.life and m.mut), f"{callee.name}: two that share a lifetime are lent by whoever sees them"
+                modes.append("two" if p.life else "mut" if p.mut else "shr" if m.mut else "see")
                 own.append(m)
         cname = call_name(callee, modes)
         s.used.append((callee, tuple(modes)))
-        K = len(own)
+        loans = [[own[p.at].name for p in l] for l in callee.loans]
+        K = len(loans)
         args = [s.value(y) for p, y in zip(callee.params, xs) if not isinstance(p, Slice)]
         slices = "".join(f" {m.vars} {m.n} {atom(s.cur[m.name][0])}" for m in own)
         at = f"𝓤 H A W mem run C fm known-{callee.d}{slices}" + "".join(" " + atom(a[0]) for a in args)
-        lens = "".join(" " + s.cur[m.name][1] for m, o in zip(own, modes) if o != "see" and not m.array) + "".join(" " + m.room for m, o in zip(own, modes) if o == "mut" and not m.array)
+        lens = "".join(" " + s.cur[m.name][1] for m, o in zip(own, modes) if o not in COPIED and not m.array) + "".join(" " + m.room for m, o in zip(own, modes) if o == "mut" and not m.array)
         vals = iter(args)
         machine = "".join((m.machine if isinstance(p, Slice) else p[1].val(next(vals)[0])) + " ∷ " for p, m in zip(callee.params, mine)) + "[]"
         proof = f"({cname} {at}{lens}{''.join(' ' + a[1] for a in args)}{' ' + atom(premise) if callee.requires else ''})"
         item = f"raw (C {callee.key()} ({machine}) (λ w. mean 𝓤 H A (After-{cname} {at} w)))"
         if own:
-            s.chain(["has-" + m.name for m in own[:-1]], "has-" + own[-1].name, "held")
-            s.move("held" if K > 1 else "has-" + own[0].name)
+            for a, *b in loans:
+                for x in b:
+                    s.join("has-" + a, "has-" + x, "has-" + a)
+            s.chain(["has-" + l[0] for l in loans[:-1]], "has-" + loans[-1][0], "held")
+            s.move("held" if K > 1 else "has-" + loans[0][0])
             s.p(f"use1 W (later ({item})) {proof} $ await ! tt $")
             s.ctx[0] = "call"
         else:
@@ -163,13 +168,16 @@ class Walk(Context):
         if res.spelt:
             s.p(f"rewrite ! {s.at(f'l{dst}')} (λ (u : Val). ‵ (fat fullShare ({local_ty(s.types[dst])}) {'l' + sub(dst)} 0 u)) {res.spelt(v)} refl $")
         s.val[dst] = (v, res.proof(v))
-        for i, (m, o) in enumerate(zip(own, modes)):
+        for i, (a, *b) in enumerate(loans):
             if i < K - 1:
-                s.split("back", "has-" + m.name, "back")
+                s.split("back", "has-" + a, "back")
             else:
-                s.ctx[s.at("back")] = "has-" + m.name
-            if o == "mut":
-                s.cur[m.name] = (left + part(i, K), f"(e-{name} .0{part(i, K)})")
+                s.ctx[s.at("back")] = "has-" + a
+            for x in b:
+                s.split("has-" + a, "has-" + a, "has-" + x)
+        for p, m in zip(callee.slices, own):
+            if p.mut:
+                s.cur[m.name] = (left + part(p.loan, K), f"(e-{name} .0{part(p.loan, K)})")
 
     def forget(s, keep=()):
         s.p(" ".join(f"forget ! {s.at(f'l{i}')} refl $" for i in range(s.N) if i in s.val and i not in keep))

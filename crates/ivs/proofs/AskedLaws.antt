@@ -34,7 +34,8 @@ use Rattle.why.specs.Promised.{Looks}
 use Rattle.showing.specs.declared.found.Shown.{Shown}
 use Rattle.showing.specs.declared.found.Shown.the-variants as part
 use Rattle.showing.specs.Parts.{endPart, rowPart, inJob, inStore, partAsked, foundOf}
-use Rattle.showing.specs.LentParts.{Fits}
+use Rattle.showing.specs.LentParts.{Fits, Within}
+use Rattle.showing.proofs.FoundLaws.{found-within}
 use Rattle.why_words.specs.declared.explained.Why.{Why}
 use Rattle.why_words.specs.declared.explained.Why.the-variants as why
 use Rattle.why_words.specs.Explained.{because, explained, OutFits}
@@ -209,8 +210,9 @@ module _ (axes : ℕ) (job work : List ℕ) (pairs : List Pair) (lent : Buffers)
 pub few-why : (c : Lending) (b : Built) → b ≡ answerOf c → (d : Why) (r : Reason) (store out : List ℕ) (x y : ℕ) → d ≡ explained b r store out x y → whyFew d × whyAt (c .job) d
 few-why c b e d r store out x y f = (subst whyFew (sym f) (why-few c b e r store out x y), subst (whyAt (c .job)) (sym f) (why-at c b e r store out x y))
 
-pub few-shown : (c : Lending) (b : Built) → b ≡ answerOf c → (d : Shown) (job store out ids map : List ℕ) (x what : ℕ) → d ≡ foundOf b job store out ids map x what → shownFew d × shownAt (c .job) d
-few-shown c b e d job store out ids map x what f = (subst shownFew (sym f) (shown-few c b e job store out ids map x what), subst (shownAt (c .job)) (sym f) (shown-at c b e job store out ids map x what))
+pub few-shown : (c : Lending) (b : Built) → b ≡ answerOf c → (d : Shown) (job store out ids map : List ℕ) (x what : ℕ) → d ≡ foundOf b job store out ids map x what → shownFew d × shownAt (c .job) d × Within job store d
+few-shown c b e d job store out ids map x what f =
+    (subst shownFew (sym f) (shown-few c b e job store out ids map x what), subst (shownAt (c .job)) (sym f) (shown-at c b e job store out ids map x what), subst (Within job store) (sym f) (found-within b job store out ids map x what))
 
 pub show-answered : (c : Lending) (b : Built) (l : Left) → Obeys c b l → (store : List ℕ) (id what : ℕ) (d : Shown) → d ≡ foundOf b (c .job) store (l .lent .out) (l .lent .ids) (l .lent .map) id what → (n : ℕ) → n ≡ shownNumber d
     → (report report′ : List ℕ) → report′ ≡ filled 0 (shownWords (c .job) d) report → ShowAnswered c store id what n l report report′

@@ -1,3 +1,4 @@
+pub mod Together
 pub mod Calls
 pub mod FewLaws
 pub mod AskedLaws

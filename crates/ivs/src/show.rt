@@ -1,4 +1,5 @@
-// The entry point that tells where the bytes lie that show an id: the job is built anew in mode 0, in memory lent for it.
+// The entry point that tells where the bytes lie that show an id: the job is built anew in mode 0, in memory lent for it. What is told is the part of job
+// or store that `shown` hands back: its length is the part's own, and it starts there by `shown`'s contract.
 use packer::Profile;
 use pairs::Pair;
 ghost use Rattle.finishing.specs.Buffers.{buffers};
@@ -38,5 +39,5 @@ pub extern "C" fn ivs_show(
         origins,
     );
     let part = showing::find(answer, job, store, out, ids, map, id, what);
-    why_words::tell_found(report, job, part)
+    why_words::tell_shown(report, job, store, part)
 }

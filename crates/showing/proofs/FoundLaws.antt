@@ -1,4 +1,4 @@
--- Which part is found, and that it lies in what it is of. Assumes nothing.
+-- Which part is found, that it lies in what it is of, and that an empty one starts at 0. Assumes nothing.
 use mathlib.Core.Path.{_≡_, refl, sym, ap, ap₂, subst, _∙_}
 use mathlib.Core.Bool.{Bool, true, false, not}
 use mathlib.Core.List.{List, []}
@@ -6,7 +6,7 @@ use Prim.Native.Nat.{ℕ, _+_, _*_, _/_, _%_, _≤_, _<_}
 use native.Mathlib.Omega.{arith}
 use lib.Dec.{eqb, ltb, leb}
 use lib.ListN.{length, getD}
-use borrow.Author.Tests.{eq-eqb, ne-eqb, ltb-true, leb-false, not-false}
+use borrow.Author.Tests.{eq-eqb, ne-eqb, eqb-false, ltb-true, leb-false, not-false}
 use Rattle.laws.specs.Pick.{pick}
 use Rattle.laws.specs.Bytes.{be}
 use Rattle.laws.proofs.Cases.{Which, which}
@@ -25,7 +25,7 @@ use Rattle.showing.specs.declared.ends.Span.{Span}
 use Rattle.showing.specs.declared.found.Shown.{Shown}
 use Rattle.showing.specs.declared.found.Shown.the-variants.{Refused, InJob, InStore}
 use Rattle.showing.specs.Parts.{noSpan, span, endAt, endPart, rowIn, rowPart, inJob, inStore, partAsked, foundOf}
-use Rattle.showing.specs.LentParts.{Fits, Within}
+use Rattle.showing.specs.LentParts.{Fits, Within, EmptyFirst}
 
 -- ---- the part of the one that was asked for
 
@@ -117,3 +117,54 @@ found-within (built.Done r) job store out ids map id what = go (which (eqb (aske
     go (fails t) w = rw t tt
     go (holds t) (holds u) = rw (t, u) (end-within job (firstAt id ids))
     go (holds t) (fails u) = rw (t, u) (row-within store (getD map id 0))
+
+-- ---- an empty one starts at 0
+
+abbrev First : Span → Type 0
+First p = p .long ≡ 0 → p .at ≡ 0
+
+end-first : (job : List ℕ) (j : ℕ) → First (endPart job j)
+unfolding endPart
+end-first job j = go (which (ltb (endAt job j) (recordCount job)))
+  where
+    go : Which (ltb (endAt job j) (recordCount job)) → First (pick (ltb (endAt job j) (recordCount job)) (record { at = recordStart (endAt job j); long = recordBytes }) noSpan)
+    go (holds t) = rw t (λ z. absurd (omega arith))
+    go (fails t) = rw t (λ z. refl)
+
+span-first : (at long : ℕ) → First (span at long)
+unfolding span
+span-first at long = go (which (eqb long 0))
+  where
+    go : Which (eqb long 0) → First (pick (eqb long 0) noSpan (record { at = at; long = long }))
+    go (holds t) = rw t (λ z. refl)
+    go (fails t) = rw t (λ z. absurd (eqb-false long 0 t z))
+
+pick-first : (b : Bool) (p : Span) → First p → First (pick b noSpan p)
+pick-first true p h = λ z. refl
+pick-first false p h = h
+
+row-first : (s : List ℕ) (word : ℕ) → First (rowPart s word)
+unfolding rowPart rowIn
+row-first s word =
+    let at = be 4 s (8 + 4 * (word / 65536)) in
+    let inner = word % 65536 in
+    let row = columnAt (wordAt s at) (columnCount s at) in
+    pick-first (not (headerOk s)) _
+    (pick-first (leb (be 2 s 6) (word / 65536)) _
+    (pick-first (eqb at 0) _
+    (pick-first (not (subtableOk s at (regionCount s))) _
+    (pick-first (leb (itemCount s at) inner) _
+    (span-first (at + 6 + 2 * columnCount s at + inner * row) row)))))
+
+pub found-first : (b : Built) (job store out ids map : List ℕ) (id what : ℕ) → EmptyFirst (foundOf b job store out ids map id what)
+unfolding foundOf partAsked
+found-first (built.Refused n at) job store out ids map id what = tt
+found-first (built.Done r) job store out ids map id what = go (which (eqb (askedNo (r .ids) (r .bytes) id id store out) 0)) (which (eqb what 0))
+  where
+    go : Which (eqb (askedNo (r .ids) (r .bytes) id id store out) 0) → Which (eqb what 0)
+        → EmptyFirst (pick (eqb (askedNo (r .ids) (r .bytes) id id store out) 0)
+        (pick (eqb what 0) (inJob (endPart job (firstAt id ids))) (inStore (rowPart store (getD map id 0))))
+        (Refused (askedNo (r .ids) (r .bytes) id id store out) 0))
+    go (fails t) w = rw t tt
+    go (holds t) (holds u) = rw (t, u) (end-first job (firstAt id ids))
+    go (holds t) (fails u) = rw (t, u) (row-first store (getD map id 0))

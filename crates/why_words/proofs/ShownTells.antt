@@ -72,13 +72,3 @@ module _ (job store : List ℕ) (s : Shown) where
 
           words-store : s ≡ InStore at long → filled 0 (spanWords at long) old ≡ filled 0 (shownWords job s) old
           words-store e = ap (λ (l : List ℕ). filled 0 l old) (sym (ap (shownWords job) e ∙ span-store job at long))
-
--- by the numbers alone
-module _ (job w old : List ℕ) (s : Shown) (at long : ℕ) (h : w ≡ filled 0 (spanWords at long) old) where
-  pub found-job : s ≡ InJob at long → (0 ≡ shownNumber s) × (w ≡ filled 0 (shownWords job s) old)
-  unfolding shownNumber shownWords
-  found-job e = rw e (refl, h)
-
-  pub found-store : s ≡ InStore at long → (0 ≡ shownNumber s) × (w ≡ filled 0 (shownWords job s) old)
-  unfolding shownNumber shownWords
-  found-store e = rw e (refl, h)

@@ -56,16 +56,16 @@ use Rattle.showing.proofs.found.Shown.Laws as J′
 use Rattle.pairs.proofs.Slices.{ref, Has, Sees}
 use Rattle.pairs.proofs.Refs.{HasRef, at-ref}
 use Rattle.pairs.proofs.Clauses.{needs-none}
-use Rattle.ivs.proofs.Calls.{Build-of, Find-of, TellFound-of, build-see-mut-mut-mut-mut-mut-mut-mut, find-see-see-shr-shr-shr, tell-found-mut-see, After-build-see-mut-mut-mut-mut-mut-mut-mut, After-find-see-see-shr-shr-shr, After-tell-found-mut-see}
+use Rattle.ivs.proofs.Calls.{Build-of, Find-of, TellShown-of, build-see-mut-mut-mut-mut-mut-mut-mut, find-see-see-shr-shr-shr, tell-shown-mut-two-two, After-build-see-mut-mut-mut-mut-mut-mut-mut, After-find-see-see-shr-shr-shr, After-tell-shown-mut-two-two}
 use Rattle.packer.proofs.build.Symbol as build-def
 use Rattle.packer.proofs.build.Symbol.{name as #packer·build}
 use Rattle.packer.proofs.build.Met as build-thm
 use Rattle.showing.proofs.find.Symbol as find-def
 use Rattle.showing.proofs.find.Symbol.{name as #showing·find}
 use Rattle.showing.proofs.find.Met as find-thm
-use Rattle.why_words.proofs.tell_found.Symbol as tell-found-def
-use Rattle.why_words.proofs.tell_found.Symbol.{name as #why_words·tell-found}
-use Rattle.why_words.proofs.tell_found.Met as tell-found-thm
+use Rattle.why_words.proofs.tell_shown.Symbol as tell-shown-def
+use Rattle.why_words.proofs.tell_shown.Symbol.{name as #why_words·tell-shown}
+use Rattle.why_words.proofs.tell_shown.Met as tell-shown-thm
 use Rattle.ivs.proofs.show.ivs_show.Key.{name as #ivs·ivs-show}
 use Rattle.ivs.proofs.show.ivs_show as ivs-show
 use Rattle.ivs.proofs.show.ivs_show.Statement as stated
@@ -191,7 +191,7 @@ module _ {M : Type 1} (𝓤 : URA M) (H : Heap 𝓤) (A : Atoms 𝓤) (W : Given
       qed W (Slice job ∷ Slice₂ store ∷ Slice₃ work′ ∷ Slice₄ pairs′ ∷ Slice₅ out′ ∷ Slice₆ ids′ ∷ Slice₇ map′ ∷ Slice₈ log′ ∷ Slice₉ origins′ ∷ Slice₁₀ report′ ∷ []) ∵ suffices ! _ (ends-at 𝓤 H A ivs-show.ended stayed (ivs-show.clauses 𝓤 H A mem run) W bound (vint w32 r) r (tt, (tt, (tt, (tt, (tt, (work′, (pairs′, (out′, (ids′, (map′, (log′, (origins′, (report′, tt))))))))))))) (tt, (tt, (tt, (tt, (tt, (long₃, (long₄, (long₅, (long₆, (long₇, (long₈, (long₉, (tt, tt)))))))))))))) $
       split ! $ move ! (2 ∷ []) $ split ! $ move ! (4 ∷ []) $ split ! $ move ! (6 ∷ []) $ split ! $ move ! (8 ∷ []) $ split ! $ move ! (10 ∷ []) $ split ! $ move ! (12 ∷ []) $ split ! $ move ! (14 ∷ []) $ split ! $ move ! (16 ∷ []) $ split ! $ move ! (18 ∷ []) $ split ! $ nothing ! $ move ! (2 ∷ 0 ∷ []) $ join ! $ move ! (3 ∷ 0 ∷ []) $ join ! $ move ! (4 ∷ 0 ∷ []) $ join ! $ move ! (5 ∷ 0 ∷ []) $ join ! $ move ! (6 ∷ 0 ∷ []) $ join ! $ move ! (7 ∷ 0 ∷ []) $ join ! $ move ! (8 ∷ 0 ∷ []) $ join ! $ move ! (9 ∷ 0 ∷ []) $ join ! $ move ! (10 ∷ 0 ∷ []) $ join ! $ move ! (11 ∷ 0 ∷ []) $ join ! $ owned ! u32 (Is u32) (uint-makes 𝓤 H A W w32) r _ (refl, g) $ nothing ! $ move ! (3 ∷ 0 ∷ []) $ fjoin ! $ move ! (3 ∷ 0 ∷ []) $ fjoin ! $ move ! (3 ∷ 0 ∷ []) $ fjoin ! $ move ! (3 ∷ 0 ∷ []) $ fjoin ! $ move ! (3 ∷ 0 ∷ []) $ fjoin ! $ move ! (3 ∷ 0 ∷ []) $ fjoin ! $ move ! (3 ∷ 0 ∷ []) $ fjoin ! $ move ! (3 ∷ 0 ∷ []) $ fjoin ! $ owned ! u32 (Is u32) (uint-makes 𝓤 H A W w32) what _ (refl, g-what) $ fjoin ! $ owned ! u32 (Is u32) (uint-makes 𝓤 H A W w32) id _ (refl, g-id) $ fjoin ! $ move ! (3 ∷ 0 ∷ []) $ fjoin ! $ move ! (3 ∷ 0 ∷ []) $ fjoin ! $ owned ! u32 (Is u32) (uint-makes 𝓤 H A W w32) axes _ (refl, g-axes) $ fjoin ! $ join ! $ move ! (1 ∷ 0 ∷ []) $ join ! $ frame ! $ use0 W (raw (fact 𝓤 (ShowAnswered (lending axes 0 job work pairs (buffers out ids map log origins)) store id what r (leaves work′ pairs′ (buffers out′ ids′ map′ log′ origins′)) report report′))) (factI 𝓤 (ShowAnswered (lending axes 0 job work pairs (buffers out ids map log origins)) store id what r (leaves work′ pairs′ (buffers out′ ids′ map′ log′ origins′)) report report′) (emp 𝓤) e) $ done !
 
-  module _ (𝓣 : AllCalls 𝓤 H) (known-build : Triple 𝓤 (𝓣 .C #packer·build) (Build-of 𝓤 H A mem run)) (known-find : Triple 𝓤 (𝓣 .C #showing·find) (Find-of 𝓤 H A mem run)) (known-tell-found : Triple 𝓤 (𝓣 .C #why_words·tell-found) (TellFound-of 𝓤 H A mem run)) (sized : Room u8 ν) (sized₂ : Room u8 ν₂) (sized₃ : Room u32 ν₃) (sized₄ : Room T.the-row ν₄) (sized₅ : Room u8 ν₅) (sized₆ : Room u32 ν₆) (sized₇ : Room u32 ν₇) (sized₈ : Room u32 ν₈) (sized₉ : Room u32 ν₉) where
+  module _ (𝓣 : AllCalls 𝓤 H) (known-build : Triple 𝓤 (𝓣 .C #packer·build) (Build-of 𝓤 H A mem run)) (known-find : Triple 𝓤 (𝓣 .C #showing·find) (Find-of 𝓤 H A mem run)) (known-tell-shown : Triple 𝓤 (𝓣 .C #why_words·tell-shown) (TellShown-of 𝓤 H A mem run)) (sized : Room u8 ν) (sized₂ : Room u8 ν₂) (sized₃ : Room u32 ν₃) (sized₄ : Room T.the-row ν₄) (sized₅ : Room u8 ν₅) (sized₆ : Room u32 ν₆) (sized₇ : Room u32 ν₇) (sized₈ : Room u32 ν₈) (sized₉ : Room u32 ν₉) where
     abbrev C : Calls 𝓤 H
     C = 𝓣 .C
 
@@ -285,17 +285,21 @@ module _ {M : Type 1} (𝓤 : URA M) (H : Heap 𝓤) (A : Atoms 𝓤) (W : Given
           move ! (1 ∷ []) $
           split ! $
           assigns ! (addr ! (from ! (hop ! (look ! 58 refl) (stop !)))) (from ! (stop !)) (init ! 10 refl (tt, tt)) $
-          move ! (9 ∷ 4 ∷ []) $
+          move ! (4 ∷ 3 ∷ []) $
           join ! $
-          use1 W (later (raw (C #why_words·tell-found (σ₁₀ ∷ σ ∷ EL.val J.the-type J′.the-laws d ∷ []) (λ w. mean 𝓤 H A (After-tell-found-mut-see 𝓤 H A W mem run C fm known-tell-found κ₁₀ θ₁₀ γ₁₀ β₁₀ ι₁₀ ν₁₀ report κ θ γ β ι ν job d w))))) (tell-found-mut-see 𝓤 H A W mem run C fm known-tell-found κ₁₀ θ₁₀ γ₁₀ β₁₀ ι₁₀ ν₁₀ report κ θ γ β ι ν job d (at-J d r-d g-d) (few-shown (lending axes 0 job work pairs (buffers out ids map log origins)) b ((plain-obeys (lending axes 0 job work pairs (buffers out ids map log origins)) b _ (e-b .1)) .answer) d job store (x-b .1 .1 .1 .0) (x-b .1 .1 .1 .1 .0) (x-b .1 .1 .1 .1 .1 .0) id what (e-d .1))) $ await ! tt $
-          calls ! fm (After-tell-found-mut-see 𝓤 H A W mem run C fm known-tell-found κ₁₀ θ₁₀ γ₁₀ β₁₀ ι₁₀ ν₁₀ report κ θ γ β ι ν job d) (and-then ! (load ! (from ! (stop !)) (look ! 9 refl)) (and-then ! (load ! (from ! (stop !)) (look ! 79 refl)) (and-then ! (load ! (from ! (stop !)) (look ! 53 refl)) (no-more !)))) (λ r-n. await ! tt $ pick ! (λ n. pick ! (λ x-n. learn ! (λ e-n. split ! $ move ! (1 ∷ []) $ facts ! u32 (Is u32) (shows 𝓤 H A u32) n (r-n ∷ []) (λ g-n.
-          land ! (from ! (stop !)) (init ! 83 refl (uint-lawful 𝓤 H A W w32 .typed n _ g-n .0)) $
-          rewrite ! 83 (λ (u : Val). ‵ (fat fullShare (tyInt w32) l₀ 0 u)) (ap only (g-n .0)) refl $
+          move ! (8 ∷ 0 ∷ []) $
+          join ! $
+          use1 W (later (raw (C #why_words·tell-shown (σ₁₀ ∷ σ ∷ σ₂ ∷ EL.val J.the-type J′.the-laws d ∷ []) (λ w. mean 𝓤 H A (After-tell-shown-mut-two-two 𝓤 H A W mem run C fm known-tell-shown κ₁₀ θ₁₀ γ₁₀ β₁₀ ι₁₀ ν₁₀ report κ θ γ β ι ν job κ₂ θ₂ γ₂ β₂ ι₂ ν₂ store d w))))) (tell-shown-mut-two-two 𝓤 H A W mem run C fm known-tell-shown κ₁₀ θ₁₀ γ₁₀ β₁₀ ι₁₀ ν₁₀ report κ θ γ β ι ν job κ₂ θ₂ γ₂ β₂ ι₂ ν₂ store d (at-J d r-d g-d) (few-shown (lending axes 0 job work pairs (buffers out ids map log origins)) b ((plain-obeys (lending axes 0 job work pairs (buffers out ids map log origins)) b _ (e-b .1)) .answer) d job store (x-b .1 .1 .1 .0) (x-b .1 .1 .1 .1 .0) (x-b .1 .1 .1 .1 .1 .0) id what (e-d .1))) $ await ! tt $
+          calls ! fm (After-tell-shown-mut-two-two 𝓤 H A W mem run C fm known-tell-shown κ₁₀ θ₁₀ γ₁₀ β₁₀ ι₁₀ ν₁₀ report κ θ γ β ι ν job κ₂ θ₂ γ₂ β₂ ι₂ ν₂ store d) (and-then ! (load ! (from ! (stop !)) (look ! 8 refl)) (and-then ! (load ! (from ! (stop !)) (look ! 78 refl)) (and-then ! (load ! (from ! (stop !)) (look ! 76 refl)) (and-then ! (load ! (from ! (stop !)) (look ! 52 refl)) (no-more !))))) (λ r-n. await ! tt $ pick ! (λ n. pick ! (λ x-n. learn ! (λ e-n. split ! $ move ! (1 ∷ []) $ facts ! u32 (Is u32) (shows 𝓤 H A u32) n (r-n ∷ []) (λ g-n.
+          land ! (from ! (stop !)) (init ! 82 refl (uint-lawful 𝓤 H A W w32 .typed n _ g-n .0)) $
+          rewrite ! 82 (λ (u : Val). ‵ (fat fullShare (tyInt w32) l₀ 0 u)) (ap only (g-n .0)) refl $
+          split ! $
+          move ! (1 ∷ []) $
           split ! $
           returns ! (look ! 84 refl) $
           forget ! 84 refl $ forget ! 82 refl $ forget ! 80 refl $ forget ! 78 refl $ forget ! 76 refl $ forget ! 74 refl $ forget ! 72 refl $ forget ! 70 refl $ forget ! 68 refl $ forget ! 66 refl $ forget ! 64 refl $ forget ! 62 refl $ forget ! 60 refl $ forget ! 58 refl $ forget ! 56 refl $ forget ! 54 refl $ forget ! 52 refl $ forget ! 50 refl $ forget ! 48 refl $ forget ! 46 refl $ forget ! 44 refl $ forget ! 42 refl $ forget ! 40 refl $ forget ! 38 refl $ forget ! 36 refl $ forget ! 34 refl $ forget ! 32 refl $ forget ! 30 refl $ forget ! 28 refl $ forget ! 26 refl $ forget ! 24 refl $ forget ! 22 refl $ forget ! 20 refl $ forget ! 18 refl $ forget ! 16 refl $ forget ! 14 refl $ forget ! 12 refl $ forget ! 10 refl $
           move ! (84 ∷ 85 ∷ []) $ free1 ! $ move ! (82 ∷ 83 ∷ []) $ free1 ! $ move ! (80 ∷ 81 ∷ []) $ free1 ! $ move ! (78 ∷ 79 ∷ []) $ free1 ! $ move ! (76 ∷ 77 ∷ []) $ free1 ! $ move ! (74 ∷ 75 ∷ []) $ free1 ! $ move ! (72 ∷ 73 ∷ []) $ free1 ! $ move ! (70 ∷ 71 ∷ []) $ free1 ! $ move ! (68 ∷ 69 ∷ []) $ free1 ! $ move ! (66 ∷ 67 ∷ []) $ free1 ! $ move ! (64 ∷ 65 ∷ []) $ free1 ! $ move ! (62 ∷ 63 ∷ []) $ free1 ! $ move ! (60 ∷ 61 ∷ []) $ free1 ! $ move ! (58 ∷ 59 ∷ []) $ free1 ! $ move ! (56 ∷ 57 ∷ []) $ free1 ! $ move ! (54 ∷ 55 ∷ []) $ free1 ! $ move ! (52 ∷ 53 ∷ []) $ free1 ! $ move ! (50 ∷ 51 ∷ []) $ free1 ! $ move ! (48 ∷ 49 ∷ []) $ free1 ! $ move ! (46 ∷ 47 ∷ []) $ free1 ! $ move ! (44 ∷ 45 ∷ []) $ free1 ! $ move ! (42 ∷ 43 ∷ []) $ free1 ! $ move ! (40 ∷ 41 ∷ []) $ free1 ! $ move ! (38 ∷ 39 ∷ []) $ free1 ! $ move ! (36 ∷ 37 ∷ []) $ free1 ! $ move ! (34 ∷ 35 ∷ []) $ free1 ! $ move ! (32 ∷ 33 ∷ []) $ free1 ! $ move ! (30 ∷ 31 ∷ []) $ free1 ! $ move ! (28 ∷ 29 ∷ []) $ free1 ! $ move ! (26 ∷ 27 ∷ []) $ free1 ! $ move ! (24 ∷ 25 ∷ []) $ free1 ! $ move ! (22 ∷ 23 ∷ []) $ free1 ! $ move ! (20 ∷ 21 ∷ []) $ free1 ! $ move ! (18 ∷ 19 ∷ []) $ free1 ! $ move ! (16 ∷ 17 ∷ []) $ free1 ! $ move ! (14 ∷ 15 ∷ []) $ free1 ! $ move ! (12 ∷ 13 ∷ []) $ free1 ! $ move ! (10 ∷ 11 ∷ []) $ free1 ! $ free0 ! $
-          move ! (1 ∷ 5 ∷ 9 ∷ 8 ∷ 4 ∷ 2 ∷ 3 ∷ 6 ∷ 7 ∷ 0 ∷ []) $
+          move ! (0 ∷ 1 ∷ 9 ∷ 8 ∷ 5 ∷ 3 ∷ 4 ∷ 6 ∷ 7 ∷ 2 ∷ []) $
           by ! (exits (x-b .1 .0) (e-b .0 .1 .0) (x-b .1 .1 .0) (e-b .0 .1 .1 .0) (x-b .1 .1 .1 .0) (e-b .0 .1 .1 .1 .0) (x-b .1 .1 .1 .1 .0) (e-b .0 .1 .1 .1 .1 .0) (x-b .1 .1 .1 .1 .1 .0) (e-b .0 .1 .1 .1 .1 .1 .0) (x-b .1 .1 .1 .1 .1 .1 .0) (e-b .0 .1 .1 .1 .1 .1 .1 .0) (x-b .1 .1 .1 .1 .1 .1 .1) (e-b .0 .1 .1 .1 .1 .1 .1 .1) (x-n .0) n (g-n .1) (show-answered (lending axes 0 job work pairs (buffers out ids map log origins)) b (leaves _ _ (buffers _ _ _ _ _)) (plain-obeys (lending axes 0 job work pairs (buffers out ids map log origins)) b _ (e-b .1)) store id what d (e-d .1) n (e-n .1 .0) _ _ (e-n .1 .1))))))))))))))))))
 
     walk : ent 𝓤 (onEntry 𝓤 H A ivs-show.signature (κ, (κ₂, (κ₃, (κ₄, (κ₅, (κ₆, (κ₇, (κ₈, (κ₉, (κ₁₀, tt)))))))))) (θ, (θ₂, (θ₃, (θ₄, (θ₅, (θ₆, (θ₇, (θ₈, (θ₉, (θ₁₀, tt)))))))))) (bound .0 .3) (bound .0 .4)) (WpFn 𝓤 H C Λ code.function (vint w32 axes ∷ σ ∷ σ₂ ∷ vint w32 id ∷ vint w32 what ∷ σ₃ ∷ σ₄ ∷ σ₅ ∷ σ₆ ∷ σ₇ ∷ σ₈ ∷ σ₉ ∷ σ₁₀ ∷ []) Post)
@@ -386,16 +390,16 @@ module _ {M : Type 1} (𝓤 : URA M) (H : Heap 𝓤) (A : Atoms 𝓤) (W : Given
   abbrev Entry : SProp 𝓤
   Entry = onEntry 𝓤 H A ivs-show.signature (κ, (κ₂, (κ₃, (κ₄, (κ₅, (κ₆, (κ₇, (κ₈, (κ₉, (κ₁₀, tt)))))))))) (θ, (θ₂, (θ₃, (θ₄, (θ₅, (θ₆, (θ₇, (θ₈, (θ₉, (θ₁₀, tt)))))))))) (bound .0 .3) (bound .0 .4)
 
-  starts : (𝓣 : AllCalls 𝓤 H) → Triple 𝓤 (𝓣 .C #packer·build) (Build-of 𝓤 H A mem run) → Triple 𝓤 (𝓣 .C #showing·find) (Find-of 𝓤 H A mem run) → Triple 𝓤 (𝓣 .C #why_words·tell-found) (TellFound-of 𝓤 H A mem run) → Room u8 ν → Room u8 ν₂ → Room u32 ν₃ → Room T.the-row ν₄ → Room u8 ν₅ → Room u32 ν₆ → Room u32 ν₇ → Room u32 ν₈ → Room u32 ν₉ → ent 𝓤 (sep 𝓤 Entry (emp 𝓤)) (WpFn 𝓤 H (𝓣 .C) (𝓣 .Λ) code.function (vint w32 axes ∷ σ ∷ σ₂ ∷ vint w32 id ∷ vint w32 what ∷ σ₃ ∷ σ₄ ∷ σ₅ ∷ σ₆ ∷ σ₇ ∷ σ₈ ∷ σ₉ ∷ σ₁₀ ∷ []) Post)
-  starts 𝓣 k-build k-find k-tell-found sized sized₂ sized₃ sized₄ sized₅ sized₆ sized₇ sized₈ sized₉ = needs-none 𝓤 Entry (emp 𝓤) (walk 𝓣 k-build k-find k-tell-found sized sized₂ sized₃ sized₄ sized₅ sized₆ sized₇ sized₈ sized₉)
+  starts : (𝓣 : AllCalls 𝓤 H) → Triple 𝓤 (𝓣 .C #packer·build) (Build-of 𝓤 H A mem run) → Triple 𝓤 (𝓣 .C #showing·find) (Find-of 𝓤 H A mem run) → Triple 𝓤 (𝓣 .C #why_words·tell-shown) (TellShown-of 𝓤 H A mem run) → Room u8 ν → Room u8 ν₂ → Room u32 ν₃ → Room T.the-row ν₄ → Room u8 ν₅ → Room u32 ν₆ → Room u32 ν₇ → Room u32 ν₈ → Room u32 ν₉ → ent 𝓤 (sep 𝓤 Entry (emp 𝓤)) (WpFn 𝓤 H (𝓣 .C) (𝓣 .Λ) code.function (vint w32 axes ∷ σ ∷ σ₂ ∷ vint w32 id ∷ vint w32 what ∷ σ₃ ∷ σ₄ ∷ σ₅ ∷ σ₆ ∷ σ₇ ∷ σ₈ ∷ σ₉ ∷ σ₁₀ ∷ []) Post)
+  starts 𝓣 k-build k-find k-tell-shown sized sized₂ sized₃ sized₄ sized₅ sized₆ sized₇ sized₈ sized₉ = needs-none 𝓤 Entry (emp 𝓤) (walk 𝓣 k-build k-find k-tell-shown sized sized₂ sized₃ sized₄ sized₅ sized₆ sized₇ sized₈ sized₉)
 
 module _ {M : Type 1} (𝓤 : URA M) (H : Heap 𝓤) (A : Atoms 𝓤) (W : Given 𝓤 H A) (mem : Memory → SProp 𝓤) (run : Routine → Fun 𝓤) (𝓣 : AllCalls 𝓤 H) where
-  ivs-show-walks : Triple 𝓤 (𝓣 .C #packer·build) (Build-of 𝓤 H A mem run) → Triple 𝓤 (𝓣 .C #showing·find) (Find-of 𝓤 H A mem run) → Triple 𝓤 (𝓣 .C #why_words·tell-found) (TellFound-of 𝓤 H A mem run) → Walks 𝓤 H A ivs-show.ended stayed (WpFn 𝓤 H (𝓣 .C) (𝓣 .Λ) code.function) (ivs-show.clauses 𝓤 H A mem run)
-  ivs-show-walks k-build k-find k-tell-found = walked 𝓤 H A ivs-show.ended stayed (ivs-show.clauses 𝓤 H A mem run) (WpFn 𝓤 H (𝓣 .C) (𝓣 .Λ) code.function) (λ κs. (uint-vals w32, (slice-vals, (slice-vals, (uint-vals w32, (uint-vals w32, (slice-vals, (slice-vals, (slice-vals, (slice-vals, (slice-vals, (slice-vals, (slice-vals, (ptr-vals, tt)))))))))))))) (λ κs. (uint-tells w32, (shr-slice-tells (named 0) (κs .0) u8, (shr-slice-tells (named 1) (κs .1 .0) u8, (uint-tells w32, (uint-tells w32, (mut-slice-tells (named 2) (κs .1 .1 .0) u32, (mut-slice-tells (named 3) (κs .1 .1 .1 .0) T.the-row, (mut-slice-tells (named 4) (κs .1 .1 .1 .1 .0) u8, (mut-slice-tells (named 5) (κs .1 .1 .1 .1 .1 .0) u32, (mut-slice-tells (named 6) (κs .1 .1 .1 .1 .1 .1 .0) u32, (mut-slice-tells (named 7) (κs .1 .1 .1 .1 .1 .1 .1 .0) u32, (mut-slice-tells (named 8) (κs .1 .1 .1 .1 .1 .1 .1 .1 .0) u32, (mut-tells (named 9) (κs .1 .1 .1 .1 .1 .1 .1 .1 .1 .0) (Array u64 tt 16), tt))))))))))))))
-      (λ κs qs bounds a g are. starts 𝓤 H A W mem run (κs .0) (qs .0) (a .1 .0 .name) (a .1 .0 .ptr .0) (a .1 .0 .ptr .1) (a .1 .0 .now) (κs .1 .0) (qs .1 .0) (a .1 .1 .0 .name) (a .1 .1 .0 .ptr .0) (a .1 .1 .0 .ptr .1) (a .1 .1 .0 .now) (κs .1 .1 .0) (qs .1 .1 .0) (a .1 .1 .1 .1 .1 .0 .name) (a .1 .1 .1 .1 .1 .0 .ptr .0) (a .1 .1 .1 .1 .1 .0 .ptr .1) (a .1 .1 .1 .1 .1 .0 .now) (κs .1 .1 .1 .0) (qs .1 .1 .1 .0) (a .1 .1 .1 .1 .1 .1 .0 .name) (a .1 .1 .1 .1 .1 .1 .0 .ptr .0) (a .1 .1 .1 .1 .1 .1 .0 .ptr .1) (a .1 .1 .1 .1 .1 .1 .0 .now) (κs .1 .1 .1 .1 .0) (qs .1 .1 .1 .1 .0) (a .1 .1 .1 .1 .1 .1 .1 .0 .name) (a .1 .1 .1 .1 .1 .1 .1 .0 .ptr .0) (a .1 .1 .1 .1 .1 .1 .1 .0 .ptr .1) (a .1 .1 .1 .1 .1 .1 .1 .0 .now) (κs .1 .1 .1 .1 .1 .0) (qs .1 .1 .1 .1 .1 .0) (a .1 .1 .1 .1 .1 .1 .1 .1 .0 .name) (a .1 .1 .1 .1 .1 .1 .1 .1 .0 .ptr .0) (a .1 .1 .1 .1 .1 .1 .1 .1 .0 .ptr .1) (a .1 .1 .1 .1 .1 .1 .1 .1 .0 .now) (κs .1 .1 .1 .1 .1 .1 .0) (qs .1 .1 .1 .1 .1 .1 .0) (a .1 .1 .1 .1 .1 .1 .1 .1 .1 .0 .name) (a .1 .1 .1 .1 .1 .1 .1 .1 .1 .0 .ptr .0) (a .1 .1 .1 .1 .1 .1 .1 .1 .1 .0 .ptr .1) (a .1 .1 .1 .1 .1 .1 .1 .1 .1 .0 .now) (κs .1 .1 .1 .1 .1 .1 .1 .0) (qs .1 .1 .1 .1 .1 .1 .1 .0) (a .1 .1 .1 .1 .1 .1 .1 .1 .1 .1 .0 .name) (a .1 .1 .1 .1 .1 .1 .1 .1 .1 .1 .0 .ptr .0) (a .1 .1 .1 .1 .1 .1 .1 .1 .1 .1 .0 .ptr .1) (a .1 .1 .1 .1 .1 .1 .1 .1 .1 .1 .0 .now) (κs .1 .1 .1 .1 .1 .1 .1 .1 .0) (qs .1 .1 .1 .1 .1 .1 .1 .1 .0) (a .1 .1 .1 .1 .1 .1 .1 .1 .1 .1 .1 .0 .name) (a .1 .1 .1 .1 .1 .1 .1 .1 .1 .1 .1 .0 .ptr .0) (a .1 .1 .1 .1 .1 .1 .1 .1 .1 .1 .1 .0 .ptr .1) (a .1 .1 .1 .1 .1 .1 .1 .1 .1 .1 .1 .0 .now) (κs .1 .1 .1 .1 .1 .1 .1 .1 .1 .0) (qs .1 .1 .1 .1 .1 .1 .1 .1 .1 .0) (a .1 .1 .1 .1 .1 .1 .1 .1 .1 .1 .1 .1 .0 .name) (a .1 .1 .1 .1 .1 .1 .1 .1 .1 .1 .1 .1 .0 .ptr .0) (a .1 .1 .1 .1 .1 .1 .1 .1 .1 .1 .1 .1 .0 .ptr .1) (a .1 .1 .1 .1 .1 .1 .1 .1 .1 .1 .1 .1 .0 .now) (a .0) (a .1 .1 .1 .0) (a .1 .1 .1 .1 .0) (are .0 .1) (are .1 .1 .1 .0 .1) (are .1 .1 .1 .1 .0 .1) 𝓣 k-build k-find k-tell-found (are .1 .0 .0 .1) (are .1 .1 .0 .0 .1) (are .1 .1 .1 .1 .1 .0 .0 .1) (are .1 .1 .1 .1 .1 .1 .0 .0 .1) (are .1 .1 .1 .1 .1 .1 .1 .0 .0 .1) (are .1 .1 .1 .1 .1 .1 .1 .1 .0 .0 .1) (are .1 .1 .1 .1 .1 .1 .1 .1 .1 .0 .0 .1) (are .1 .1 .1 .1 .1 .1 .1 .1 .1 .1 .0 .0 .1) (are .1 .1 .1 .1 .1 .1 .1 .1 .1 .1 .1 .0 .0 .1))
+  ivs-show-walks : Triple 𝓤 (𝓣 .C #packer·build) (Build-of 𝓤 H A mem run) → Triple 𝓤 (𝓣 .C #showing·find) (Find-of 𝓤 H A mem run) → Triple 𝓤 (𝓣 .C #why_words·tell-shown) (TellShown-of 𝓤 H A mem run) → Walks 𝓤 H A ivs-show.ended stayed (WpFn 𝓤 H (𝓣 .C) (𝓣 .Λ) code.function) (ivs-show.clauses 𝓤 H A mem run)
+  ivs-show-walks k-build k-find k-tell-shown = walked 𝓤 H A ivs-show.ended stayed (ivs-show.clauses 𝓤 H A mem run) (WpFn 𝓤 H (𝓣 .C) (𝓣 .Λ) code.function) (λ κs. (uint-vals w32, (slice-vals, (slice-vals, (uint-vals w32, (uint-vals w32, (slice-vals, (slice-vals, (slice-vals, (slice-vals, (slice-vals, (slice-vals, (slice-vals, (ptr-vals, tt)))))))))))))) (λ κs. (uint-tells w32, (shr-slice-tells (named 0) (κs .0) u8, (shr-slice-tells (named 1) (κs .1 .0) u8, (uint-tells w32, (uint-tells w32, (mut-slice-tells (named 2) (κs .1 .1 .0) u32, (mut-slice-tells (named 3) (κs .1 .1 .1 .0) T.the-row, (mut-slice-tells (named 4) (κs .1 .1 .1 .1 .0) u8, (mut-slice-tells (named 5) (κs .1 .1 .1 .1 .1 .0) u32, (mut-slice-tells (named 6) (κs .1 .1 .1 .1 .1 .1 .0) u32, (mut-slice-tells (named 7) (κs .1 .1 .1 .1 .1 .1 .1 .0) u32, (mut-slice-tells (named 8) (κs .1 .1 .1 .1 .1 .1 .1 .1 .0) u32, (mut-tells (named 9) (κs .1 .1 .1 .1 .1 .1 .1 .1 .1 .0) (Array u64 tt 16), tt))))))))))))))
+      (λ κs qs bounds a g are. starts 𝓤 H A W mem run (κs .0) (qs .0) (a .1 .0 .name) (a .1 .0 .ptr .0) (a .1 .0 .ptr .1) (a .1 .0 .now) (κs .1 .0) (qs .1 .0) (a .1 .1 .0 .name) (a .1 .1 .0 .ptr .0) (a .1 .1 .0 .ptr .1) (a .1 .1 .0 .now) (κs .1 .1 .0) (qs .1 .1 .0) (a .1 .1 .1 .1 .1 .0 .name) (a .1 .1 .1 .1 .1 .0 .ptr .0) (a .1 .1 .1 .1 .1 .0 .ptr .1) (a .1 .1 .1 .1 .1 .0 .now) (κs .1 .1 .1 .0) (qs .1 .1 .1 .0) (a .1 .1 .1 .1 .1 .1 .0 .name) (a .1 .1 .1 .1 .1 .1 .0 .ptr .0) (a .1 .1 .1 .1 .1 .1 .0 .ptr .1) (a .1 .1 .1 .1 .1 .1 .0 .now) (κs .1 .1 .1 .1 .0) (qs .1 .1 .1 .1 .0) (a .1 .1 .1 .1 .1 .1 .1 .0 .name) (a .1 .1 .1 .1 .1 .1 .1 .0 .ptr .0) (a .1 .1 .1 .1 .1 .1 .1 .0 .ptr .1) (a .1 .1 .1 .1 .1 .1 .1 .0 .now) (κs .1 .1 .1 .1 .1 .0) (qs .1 .1 .1 .1 .1 .0) (a .1 .1 .1 .1 .1 .1 .1 .1 .0 .name) (a .1 .1 .1 .1 .1 .1 .1 .1 .0 .ptr .0) (a .1 .1 .1 .1 .1 .1 .1 .1 .0 .ptr .1) (a .1 .1 .1 .1 .1 .1 .1 .1 .0 .now) (κs .1 .1 .1 .1 .1 .1 .0) (qs .1 .1 .1 .1 .1 .1 .0) (a .1 .1 .1 .1 .1 .1 .1 .1 .1 .0 .name) (a .1 .1 .1 .1 .1 .1 .1 .1 .1 .0 .ptr .0) (a .1 .1 .1 .1 .1 .1 .1 .1 .1 .0 .ptr .1) (a .1 .1 .1 .1 .1 .1 .1 .1 .1 .0 .now) (κs .1 .1 .1 .1 .1 .1 .1 .0) (qs .1 .1 .1 .1 .1 .1 .1 .0) (a .1 .1 .1 .1 .1 .1 .1 .1 .1 .1 .0 .name) (a .1 .1 .1 .1 .1 .1 .1 .1 .1 .1 .0 .ptr .0) (a .1 .1 .1 .1 .1 .1 .1 .1 .1 .1 .0 .ptr .1) (a .1 .1 .1 .1 .1 .1 .1 .1 .1 .1 .0 .now) (κs .1 .1 .1 .1 .1 .1 .1 .1 .0) (qs .1 .1 .1 .1 .1 .1 .1 .1 .0) (a .1 .1 .1 .1 .1 .1 .1 .1 .1 .1 .1 .0 .name) (a .1 .1 .1 .1 .1 .1 .1 .1 .1 .1 .1 .0 .ptr .0) (a .1 .1 .1 .1 .1 .1 .1 .1 .1 .1 .1 .0 .ptr .1) (a .1 .1 .1 .1 .1 .1 .1 .1 .1 .1 .1 .0 .now) (κs .1 .1 .1 .1 .1 .1 .1 .1 .1 .0) (qs .1 .1 .1 .1 .1 .1 .1 .1 .1 .0) (a .1 .1 .1 .1 .1 .1 .1 .1 .1 .1 .1 .1 .0 .name) (a .1 .1 .1 .1 .1 .1 .1 .1 .1 .1 .1 .1 .0 .ptr .0) (a .1 .1 .1 .1 .1 .1 .1 .1 .1 .1 .1 .1 .0 .ptr .1) (a .1 .1 .1 .1 .1 .1 .1 .1 .1 .1 .1 .1 .0 .now) (a .0) (a .1 .1 .1 .0) (a .1 .1 .1 .1 .0) (are .0 .1) (are .1 .1 .1 .0 .1) (are .1 .1 .1 .1 .0 .1) 𝓣 k-build k-find k-tell-shown (are .1 .0 .0 .1) (are .1 .1 .0 .0 .1) (are .1 .1 .1 .1 .1 .0 .0 .1) (are .1 .1 .1 .1 .1 .1 .0 .0 .1) (are .1 .1 .1 .1 .1 .1 .1 .0 .0 .1) (are .1 .1 .1 .1 .1 .1 .1 .1 .0 .0 .1) (are .1 .1 .1 .1 .1 .1 .1 .1 .1 .0 .0 .1) (are .1 .1 .1 .1 .1 .1 .1 .1 .1 .1 .0 .0 .1) (are .1 .1 .1 .1 .1 .1 .1 .1 .1 .1 .1 .0 .0 .1))
 
-  ivs-show-meets : Triple 𝓤 (𝓣 .C #packer·build) (Build-of 𝓤 H A mem run) → Triple 𝓤 (𝓣 .C #showing·find) (Find-of 𝓤 H A mem run) → Triple 𝓤 (𝓣 .C #why_words·tell-found) (TellFound-of 𝓤 H A mem run) → Meets 𝓤 H A ivs-show.signature (WpFn 𝓤 H (𝓣 .C) (𝓣 .Λ) code.function) (ivs-show.spec 𝓤 H A mem run)
-  ivs-show-meets k-build k-find k-tell-found = walk-meets 𝓤 H A ivs-show.ended stayed W (goes-none 𝓤 H A W 10 (λ _. u32) yes (λ κs x f. refl), (goes-none-slice 𝓤 H A W 10 (0 ∷ []) tt (plain (λ _. u8)) yes, (goes-none-slice 𝓤 H A W 10 (1 ∷ []) tt (plain (λ _. u8)) yes, (goes-none 𝓤 H A W 10 (λ _. u32) yes (λ κs x f. refl), (goes-none 𝓤 H A W 10 (λ _. u32) yes (λ κs x f. refl), (goes-slice 𝓤 H A W 10 2 tt (plain (λ _. u32)), (goes-slice 𝓤 H A W 10 3 tt (plain (λ _. T.the-row)), (goes-slice 𝓤 H A W 10 4 tt (plain (λ _. u8)), (goes-slice 𝓤 H A W 10 5 tt (plain (λ _. u32)), (goes-slice 𝓤 H A W 10 6 tt (plain (λ _. u32)), (goes-slice 𝓤 H A W 10 7 tt (plain (λ _. u32)), (goes-slice 𝓤 H A W 10 8 tt (plain (λ _. u32)), (goes-ref 𝓤 H A W 10 9 tt (plain (λ _. (Array u64 tt 16))), tt))))))))))))) (ivs-show.clauses 𝓤 H A mem run) (WpFn 𝓤 H (𝓣 .C) (𝓣 .Λ) code.function) (WpFn-mono 𝓤 H (W .laws) 𝓣 code.function) (ivs-show-walks k-build k-find k-tell-found)
+  ivs-show-meets : Triple 𝓤 (𝓣 .C #packer·build) (Build-of 𝓤 H A mem run) → Triple 𝓤 (𝓣 .C #showing·find) (Find-of 𝓤 H A mem run) → Triple 𝓤 (𝓣 .C #why_words·tell-shown) (TellShown-of 𝓤 H A mem run) → Meets 𝓤 H A ivs-show.signature (WpFn 𝓤 H (𝓣 .C) (𝓣 .Λ) code.function) (ivs-show.spec 𝓤 H A mem run)
+  ivs-show-meets k-build k-find k-tell-shown = walk-meets 𝓤 H A ivs-show.ended stayed W (goes-none 𝓤 H A W 10 (λ _. u32) yes (λ κs x f. refl), (goes-none-slice 𝓤 H A W 10 (0 ∷ []) tt (plain (λ _. u8)) yes, (goes-none-slice 𝓤 H A W 10 (1 ∷ []) tt (plain (λ _. u8)) yes, (goes-none 𝓤 H A W 10 (λ _. u32) yes (λ κs x f. refl), (goes-none 𝓤 H A W 10 (λ _. u32) yes (λ κs x f. refl), (goes-slice 𝓤 H A W 10 2 tt (plain (λ _. u32)), (goes-slice 𝓤 H A W 10 3 tt (plain (λ _. T.the-row)), (goes-slice 𝓤 H A W 10 4 tt (plain (λ _. u8)), (goes-slice 𝓤 H A W 10 5 tt (plain (λ _. u32)), (goes-slice 𝓤 H A W 10 6 tt (plain (λ _. u32)), (goes-slice 𝓤 H A W 10 7 tt (plain (λ _. u32)), (goes-slice 𝓤 H A W 10 8 tt (plain (λ _. u32)), (goes-ref 𝓤 H A W 10 9 tt (plain (λ _. (Array u64 tt 16))), tt))))))))))))) (ivs-show.clauses 𝓤 H A mem run) (WpFn 𝓤 H (𝓣 .C) (𝓣 .Λ) code.function) (WpFn-mono 𝓤 H (W .laws) 𝓣 code.function) (ivs-show-walks k-build k-find k-tell-shown)
 
 pub ivs-show-spec : {M : Type 1} → stated.statement M
 unfolding code.routine tablesOf
@@ -405,4 +409,4 @@ ivs-show-spec 𝓤 H 𝓜 𝓖 𝓡 =
     (ivs-show-meets 𝓤 H (𝓖 .A) (givenOf 𝓤 H 𝓜 𝓖) (𝓜 .mem) (𝓡 .run) (tablesOf 𝓤 H 𝓜 (tables 𝓤 H 𝓜 𝓡 code.env))
     (cited 𝓤 H (Build-of 𝓤 H (𝓖 .A) (𝓜 .mem) (𝓡 .run)) 𝓜 𝓡 code.env #packer·build build-def.routine code.calls-packer·build (build-thm.met 𝓤 H 𝓜 𝓖 𝓡))
     (cited 𝓤 H (Find-of 𝓤 H (𝓖 .A) (𝓜 .mem) (𝓡 .run)) 𝓜 𝓡 code.env #showing·find find-def.routine code.calls-showing·find (find-thm.met 𝓤 H 𝓜 𝓖 𝓡))
-    (cited 𝓤 H (TellFound-of 𝓤 H (𝓖 .A) (𝓜 .mem) (𝓡 .run)) 𝓜 𝓡 code.env #why_words·tell-found tell-found-def.routine code.calls-why-words·tell-found (tell-found-thm.met 𝓤 H 𝓜 𝓖 𝓡)))
+    (cited 𝓤 H (TellShown-of 𝓤 H (𝓖 .A) (𝓜 .mem) (𝓡 .run)) 𝓜 𝓡 code.env #why_words·tell-shown tell-shown-def.routine code.calls-why-words·tell-shown (tell-shown-thm.met 𝓤 H 𝓜 𝓖 𝓡)))
