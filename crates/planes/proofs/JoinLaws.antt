@@ -76,6 +76,8 @@ join-costs x y p q k = rw (join-at x y k) (cost-max (getD x k 0) (getD y k 0) (p
 pub measured : (w : List ℕ) (a b n one two four : ℕ) → one ≡ sum (orOnes w a b) n → two ≡ sum (orOnes w (a + n) (b + n)) n → four ≡ sum (orOnes w (a + n + n) (b + n + n)) n
     → MeasuresJoin w a b n (one + two + 2 * four) one
 measured w a b n one two four p q r = record {
+  row-bits = omega (arith, p, q, r);
+  columns-bits = p;
   is = λ x y c d.
       let e = p ∙ plane-count w a b n 1 x y (c .one) (d .one) (c .room) (d .room) in
       let f = q ∙ plane-count w (a + n) (b + n) n 2 x y (c .two) (d .two) (c .room) (d .room) in
@@ -148,6 +150,7 @@ part-ored a b m old new off n y l d h = record {
 pub oring-done : (a b n i : ℕ) (old new : List ℕ) → Oring a b (3 * n) old new i → 3 * n ≤ i → JoinsPlanes a b n old new
 oring-done a b n i old new j h = record {
   only = j .only;
+  words = λ k l. j .done k (omega arith);
   is = λ x y c d.
       let all : (k : ℕ) → k < 3 * n → getD new (a + k) 0 ≡ bitOr (getD old (a + k) 0) (getD old (b + k) 0) = λ k l. j .done k (omega arith) in
       let zero-a : a + 0 ≡ a = omega arith in

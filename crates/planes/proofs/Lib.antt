@@ -3,3 +3,4 @@ pub mod JoinLaws
 pub mod PutLaws
 pub mod Meaning
 pub mod FillLaws
+pub mod Unique

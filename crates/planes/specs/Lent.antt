@@ -5,6 +5,7 @@ use Prim.Native.Nat.{ℕ, _+_, _*_, _≤_, _<_, max}
 use lib.ListN.{length, getD, set}
 use lib.Bits.{bitOr}
 use lib.Count.{ones}
+use Rattle.laws.specs.Bag.{sum}
 use Rattle.laws.specs.LentRange.{Apart, Only, seg}
 use Rattle.shapes.specs.Shape.{Shape, join}
 use Rattle.shapes.specs.Lent.{Measured}
@@ -26,13 +27,16 @@ pub record PlanesAt (w : List ℕ) (a n : ℕ) (s : Shape) : Type 0 where
 unfoldable pub orOnes : List ℕ → ℕ → ℕ → ℕ → ℕ
 orOnes w p q k = ones (bitOr (getD w (p + k) 0) (getD w (q + k) 0))
 
--- the numbers are those of the two shapes joined
+-- the numbers are those of the bits together, which are the two shapes joined
 pub record MeasuresJoin (w : List ℕ) (a b n row cols : ℕ) : Type 0 where
+  pub row-bits : row ≡ sum (orOnes w a b) n + sum (orOnes w (a + n) (b + n)) n + 2 * sum (orOnes w (a + n + n) (b + n + n)) n
+  pub columns-bits : cols ≡ sum (orOnes w a b) n
   pub is : (x y : Shape) → PlanesAt w a n x → PlanesAt w b n y → Measured (join x y) row cols
 
--- the shape at a became the join, and nothing else changed
+-- the words at a have the bits of both, so the shape there became the join; nothing else changed
 pub record JoinsPlanes (a b n : ℕ) (old new : List ℕ) : Type 0 where
   pub only : Only ((a, 3 * n) ∷ []) old new
+  pub words : (k : ℕ) → k < 3 * n → getD new (a + k) 0 ≡ bitOr (getD old (a + k) 0) (getD old (b + k) 0)
   pub is : (x y : Shape) → PlanesAt old a n x → PlanesAt old b n y → PlanesAt new a n (join x y)
 
 -- region r of the shape at a became as wide as c, where it was not wider

@@ -6,4 +6,3 @@ mod putting;
 pub use filling::fill;
 pub use joining::join_into;
 pub use joining::measure_join;
-pub use putting::put;

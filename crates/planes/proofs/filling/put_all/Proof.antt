@@ -33,7 +33,7 @@ loop-less : tie.Need-loop-less Inv-loop μ-loop
 loop-less c = omega arith
 
 loop-again : tie.Need-loop-again Inv-loop μ-loop
-loop-again c = filling-skip _ _ _ _ _ (c .before .before .before .before .before .pre .0) _ _ (c .before .before .before .loop .inv) (c .before .before .loop-test .taken) (c .if1 .taken)
+loop-again c = filling-skip _ _ _ _ _ (c .before .before .before .before .before .pre .0) _ _ (c .before .before .before .loop .inv) (c .before .before .loop-test .taken) (omega (arith, c .if1 .taken))
 
 put-requires : tie.Need-put-requires Inv-loop μ-loop
 put-requires c κs =
