@@ -93,8 +93,8 @@ enum ivs_mode {
 };
 
 /* The 32-bit words of work that a job of r records needs, with g regions at its head (J7):
- * 16 r + min(r, 1,024) x (g + 16); 0 above the record limit (1,048,576), and no more for more regions than there may
- * be. */
+ * 16 r + min(r, 1,024) x (g + 16 + 3 w), where w is g / 32 rounded up; 0 above the record limit (1,048,576), and no
+ * more for more regions than there may be. */
 size_t ivs_work_words(size_t records, size_t regions);
 
 /* The regions at a job's head: the records of kind 1 that it begins with over the axis count, rounded up, at most as

@@ -3,6 +3,7 @@ pub mod DenseIds
 pub mod LivingLaws
 pub mod NumberLaws
 pub mod ArrangeLaws
+pub mod CostLaws
 pub mod ReadyLaws
 pub mod SharedLaws
 pub mod GatherLaws

@@ -1,7 +1,7 @@
 -- The tables of a build have room: the words that a job's records and regions ask for are enough. Assumes nothing.
 use mathlib.Core.Path.{_≡_, refl}
 use mathlib.Core.Logic.{⊎-elim}
-use Prim.Native.Nat.{ℕ, _+_, _-_, _*_, _≤_, _<_, min}
+use Prim.Native.Nat.{ℕ, _+_, _-_, _*_, _/_, _≤_, _<_, min}
 use native.Mathlib.Nat.{mul-add}
 use native.Mathlib.Omega.{arith}
 use borrow.Author.Tests.{eq-eqb, ne-eqb}
@@ -36,7 +36,7 @@ slots-few sets regions room e h = product (maxShapes + 1) maxRegions (omega (ari
 
 -- ---- the tables
 
--- r records, and h regions at their head. Four tables of a word a region have room behind the rows
+-- r records, and h regions at their head. Four tables of a word a region have room behind the rows, and so have the planes of bits from the rows on
 module _ (base n u r h long : ℕ) (p : Places) (f : PlacesAt base n u p) (behind : base ≤ 4 * r + u) (few : r ≤ mostRecords) (narrow : u ≤ maxRegions)
     (fits : n + u ≤ r) (head : u ≤ h) where
   rows-is : p .rows ≡ base + 4 * n + (p .room + 1) * u + 8 * p .room + 3 * (p .room - 1)
@@ -48,20 +48,25 @@ module _ (base n u r h long : ℕ) (p : Places) (f : PlacesAt base n u p) (behin
   most : p .room ≤ maxShapes
   most = omega (arith, f .room-is, room-most n u)
 
-  pub rows-short : p .rows + n + 4 * u ≤ 16 * r + min r maxShapes * (h + 16)
-  rows-short =
-      let q = min r maxShapes in
-      let c : p .room ≤ q = omega (arith, low, most) in
-      let all : p .room * (u + 16) ≤ q * (h + 16) = product q (h + 16) c (omega arith) in
-      let parts : p .room * (u + 16) ≡ p .room * u + p .room * 16 = mul-add (p .room) u 16 in
-      let next = row-next (p .room) u in
-      omega (arith, rows-is)
+  -- the words of so many groups, with their planes
+  shapes-short : p .room * u + p .room * 16 + p .room * (3 * ((u + 31) / 32)) ≤ min r maxShapes * (h + 16 + 3 * ((h + 31) / 32))
+  shapes-short =
+      let b = 3 * ((u + 31) / 32) in
+      let all : p .room * (u + 16 + b) ≤ min r maxShapes * (h + 16 + 3 * ((h + 31) / 32))
+      = product (min r maxShapes) (h + 16 + 3 * ((h + 31) / 32)) (omega (arith, low, most)) (omega arith) in
+      omega (arith, mul-add (p .room) (u + 16) b, mul-add (p .room) u 16)
+
+  pub rows-short : p .rows + n + 4 * u ≤ 16 * r + min r maxShapes * (h + 16 + 3 * ((h + 31) / 32))
+  rows-short = omega (arith, rows-is, low, shapes-short, row-next (p .room) u)
+
+  pub planes-short : p .rows + p .room * (3 * ((u + 31) / 32)) ≤ 16 * r + min r maxShapes * (h + 16 + 3 * ((h + 31) / 32))
+  planes-short = omega (arith, rows-is, low, shapes-short, row-next (p .room) u)
 
   pub rows-few : p .rows + n + 4 * u < 4294967296
   rows-few = omega (arith, rows-is, low, most, slots-few n u (p .room) (f .room-is) narrow)
 
   -- THE LAW: the published words are enough
-  pub laid : 16 * r + min r maxShapes * (h + 16) ≤ long → Laid p long
+  pub laid : 16 * r + min r maxShapes * (h + 16 + 3 * ((h + 31) / 32)) ≤ long → Laid p long
   laid room = record {
     sets-few = omega (arith, f .sets-is);
     regions-few = omega (arith, f .regions-is);
@@ -86,5 +91,6 @@ module _ (base n u r h long : ℕ) (p : Places) (f : PlacesAt base n u p) (behin
     log-to = omega (arith, f .rows-is);
     rows-to = omega (arith, f .sets-is, rows-short);
     scratch-to = rw (f .sets-is, f .regions-is) (omega (arith, rows-short));
+    planes-to = rw (f .regions-is) (omega (arith, planes-short));
     few = rw (f .sets-is) (omega (arith, rows-few));
   }

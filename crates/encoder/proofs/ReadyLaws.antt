@@ -12,8 +12,11 @@ use Rattle.laws.specs.LentRange.{Apart}
 use Rattle.laws.proofs.Products.{product}
 use Rattle.laws.proofs.EveryLaws.{all-imp, all-and, all-getD, two-getD}
 use Rattle.laws.proofs.Pigeon.{onto}
+use Rattle.shapes.specs.Shape.{Shape}
 use Rattle.shapes.specs.Group.{Group}
 use Rattle.shapes.specs.Lent.{Narrow}
+use Rattle.planes.specs.Plane.{IsCost, planeWords}
+use Rattle.planes.proofs.FillLaws.{words-three, long-is}
 use Rattle.sets.specs.Set.{Set}
 use Rattle.sets.specs.Lent.{setsIn}
 use Rattle.sets.proofs.IdLaws.{distinct-most}
@@ -30,6 +33,7 @@ use Rattle.rule.proofs.Theorems.{Proper}
 use Rattle.encoder.specs.declared.places.Places.{Places}
 use Rattle.encoder.specs.LentPlaces.{Laid}
 use Rattle.encoder.specs.LentArranged.{shapesAt, tablesOf, JoinFit}
+use Rattle.encoder.proofs.CostLaws.{groups-costs}
 
 -- the groups stand in the table of shapes as merging reads them
 starting-same : (p : Places) (groups : ℕ) (w : List ℕ) → merge.starting (tablesOf p groups) w ≡ tab.groupsIn (shapesAt p) groups w
@@ -45,6 +49,13 @@ module _ {p : Places} {groups long : ℕ} (lies : Laid p long) (few : groups ≤
   slots-to : p .slots + groups * p .regions ≤ p .order
   slots-to = let q = product (p .room + 1) (p .regions) {a = groups} {b = p .regions} (omega arith) (omega arith) in omega (arith, lies)
 
+  planes-to : p .rows + groups * planeWords (p .regions) ≤ long
+  planes-to =
+      let three = words-three (p .regions) ∙ ap (λ (n : ℕ). 3 * n) (long-is (p .regions)) in
+      let q = product (p .room) (planeWords (p .regions)) {a = groups} {b = planeWords (p .regions)} few (omega arith) in
+      let e = ap (λ (n : ℕ). p .room * n) three in
+      omega (arith, lies .planes-to)
+
   pub tables-laid : merge.Laid (tablesOf p groups) long
   tables-laid = record {
     groups-few = omega (arith, lies);
@@ -57,13 +68,14 @@ module _ {p : Places} {groups long : ℕ} (lies : Laid p long) (few : groups ≤
     columns-end = omega (arith, lies);
     into-end = omega (arith, lies);
     log-end = omega (arith, lies);
+    planes-end = planes-to;
   }
 
 -- merging of no groups has nothing to ask for but room
 pub ready-none : (p : Places) (w : List ℕ) → merge.Laid (tablesOf p 0) (length w) → Ready (tablesOf p 0) w
 unfolding merge.starting tabulate weigh
 ready-none p w l = record {
-  shaped = record { laid = l; narrow = λ s h. absurd (omega arith) };
+  shaped = record { laid = l; narrow = λ s h. absurd (omega arith); costs = λ s h. absurd (omega arith) };
   dealt = record { within = λ i h. absurd (omega arith); apart = λ i j h k. absurd (omega arith) };
   sets-few = omega arith;
 }
@@ -75,7 +87,9 @@ idle p groups {w = w} {w′ = w′} o z =
     let none : groups * p .regions ≡ 0 = omega arith in
     let twice : 2 * groups ≡ 0 = omega arith in
     let late : 3 * (groups - 1) ≡ 0 = omega arith in
-    ext-getD 0 w′ w (o .only .long) (λ i h. o .only .kept i (off (p .slots) (groups * p .regions) i none, (off (p .counts) groups i z, (off (p .place) (2 * groups) i twice, (off (p .costs) groups i z, (off (p .columns) groups i z, (off (p .into) (2 * groups) i twice, (off (p .log) (3 * (groups - 1)) i late, tt))))))))
+    let bits₀ : groups * planeWords (p .regions) ≡ 0 * planeWords (p .regions) = ap (λ (n : ℕ). n * planeWords (p .regions)) z in
+    let bits : groups * planeWords (p .regions) ≡ 0 = omega arith in
+    ext-getD 0 w′ w (o .only .long) (λ i h. o .only .kept i (off (p .slots) (groups * p .regions) i none, (off (p .counts) groups i z, (off (p .place) (2 * groups) i twice, (off (p .costs) groups i z, (off (p .columns) groups i z, (off (p .into) (2 * groups) i twice, (off (p .log) (3 * (groups - 1)) i late, (off (p .rows) (groups * planeWords (p .regions)) i bits, tt)))))))))
   where
     off : (a n k : ℕ) → n ≡ 0 → Apart a n k 1
     off a n k e = record { apart = λ h. omega arith }
@@ -112,6 +126,14 @@ module _ {p : Places} {groups ids : ℕ} {w : List ℕ} (f : JoinFit p groups id
       let g = all-getD (λ (x : Group). Narrow (x .shape)) (tab.groupsIn (shapesAt p) groups w) (i .0) none (f .grouped .table .narrow) (omega (arith, i .1)) in
       subst Narrow (shape-at (shapesAt p) groups w (i .0) (i .1) ∙ ap (λ (x : ℕ). tab.shapeIn (shapesAt p) x w) (i .2)) g
 
+  slot-costs : (s : ℕ) → s < groups → (k : ℕ) → IsCost (getD (tab.shapeIn (shapesAt p) s w) k 0)
+  slot-costs s h =
+      let i = slot-of s h in
+      let n = groups-length (shapesAt p) groups w in
+      let all = subst (All (λ (x : Group). (k : ℕ) → IsCost (getD (x .shape) k 0))) (sym (f .grouped .groups)) (groups-costs (p .regions) (setsIn 0 (p .sets) w)) in
+      let g = all-getD (λ (x : Group). (k : ℕ) → IsCost (getD (x .shape) k 0)) (tab.groupsIn (shapesAt p) groups w) (i .0) none all (omega (arith, i .1)) in
+      subst (λ (x : Shape). (k : ℕ) → IsCost (getD x k 0)) (shape-at (shapesAt p) groups w (i .0) (i .1) ∙ ap (λ (x : ℕ). tab.shapeIn (shapesAt p) x w) (i .2)) g
+
   pub merge-laid : merge.Laid (tablesOf p groups) (length w)
   merge-laid = tables-laid (f .laid) groups-fit
 
@@ -126,7 +148,11 @@ module _ {p : Places} {groups ids : ℕ} {w : List ℕ} (f : JoinFit p groups id
 
   pub ready : Ready (tablesOf p groups) w
   ready = record {
-    shaped = record { laid = merge-laid; narrow = λ s h. subst Narrow (sym (shape-same p groups w s)) (slot-narrow s h) };
+    shaped = record {
+      laid = merge-laid;
+      narrow = λ s h. subst Narrow (sym (shape-same p groups w s)) (slot-narrow s h);
+      costs = λ s h. subst (λ (x : Shape). (k : ℕ) → IsCost (getD x k 0)) (sym (shape-same p groups w s)) (slot-costs s h);
+    };
     dealt = record { within = slot-below; apart = slot-apart };
     sets-few = sets-few;
   }

@@ -90,7 +90,7 @@ module _ {p : Places} {groups ids : ℕ} {w : List ℕ} (f : JoinFit p groups id
 
   low : (i : ℕ) → i < p .slots → getD w′ i 0 ≡ getD w i 0
   low i h = kept-only {end = p .slots} (o .only)
-      (omega arith, (omega (arith, lies), (omega (arith, lies), (omega (arith, lies), (omega (arith, lies), (omega (arith, lies), (omega (arith, lies), tt))))))) .below i h
+      (omega arith, (omega (arith, lies), (omega (arith, lies), (omega (arith, lies), (omega (arith, lies), (omega (arith, lies), (omega (arith, lies), (omega (arith, lies), tt)))))))) .below i h
 
   order-kept : (i : ℕ) → i < groups → getD w′ (p .order + i) 0 ≡ getD w (p .order + i) 0
   order-kept i h =
@@ -104,7 +104,13 @@ module _ {p : Places} {groups ids : ℕ} {w : List ℕ} (f : JoinFit p groups id
             record { apart = λ x. absurd (omega (arith, lies)) },
             (
               record { apart = λ x. absurd (omega (arith, lies)) },
-              (record { apart = λ x. absurd (omega (arith, lies)) }, (record { apart = λ x. absurd (omega (arith, lies)) }, (record { apart = λ x. absurd (omega (arith, lies)) }, tt))),
+              (
+                record { apart = λ x. absurd (omega (arith, lies)) },
+                (
+                  record { apart = λ x. absurd (omega (arith, lies)) },
+                  (record { apart = λ x. absurd (omega (arith, lies)) }, (record { apart = λ x. absurd (omega (arith, lies)) }, tt)),
+                ),
+              ),
             ),
           ),
         ),
@@ -494,7 +500,7 @@ module _ {p : Places} {groups ids : ℕ} {w : List ℕ} (f : JoinFit p groups id
                   part (u .0) (omega (arith, lies)) (omega (arith, lies)),
                   (
                     part (u .0) (omega (arith, lies)) (omega (arith, lies)),
-                    (part (u .0) (omega (arith, lies)) (omega (arith, lies)), tt),
+                    (part (u .0) (omega (arith, lies)) (omega (arith, lies)), (part (u .0) (omega (arith, lies)) (omega (arith, lies, merge-laid f .planes-end)), tt)),
                   ),
                 ),
               ),

@@ -105,6 +105,7 @@ tablesOf p groups = record {
   columns = p .columns;
   into = p .into;
   log = p .log;
+  planes = p .rows;
 }
 
 -- there are too many shapes, or the groups are merging's to join

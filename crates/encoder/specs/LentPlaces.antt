@@ -1,6 +1,6 @@
 -- Where the tables of a build stand in work. Assumes nothing.
 use mathlib.Core.Path.{_≡_}
-use Prim.Native.Nat.{ℕ, _+_, _-_, _*_, _≤_, _<_, min}
+use Prim.Native.Nat.{ℕ, _+_, _-_, _*_, _/_, _≤_, _<_, min}
 use lib.Dec.{eqb}
 use Rattle.laws.specs.Pick.{pick}
 use Rattle.limits.specs.Limits.{mostRecords, maxRegions, maxShapes}
@@ -38,7 +38,8 @@ pub record PlacesAt (base sets regions : ℕ) (p : Places) : Type 0 where
 abbrev pub scratchAt : Places → ℕ
 scratchAt p = p .rows + p .sets
 
--- They lie one behind the other in so many words.
+-- They lie one behind the other in so many words. While groups are merged the words from `rows` on have room for the planes of bits of the
+-- slots: three of each slot, a bit a region, each in whole words.
 pub record Laid (p : Places) (long : ℕ) : Type 0 where
   pub sets-few : p .sets ≤ mostRecords
   pub regions-few : p .regions ≤ maxRegions
@@ -63,4 +64,5 @@ pub record Laid (p : Places) (long : ℕ) : Type 0 where
   pub log-to : p .log + 3 * (p .room - 1) ≤ p .rows
   pub rows-to : p .rows + p .sets ≤ long
   pub scratch-to : scratchAt p + 4 * p .regions ≤ long
+  pub planes-to : p .rows + p .room * (3 * ((p .regions + 31) / 32)) ≤ long
   pub few : p .rows + p .sets < 4294967296

@@ -36,7 +36,7 @@ pub fn gather(work: &mut [u32], p: Places) -> Gathering
     Gathering::Groups(groups, distinct)
 }
 
-// Where merging finds so many groups.
+// Where merging finds so many groups. The words from `rows` on are free until they are arranged: the planes stand there.
 pub fn tables(p: Places, groups: usize) -> MergeTables
     ensures { λ r. ⌜ r ≡ tablesOf p groups ⌝ }
 {
@@ -51,6 +51,7 @@ pub fn tables(p: Places, groups: usize) -> MergeTables
         columns: p.columns,
         into: p.into,
         log: p.log,
+        planes: p.rows,
     }
 }
 

@@ -12,15 +12,16 @@ ghost use Rattle.said.specs.Refusals.{publishedWork, workWords, earlyNo};
 ghost use Rattle.said.specs.LentOpen.{Open};
 ghost use Rattle.limits.specs.Limits.{mostRecords, maxRegions};
 
-// The words of work that a job of so many records and regions needs.
+// The words of work that a job of so many records and regions needs. A shape has a word a region, sixteen, and its planes of bits.
 fn needed(records: usize, regions: usize) -> usize
     requires { ⌜ (records ≤ mostRecords) × (regions ≤ maxRegions) ⌝ }
     ensures { λ r. ⌜ r ≡ publishedWork records regions ⌝ }
 {
+    let shape = regions + 16 + 3 * ((regions + 31) / 32);
     if records < Limits::SHAPES {
-        return 16 * records + records * (regions + 16);
+        return 16 * records + records * shape;
     }
-    16 * records + Limits::SHAPES * (regions + 16)
+    16 * records + Limits::SHAPES * shape
 }
 
 // The published number for so many records and regions; 0 above the record limit, and no more for more regions than there may be.

@@ -28,7 +28,7 @@ pub words-of : (axes : ℕ) (job : List ℕ) (n r w : ℕ) → n ≡ recordCount
 words-of axes job n r w e f h g = g ∙ ap₂ workWords e f ∙ words-are (recordCount job) (headRegions axes job) h (head-most axes job)
 
 pub published-most : (n r : ℕ) → n ≤ mostRecords → publishedWork n (min r maxRegions) ≤ 0x1000_0000
-published-most n r h = omega (arith, work-most n (min r maxRegions))
+published-most n r h = omega (arith, work-most n (min r maxRegions) (omega arith))
 
 -- ---- as it is asked for
 

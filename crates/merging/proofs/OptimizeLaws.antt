@@ -92,7 +92,7 @@ module _ (t : MergeTables) (w w₁ : List ℕ) (h : Ready t w) (q : MeasuredAll 
     place₂ i l = s .is i l ∙ ap (λ (x : ℕ). x + 1) (order₁ i l)
 
     sound₂ : Sound t w₂
-    sound₂ = frame-sound t w₁ w₂ lies₁ (s .only) (λ k a b. omega (arith, lies)) (λ k a b. omega (arith, lies)) (λ k a b. omega (arith, lies)) (q .sound)
+    sound₂ = frame-sound t w₁ w₂ lies₁ (s .only) (λ k a b. omega (arith, lies)) (λ k a b. omega (arith, lies)) (λ k a b. omega (arith, lies)) (λ k a b. omega (arith, lies)) (q .sound)
 
     groups₂ : (i : ℕ) → i < t .groups → groupIn t w₂ i ≡ groupIn t w i
     groups₂ i l = frame-groups t w₁ w₂ lies₁ (s .only) (λ k a b. omega (arith, lies)) (λ k a b. omega (arith, lies)) i l ∙ groups₁ i l
@@ -211,7 +211,7 @@ module _ {t : MergeTables} {xs : List Group} {n m j z : ℕ} {w : List ℕ} {ps 
         s .held .apart c d l k (omega arith) (sym ec ∙ e ∙ ed)
 
     end-sound : Sound t w′
-    end-sound = frame-sound t w w′ sits (f .only) (λ k a b. omega (arith, sits)) (λ k a b. omega (arith, sits)) (λ k a b. omega (arith, sits)) (s .held .sound)
+    end-sound = frame-sound t w w′ sits (f .only) (λ k a b. omega (arith, sits)) (λ k a b. omega (arith, sits)) (λ k a b. omega (arith, sits)) (λ k a b. omega (arith, sits)) (s .held .sound)
 
     end-log : seg (t .log) (3 * j) w′ ≡ words (run j (start xs) .log)
     end-log =
@@ -247,7 +247,7 @@ module _ {t : MergeTables} {w w₁ w₂ : List ℕ} {ps ps₁ : List Pair} {z n 
         let c : Standing t xs 0 m′ j z′ w₄ ps₂ = rw (r .done) at b in
         let d : run j (start xs) ≡ merged xs = standing-done t xs m′ j z′ w₄ ps₂ c in
         record {
-          only = only-trans (only-weaken (λ k u. (u .1 .1 .1 .0, (u .1 .1 .1 .1 .0, tt))) (q .only))
+          only = only-trans (only-weaken (λ k u. (u .1 .1 .1 .0, (u .1 .1 .1 .1 .0, (u .1 .1 .1 .1 .1 .1 .1 .0, tt)))) (q .only))
               (only-trans (only-weaken (λ k u. (apart-part (u .1 .1 .0) (omega arith) (omega arith), tt)) (s .only))
               (only-trans (r .only) (only-weaken (λ k u. (u .1 .1 .1 .1 .1 .0, tt)) (f .only))));
           merges-are = sym (b .held .log-long) ∙ ap (λ (i : State). length (i .log)) d;

@@ -8,6 +8,7 @@ use Rattle.laws.specs.Bag.{sum, weigh}
 use Rattle.laws.specs.Every.{All}
 use Rattle.laws.specs.LentRange.{Only, seg}
 use Rattle.shapes.specs.Group.{Group, gain, joined}
+use Rattle.planes.specs.Plane.{planeWords}
 use Rattle.rule.specs.Model.{Living, State, start, run, total}
 use Rattle.rule.specs.Told.{Among, words}
 use Rattle.pairs.specs.declared.Pair.{Pair}
@@ -77,6 +78,7 @@ written t =
     ∷ (t .columns, t .groups)
     ∷ (t .into, 2 * t .groups)
     ∷ (t .log, 3 * (t .groups - 1))
+    ∷ (t .planes, t .groups * planeWords (t .regions))
     ∷ []
 
 -- numbers a and b died, and number k, in the slot that a had, is what they became

@@ -38,12 +38,13 @@ pub extern "C" fn fenikezo_optimize(
     columns: usize,
     into: usize,
     log: usize,
+    planes: usize,
     told: &mut [u64],
 ) -> usize
-    requires { ⌜ Ready (record { regions = regions; groups = groups; slots = slots; order = order; counts = counts; place = place; costs = costs; columns = columns; into = into; log = log }) (now work) ⌝ }
+    requires { ⌜ Ready (record { regions = regions; groups = groups; slots = slots; order = order; counts = counts; place = place; costs = costs; columns = columns; into = into; log = log; planes = planes }) (now work) ⌝ }
     requires { ⌜ room groups ≤ length (now pairs) ⌝ }
     requires { ⌜ length (now told) ≡ 3 ⌝ }
-    ensures { λ r. ⌜ Optimized (record { regions = regions; groups = groups; slots = slots; order = order; counts = counts; place = place; costs = costs; columns = columns; into = into; log = log }) r (getD (now (told .exit)) 0 0) (getD (now (told .exit)) 1 0) (getD (now (told .exit)) 2 0) (now (work .entry)) (now (work .exit)) ⌝ }
+    ensures { λ r. ⌜ Optimized (record { regions = regions; groups = groups; slots = slots; order = order; counts = counts; place = place; costs = costs; columns = columns; into = into; log = log; planes = planes }) r (getD (now (told .exit)) 0 0) (getD (now (told .exit)) 1 0) (getD (now (told .exit)) 2 0) (now (work .entry)) (now (work .exit)) ⌝ }
     ensures { λ _. ⌜ SameFrom (now (pairs .entry)) (room groups) (now (pairs .exit)) ⌝ }
 {
     let t = MergeTables {
@@ -57,6 +58,7 @@ pub extern "C" fn fenikezo_optimize(
         columns,
         into,
         log,
+        planes,
     };
     let m = optimize(pairs, work, t);
     tell(told, m)

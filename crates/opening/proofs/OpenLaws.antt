@@ -38,6 +38,7 @@ nowhere-ready w = ready-none noPlaces w (record {
   columns-end = omega arith;
   into-end = omega arith;
   log-end = omega arith;
+  planes-end = omega arith;
 })
 
 -- ---- the records

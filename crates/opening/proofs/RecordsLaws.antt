@@ -1,7 +1,7 @@
 -- A job whose records are read: its sets are held, its regions' starts noted, and the tables laid out behind them. Assumes nothing.
 use mathlib.Core.Path.{_≡_, sym, ap, _∙_}
 use mathlib.Core.List.{List, [], map}
-use Prim.Native.Nat.{ℕ, _+_, _*_, _≤_, _<_, min}
+use Prim.Native.Nat.{ℕ, _+_, _*_, _/_, _≤_, _<_, min}
 use native.Mathlib.Omega.{arith}
 use lib.ListN.{length, getD}
 use Rattle.laws.proofs.Products.{row-fits}
@@ -70,7 +70,7 @@ module _ {axes mode records : ℕ} {job w w₁ : List ℕ} (some : 0 < axes) (fe
   head : uses ≤ headRegions axes job
   head = omega (arith, head-enough axes mode job records says some bytes room (held .is), cs .used-few, held .uses-are)
 
-  published : 16 * records + min records maxShapes * (headRegions axes job + 16) ≤ length w₁
+  published : 16 * records + min records maxShapes * (headRegions axes job + 16 + 3 * ((headRegions axes job + 31) / 32)) ≤ length w₁
   unfolding publishedWork
   published = omega (arith, r .only .long)
 

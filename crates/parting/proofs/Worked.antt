@@ -41,7 +41,7 @@ answers =
     ∷ partOf 1 job 3 0 4096
     ∷ partOf 1 job 2 3 4096
     ∷ partOf 1 (job ++ valueRecord 0 1) 9 9 4096
-    ∷ partOf 1 job 9 9 335
+    ∷ partOf 1 job 9 9 455
     ∷ []
 
 worked : answers ≡

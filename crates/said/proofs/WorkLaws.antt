@@ -5,7 +5,7 @@ use mathlib.Core.Bool.{true, false}
 use mathlib.Core.List.{List}
 use mathlib.Core.Logic.{⊎-elim}
 use Prim.Native.Nat.{ℕ, zero, suc, _+_, _-_, _*_, _/_, _%_, _≤_, _<_, min}
-use native.Mathlib.Nat.{le-refl, mod-eq-sub-div-mul, div-mul-le-self, lt-div-mul-add, le-of-mul-le-mul-right}
+use native.Mathlib.Nat.{le-refl, mul-add, mod-eq-sub-div-mul, div-mul-le-self, lt-div-mul-add, le-of-mul-le-mul-right}
 use native.Mathlib.Omega.{arith}
 use lib.ListN.{length, getD, drop}
 use lib.Seq.{drop-drop}
@@ -26,18 +26,21 @@ use Rattle.said.proofs.SaidLaws.{Counts, counts}
 
 -- ---- how many words they are
 
-pub work-most : (n r : ℕ) → publishedWork n r ≤ 16 * n + 1024 * r + 4194304
+pub work-most : (n r : ℕ) → r ≤ maxRegions → publishedWork n r ≤ 16 * n + 1024 * r + 4194304
 unfolding publishedWork
-work-most n r =
+work-most n r l =
+    let s = r + 16 + 3 * ((r + 31) / 32) in
     let h : min n 1024 ≤ 1024 = omega arith in
-    omega (arith, product 1024 (r + 16) h (le-refl (r + 16)))
+    omega (arith, product 1024 s h (le-refl s))
 
 -- a small job asks for little
-pub work-small : (n r : ℕ) → publishedWork n r ≤ n * (r + 32)
+pub work-small : (n r : ℕ) → publishedWork n r ≤ n * (r + 32 + 3 * ((r + 31) / 32))
 unfolding publishedWork
 work-small n r =
+    let s = r + 16 + 3 * ((r + 31) / 32) in
     let h : min n 1024 ≤ n = omega arith in
-    omega (arith, product n (r + 16) h (le-refl (r + 16)))
+    let same : s + 16 ≡ r + 32 + 3 * ((r + 31) / 32) = omega arith in
+    rw (← same) (omega (arith, product n s h (le-refl s), mul-add n s 16))
 
 -- sixteen words a record, whatever the regions
 pub work-records : (n r : ℕ) → 16 * n ≤ publishedWork n r
@@ -54,7 +57,7 @@ unfolding workWords
 words-most n r = go (which (leb n mostRecords))
   where
     go : Which (leb n mostRecords) → pick (leb n mostRecords) (publishedWork n (min r maxRegions)) 0 ≤ 16 * n + 1024 * r + 4194304
-    go (holds e) = rw e (omega (arith, work-most n (min r maxRegions)))
+    go (holds e) = rw e (omega (arith, work-most n (min r maxRegions) (omega arith)))
     go (fails e) = rw e (omega arith)
 
 -- ---- the regions at the head

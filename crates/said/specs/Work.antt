@@ -15,9 +15,9 @@ headRun r (suc n) = pick (isAxis r) (suc (headRun (afterRecord r) n)) 0
 unfoldable pub headRegions : (axes : ℕ) (job : List ℕ) → ℕ
 headRegions axes job = pick (eqb axes 0) 0 (min ((headRun job (recordCount job) + (axes - 1)) / axes) maxRegions)
 
--- the published number of words, of so many records and regions
+-- the published number of words, of so many records and regions: the planes of bits of a shape are three bits a region, in whole words each
 unfoldable pub publishedWork : (records regions : ℕ) → ℕ
-publishedWork n r = 16 * n + min n maxShapes * (r + 16)
+publishedWork n r = 16 * n + min n maxShapes * (r + 16 + 3 * ((r + 31) / 32))
 
 -- of a job
 abbrev pub jobWork : (axes : ℕ) (job : List ℕ) → ℕ

@@ -110,7 +110,8 @@ heads : headRegions 2 (axisRecord 0 0 64 ++ (axisRecord 0 1 64 ++ axisRecord 1 0
 unfolding headRegions headRun
 heads = refl
 
--- the words of work: of one record, of seven with two regions, at the record limit and above it
-words : workWords 1 0 ∷ workWords 7 2 ∷ workWords 1048576 0 ∷ workWords 1048577 0 ∷ [] ≡ 32 ∷ 238 ∷ 16793600 ∷ 0 ∷ []
+-- the words of work: of one record, of seven with two regions, of a hundred with 32 and with 33, at the record limit with none and with all regions, and above it
+words : workWords 1 0 ∷ workWords 7 2 ∷ workWords 100 32 ∷ workWords 100 33 ∷ workWords 1048576 0 ∷ workWords 1048576 32767 ∷ workWords 1048577 0 ∷ []
+    ≡ 32 ∷ 259 ∷ 6700 ∷ 7100 ∷ 16793600 ∷ 53492736 ∷ 0 ∷ []
 unfolding workWords publishedWork
 words = refl

@@ -1,21 +1,23 @@
 -- Laws of the tables of a merge. Assumes nothing.
-use mathlib.Core.Path.{_≡_, refl, sym, ap, subst, _∙_}
+use mathlib.Core.Path.{_≡_, sym, ap, _∙_}
 use mathlib.Core.Bool.{true}
 use mathlib.Core.List.{List}
 use Prim.Native.Nat.{ℕ, _+_, _-_, _*_, _≤_, _<_}
 use native.Mathlib.Omega.{arith}
-use lib.ListN.{length, take, drop}
-use Rattle.laws.specs.LentRange.{seg}
+use lib.ListN.{length}
 use Rattle.laws.proofs.RangeLaws.{length-seg}
 use Rattle.laws.proofs.Products.{product, row-fits}
 use Rattle.shapes.specs.Shape.{join}
 use Rattle.shapes.specs.Group.{Group, gain}
-use Rattle.shapes.specs.Lent.{Narrow, Measured, Small, costOf, tooFar}
+use Rattle.shapes.specs.Lent.{Measured, Small, costOf, tooFar}
 use Rattle.shapes.proofs.ShapeLaws.{overhead-most}
 use Rattle.shapes.proofs.GroupLaws.{gain-measured, gain-most, far-none}
 use Rattle.shapes.proofs.LentLaws.{narrow-small, narrow-join}
 use Rattle.slots.specs.declared.tables.MergeTables.{MergeTables}
-use Rattle.slots.specs.Lent.{Laid, shapeIn, groupIn, Shaped, Sound, CostsAs}
+use Rattle.planes.specs.Plane.{planeLong, planeWords}
+use Rattle.planes.specs.Lent.{MeasuresJoin}
+use Rattle.planes.proofs.FillLaws.{words-three, long-few}
+use Rattle.slots.specs.Lent.{Laid, shapeIn, groupIn, planeAt, Shaped, Sound, CostsAs}
 
 -- ---- slots
 
@@ -29,18 +31,23 @@ pub shape-length : (t : MergeTables) (w : List ℕ) (s : ℕ) → Laid t (length
 unfolding shapeIn
 shape-length t w s h l = length-seg (t .slots + s * t .regions) (t .regions) w (slot-room t (length w) s h l)
 
--- a slot lent as a part
-pub part-is : (t : MergeTables) (w : List ℕ) (s x : ℕ) → x ≡ t .slots + s * t .regions → take (x + t .regions - x) (drop x w) ≡ shapeIn t w s
-unfolding shapeIn seg
-part-is t w s x e =
-    let d : x + t .regions - x ≡ t .regions = omega arith in
-    ap (λ (n : ℕ). take n (drop x w)) d ∙ ap (λ (y : ℕ). take (t .regions) (drop y w)) e
+-- ---- the planes of a slot
 
-pub part-narrow : (t : MergeTables) (w : List ℕ) (s x : ℕ) → Shaped t w → s < t .groups → x ≡ t .slots + s * t .regions → Narrow (take (x + t .regions - x) (drop x w))
-part-narrow t w s x h l e = subst Narrow (sym (part-is t w s x e)) (h .narrow s l)
+pub plane-row : (s r n : ℕ) → n ≡ planeLong r → s * (3 * n) ≡ s * planeWords r
+plane-row s r n e = ap (λ (m : ℕ). s * (3 * m)) e ∙ ap (λ (m : ℕ). s * m) (sym (words-three r))
 
-pub part-length : (t : MergeTables) (w : List ℕ) (s x : ℕ) → Shaped t w → s < t .groups → x ≡ t .slots + s * t .regions → length (take (x + t .regions - x) (drop x w)) ≡ t .regions
-part-length t w s x h l e = ap length (part-is t w s x e) ∙ shape-length t w s (h .laid) l
+pub plane-end : (t : MergeTables) (n s : ℕ) → Laid t n → s < t .groups → planeAt t s + planeWords (t .regions) ≤ t .planes + t .groups * planeWords (t .regions)
+plane-end t n s h l = omega (arith, row-fits (planeWords (t .regions)) (t .groups) s l)
+
+-- all other tables lie before them
+pub plane-past : (t : MergeTables) (n s : ℕ) → Laid t n → t .log + 3 * (t .groups - 1) ≤ planeAt t s
+plane-past t n s h = omega (arith, h .log-end)
+
+pub plane-room : (t : MergeTables) (n s x words : ℕ) → Laid t n → s < t .groups → x ≡ planeAt t s → words ≡ planeLong (t .regions) → x + 3 * words ≤ n
+plane-room t n s x words h l e f = omega (arith, plane-end t n s h l, h .planes-end, words-three (t .regions))
+
+pub plane-few : (t : MergeTables) (n words : ℕ) → Laid t n → words ≡ planeLong (t .regions) → words ≤ 1048576
+plane-few t n words h e = omega (arith, long-few (t .regions) (h .regions-few))
 
 -- ---- weighing two slots, by their numbers
 
@@ -53,11 +60,13 @@ costs-measured t w s row cols sets h l c = record {
 pub costs-small : (t : MergeTables) (w : List ℕ) (s row cols sets : ℕ) → Sound t w → s < t .groups → CostsAs t w s row cols sets → Small row cols
 costs-small t w s row cols sets h l c = narrow-small (shapeIn t w s) row cols (h .shaped .narrow s l) (costs-measured t w s row cols sets h l c)
 
-module _ (t : MergeTables) (w : List ℕ) (a b x y rj cj : ℕ) (h : Sound t w) (la : a < t .groups) (lb : b < t .groups)
-    (ex : x ≡ t .slots + a * t .regions) (ey : y ≡ t .slots + b * t .regions)
-    (j : Measured (join (take (x + t .regions - x) (drop x w)) (take (y + t .regions - y) (drop y w))) rj cj) where
+module _ (t : MergeTables) (w : List ℕ) (a b x y words rj cj : ℕ) (h : Sound t w) (la : a < t .groups) (lb : b < t .groups)
+    (ex : x ≡ planeAt t a) (ey : y ≡ planeAt t b) (el : words ≡ planeLong (t .regions)) (j : MeasuresJoin w x y words rj cj) where
+  at-slots : MeasuresJoin w (planeAt t a) (planeAt t b) (planeLong (t .regions)) rj cj
+  at-slots = rw (ex, ey, el) at j
+
   joined-measured : Measured (join (shapeIn t w a) (shapeIn t w b)) rj cj
-  joined-measured = rw (part-is t w a x ex, part-is t w b y ey) at j
+  joined-measured = at-slots .is (shapeIn t w a) (shapeIn t w b) (h .planed a la) (h .planed b lb)
 
   pub joined-small : Small rj cj
   joined-small =

@@ -1,5 +1,8 @@
 // Groups in their slots: what two gain, and joining them.
 use crate::tables::MergeTables;
+use planes::fill;
+use planes::join_into;
+use planes::measure_join;
 use shapes::Encoding;
 use shapes::RowShape;
 ghost use mathlib.Core.Path.{_≡_};
@@ -8,7 +11,7 @@ ghost use Prim.Native.Nat.{_+_, _<_};
 ghost use lib.ListN.{length};
 ghost use Rattle.laws.specs.Bag.{weigh};
 ghost use Rattle.shapes.specs.Group.{gain, groupCost};
-ghost use Rattle.slots.specs.Lent.{Laid, Shaped, Sound, Dealt, groupIn, starting, CostsAs, MeasuredIn, MeasuredAll, JoinedIn};
+ghost use Rattle.slots.specs.Lent.{Laid, Shaped, Sound, Dealt, groupIn, starting, CostsAs, NotedIn, MeasuredIn, MeasuredAll, ShapesJoined, JoinedIn};
 
 // What the group in slot s costs, from its numbers.
 fn costs(work: &[u32], t: MergeTables, s: usize) -> Encoding
@@ -29,19 +32,17 @@ fn costs(work: &[u32], t: MergeTables, s: usize) -> Encoding
     }
 }
 
-// What joining the groups in slots a and b saves: one pass over their shapes.
+// What joining the groups in slots a and b saves: one pass over their planes.
 fn scan(work: &[u32], t: MergeTables, a: usize, b: usize) -> u32
     requires { ⌜ Sound t (now work) ⌝ }
     requires { ⌜ a < t .groups ⌝ }
     requires { ⌜ b < t .groups ⌝ }
     ensures { λ r. ⌜ r ≡ gain (groupIn t (now (work .entry)) a) (groupIn t (now (work .entry)) b) ⌝ }
 {
-    let regions = t.regions;
-    let x = t.slot(a);
-    let y = t.slot(b);
-    let x_end = x + regions;
-    let y_end = y + regions;
-    let joined = RowShape::joined(&work[x..x_end], &work[y..y_end]);
+    let words = t.plane_long();
+    let x = t.plane(a);
+    let y = t.plane(b);
+    let joined = measure_join(work, x, y, words);
     let first = costs(work, t, a);
     let second = costs(work, t, b);
     let saved = first.gain(second, joined);
@@ -63,20 +64,33 @@ pub fn weigh(work: &[u32], t: MergeTables, a: usize, b: usize) -> u32
     scan(work, t, a, b)
 }
 
-// Notes what the shape in slot s costs.
+// Notes what the shape in slot s costs, which its planes say.
+fn note_costs(work: &mut [u32], t: MergeTables, s: usize)
+    requires { ⌜ Laid t (length (now work)) ⌝ }
+    requires { ⌜ s < t .groups ⌝ }
+    ensures { λ _. ⌜ NotedIn t s (now (work .entry)) (now (work .exit)) ⌝ }
+{
+    let words = t.plane_long();
+    let x = t.plane(s);
+    let shape = measure_join(work, x, x, words);
+    let rows = t.costs;
+    let columns = t.columns;
+    work[rows + s] = shape.row_cost;
+    work[columns + s] = shape.columns;
+}
+
+// Writes the planes of the shape in slot s, and what it costs.
 fn measure(work: &mut [u32], t: MergeTables, s: usize)
     requires { ⌜ Shaped t (now work) ⌝ }
     requires { ⌜ s < t .groups ⌝ }
     ensures { λ _. ⌜ MeasuredIn t s (now (work .entry)) (now (work .exit)) ⌝ }
 {
     let regions = t.regions;
+    let words = t.plane_long();
     let x = t.slot(s);
-    let x_end = x + regions;
-    let shape = RowShape::of(&work[x..x_end]);
-    let rows = t.costs;
-    let columns = t.columns;
-    work[rows + s] = shape.row_cost;
-    work[columns + s] = shape.columns;
+    let y = t.plane(s);
+    fill(work, x, regions, y, words);
+    note_costs(work, t, s);
 }
 
 // Of every slot.
@@ -92,6 +106,24 @@ pub fn measure_all(work: &mut [u32], t: MergeTables)
     }
 }
 
+// Makes the shape in slot a be that of slots a and b joined, and its planes with it.
+fn join_shapes(work: &mut [u32], t: MergeTables, a: usize, b: usize)
+    requires { ⌜ Sound t (now work) ⌝ }
+    requires { ⌜ a < t .groups ⌝ }
+    requires { ⌜ b < t .groups ⌝ }
+    requires { ⌜ a ≢ b ⌝ }
+    ensures { λ _. ⌜ ShapesJoined t a b (now (work .entry)) (now (work .exit)) ⌝ }
+{
+    let regions = t.regions;
+    let words = t.plane_long();
+    let x = t.slot(a);
+    let y = t.slot(b);
+    let p = t.plane(a);
+    let q = t.plane(b);
+    RowShape::join(work, x, y, regions);
+    join_into(work, p, q, words);
+}
+
 // Makes the group in slot a be that of slots a and b joined.
 pub fn join_slots(work: &mut [u32], t: MergeTables, a: usize, b: usize)
     requires { ⌜ Sound t (now work) ⌝ }
@@ -101,13 +133,10 @@ pub fn join_slots(work: &mut [u32], t: MergeTables, a: usize, b: usize)
     requires { ⌜ groupIn t (now work) a .sets + groupIn t (now work) b .sets < 4294967296 ⌝ }
     ensures { λ _. ⌜ JoinedIn t a b (now (work .entry)) (now (work .exit)) ⌝ }
 {
-    let regions = t.regions;
     let counts = t.counts;
-    let x = t.slot(a);
-    let y = t.slot(b);
-    RowShape::join(work, x, y, regions);
+    join_shapes(work, t, a, b);
     work[counts + a] = work[counts + a] + work[counts + b];
-    measure(work, t, a);
+    note_costs(work, t, a);
 }
 
 // What the starting groups cost together.

@@ -50,6 +50,7 @@ extern "C" {
         columns: usize,
         into: usize,
         log: usize,
+        planes: usize,
         told: *mut u64,
         told_len: usize,
     ) -> usize;
@@ -67,6 +68,7 @@ struct Tables {
     columns: usize,
     into: usize,
     log: usize,
+    planes: usize,
     end: usize,
 }
 
@@ -80,6 +82,7 @@ impl Tables {
         let columns = rows + groups;
         let into = columns + groups;
         let log = into + 2 * groups;
+        let planes = log + 3 * groups;
         Tables {
             order,
             counts,
@@ -88,7 +91,8 @@ impl Tables {
             columns,
             into,
             log,
-            end: log + 3 * groups,
+            planes,
+            end: planes + groups * 3 * regions.div_ceil(32),
         }
     }
 }
@@ -139,7 +143,7 @@ pub fn optimize(groups: &[Group], order: &[usize], lent: &mut Memory) -> Outcome
     let began = cpu_time();
     // SAFETY: all pointers come with the lengths of what they point to, which
     // nothing else holds, and the contract's `requires` are met: `check` has seen
-    // few groups and regions, narrow shapes, a slot of its own for each number and
+    // few groups and regions, widths by their costs, a slot of its own for each number and
     // few sets, `Tables::new` lays the tables one behind the other, there are as many
     // pair records as 1,024 groups ask for, and `told` has three words.
     let merges = unsafe {
@@ -158,6 +162,7 @@ pub fn optimize(groups: &[Group], order: &[usize], lent: &mut Memory) -> Outcome
             t.columns,
             t.into,
             t.log,
+            t.planes,
             told.as_mut_ptr(),
             told.len(),
         )
@@ -177,7 +182,10 @@ fn check(groups: &[Group], order: &[usize], regions: usize) {
     assert!(groups.len() <= 1024 && regions <= 65_536, "too many");
     for group in groups {
         assert_eq!(group.shape.len(), regions, "shapes of one length");
-        assert!(group.shape.iter().all(|&w| w <= 4), "narrow shapes");
+        assert!(
+            group.shape.iter().all(|&w| matches!(w, 0 | 1 | 2 | 4)),
+            "costs of widths"
+        );
     }
     let mut slots = order.to_vec();
     slots.sort_unstable();

@@ -147,7 +147,7 @@ pub struct Packed {
 ///
 /// ```
 /// assert_eq!(ivs::work_words(1, 0), 32);
-/// assert_eq!(ivs::work_words(1_048_576, 200), 16 * 1_048_576 + 1_024 * (200 + 16));
+/// assert_eq!(ivs::work_words(1_048_576, 200), 16 * 1_048_576 + 1_024 * (200 + 16 + 3 * 7));
 /// assert_eq!(ivs::work_words(1_048_577, 200), 0);
 /// ```
 pub fn work_words(records: usize, regions: usize) -> usize {
@@ -211,7 +211,7 @@ pub fn job_words(axes: u32, job: &[u8]) -> usize {
 /// let refused = ivs::build_into(1, 0, &job, &mut lent).unwrap_err();
 /// assert_eq!(
 ///     refused.to_string(),
-///     "4 WORK_SHORT: the words of work lent are too few; lend 99 of them"
+///     "4 WORK_SHORT: the words of work lent are too few; lend 108 of them"
 /// );
 /// # Ok::<(), Box<dyn std::error::Error>>(())
 /// ```

@@ -47,11 +47,12 @@ fn from_c() {
 fn lent() {
     let (readme, header) = (file("README.md"), file("include/ivs.h"));
     assert!(header.contains(&format!("#define IVS_PAIRS {}\n", ivs::PAIRS)));
-    assert!(header.contains("16 r + min(r, 1,024) x (g + 16)"));
-    assert!(readme.contains("16 r + min(r, 1,024) x (g + 16) words"));
+    assert!(header.contains("16 r + min(r, 1,024) x (g + 16 + 3 w), where w is g / 32 rounded up"));
+    assert!(readme.contains("16 r + min(r, 1,024) x (g + 16 + 3 w) words"));
     for records in [0_usize, 1, 57, 1_023, 1_024, 1_025, 1_048_576] {
-        for regions in [0, 1, 256, 32_767] {
-            let words = 16 * records + records.min(1_024) * (regions + 16);
+        for regions in [0_usize, 1, 32, 33, 256, 32_767] {
+            let shape = regions + 16 + 3 * regions.div_ceil(32);
+            let words = 16 * records + records.min(1_024) * shape;
             assert_eq!(ivs::work_words(records, regions), words);
         }
     }

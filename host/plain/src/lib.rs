@@ -120,7 +120,8 @@ pub fn work_words(records: usize, regions: usize) -> usize {
     if records > RECORD_LIMIT {
         return 0;
     }
-    16 * records + records.min(1_024) * (regions.min(REGION_LIMIT) + 16)
+    let regions = regions.min(REGION_LIMIT);
+    16 * records + records.min(1_024) * (regions + 16 + 3 * regions.div_ceil(32))
 }
 
 /// The regions at a job's head: the axis records that it begins with over the axis count,

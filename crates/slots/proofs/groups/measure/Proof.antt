@@ -1,72 +1,47 @@
-use lib.ListN.{length-set}
-use Rattle.slots.proofs.TableLaws.{slot-room, part-narrow}
-use Rattle.slots.proofs.SlotLaws.{measured-in}
+use mathlib.Core.Path.{_∙_}
+use Rattle.slots.proofs.SlotLaws.{fill-fits, fill-laid, measured-in}
 use native.Mathlib.Omega.{arith}
 use borrow.Author.Needs.{needs}
 use Rattle.slots.proofs.groups.measure.Statement.{statement}
 use Rattle.slots.proofs.groups.measure.Tie as tie
+use Rattle.slots.proofs.groups.measure.Reads as reads
+use Rattle.slots.proofs.groups.measure.Lts as lts
+use Rattle.planes.proofs.fill.Reads as fill-reads
+use Rattle.slots.proofs.groups.note_costs.Reads as note-costs-reads
+use Rattle.slots.proofs.tables.MergeTables.plane.Reads as plane-reads
+use Rattle.slots.proofs.tables.MergeTables.plane_long.Reads as plane-long-reads
+use Rattle.slots.proofs.tables.MergeTables.slot.Reads as slot-reads
+
+plane-long-requires : tie.Need-plane-long-requires
+plane-long-requires c κs = c .before .pre .0 .laid .regions-few
 
 slot-requires : tie.Need-slot-requires
 slot-requires c κs = search needs
 
-add-x-end : tie.Need-add-x-end
-add-x-end c = let h = c .before .before .pre in let e = c .slot .ensures in omega (arith, slot-room _ _ _ (h .0 .laid) (h .1))
+plane-requires : tie.Need-plane-requires
+plane-requires c κs = let h = c .before .before .before .pre in (h .1, (h .0 .laid .regions-few, omega (arith, h .0 .laid .planes-end)))
 
-mul-of : tie.Need-mul-of
-mul-of c = let h = c .before .before .pre in let e = c .slot .ensures in omega (arith, slot-room _ _ _ (h .0 .laid) (h .1))
+fill-requires : tie.Need-fill-requires
+fill-requires c κs = fill-fits _ _ _ _ _ _ (c .before .before .before .before .before .pre .0) (c .before .before .before .before .before .pre .1) (c .before .before .slot .ensures) (c .before .plane .ensures) (c .before .before .before .plane-long .ensures)
 
-sub-of : tie.Need-sub-of
-sub-of c = search needs
-
-part-of-start : tie.Need-part-of-start
-part-of-start c = search needs
-
-part-of-end : tie.Need-part-of-end
-part-of-end c = let h = c .before .before .before .pre in let e = c .before .slot .ensures in omega (arith, slot-room _ _ _ (h .0 .laid) (h .1))
-
-of-requires : tie.Need-of-requires
-of-requires c κs = part-narrow _ _ _ _ (c .before .before .before .before .pre .0) (c .before .before .before .before .pre .1) (c .before .before .slot .ensures)
-
-add-work : tie.Need-add-work
-add-work c = search needs
-
-mul-work : tie.Need-mul-work
-mul-work c = search needs
-
-slice-write-work : tie.Need-slice-write-work
-slice-write-work c = search needs
-
-add-work-2 : tie.Need-add-work-2
-add-work-2 c = search needs
-
-mul-work-2 : tie.Need-mul-work-2
-mul-work-2 c = search needs
-
-slice-write-work-2 : tie.Need-slice-write-work-2
-slice-write-work-2 c = simp length-set (omega arith)
+note-costs-requires : tie.Need-note-costs-requires
+note-costs-requires c κs =
+    (fill-laid _ _ _ _ _ _ _ (c .before .before .before .before .before .before .before .before .before .pre .0) (c .before .before .before .before .before .before .before .before .before .pre .1) (c .before .before .before .before .before .before .slot .ensures) (c .before .before .before .before .before .plane .ensures) (c .before .before .before .before .before .before .before .plane-long .ensures) (c .before .before .before .fill .ensures), c .before .before .before .before .before .before .before .before .before .pre .1)
 
 same-length : tie.Need-same-length
-same-length c = search needs
+same-length c = c .before .before .note-costs .kept .0 ∙ c .before .before .before .before .before .before .fill .kept .0
 
 returns : tie.Need-returns
-returns c = measured-in _ _ _ _ _ _ (c .before .before .before .before .before .pre .0 .laid) (c .before .before .before .before .before .pre .1) (c .before .before .before .slot .ensures) (c .of .ensures)
+returns c = measured-in _ _ _ _ _ _ _ (c .before .before .before .before .before .before .before .before .before .before .before .before .pre .0) (c .before .before .before .before .before .before .before .before .before .before .before .before .pre .1) (c .before .before .before .before .before .before .before .before .before .slot .ensures) (c .before .before .before .before .before .before .before .before .plane .ensures) (c .before .before .before .before .before .before .before .before .before .before .plane-long .ensures) (c .before .before .before .before .before .before .fill .ensures) _ (c .before .before .note-costs .ensures)
 
 pub measure-spec : {M : Type 1} → statement M
 measure-spec =
     tie.close
     (tie.spec
+    plane-long-requires
     slot-requires
-    add-x-end
-    mul-of
-    sub-of
-    part-of-start
-    part-of-end
-    of-requires
-    add-work
-    mul-work
-    slice-write-work
-    add-work-2
-    mul-work-2
-    slice-write-work-2
+    plane-requires
+    fill-requires
+    note-costs-requires
     same-length
     returns)
