@@ -251,6 +251,40 @@ fn a_hostile_store_ends_early() {
     assert_eq!(said, Ok(ivs::Verdict::Yes));
 }
 
+/// 65,535 outer numbers at one row of 32,767 columns, of two bytes and of one, all zero or all but
+/// the last: zeros are jumped over, and not walked for each outer number.
+#[test]
+fn zeros_are_jumped_over() {
+    let (outer, columns) = (u32::from(u16::MAX), 32_767);
+    let list = 8 + 4 * outer;
+    let table = list + 4 + 6 * columns;
+    for last in [0, 7] {
+        let mut bytes = [&[0, 1][..], &list.to_be_bytes(), &[0xFF, 0xFF]].concat();
+        for _ in 0..outer {
+            bytes.extend(table.to_be_bytes());
+        }
+        bytes.extend([0, 1, 0x7F, 0xFF]);
+        for region in 0..columns as u16 {
+            bytes.extend([0, 0, (region >> 8) as u8, region as u8, 0, 0]);
+        }
+        // One row, whose first 16,384 columns are of two bytes.
+        bytes.extend([0, 1, 0x40, 0, 0x7F, 0xFF]);
+        for region in 0..columns as u16 {
+            bytes.extend(region.to_be_bytes());
+        }
+        bytes.resize(bytes.len() + 2 * 16_384 + 16_382, 0);
+        bytes.push(last);
+        let recovered = ivs::recover(&bytes).unwrap();
+        let counts = (recovered.regions, recovered.sets);
+        assert_eq!(counts, (columns.into(), outer.into()));
+        let value = [2, 0xFE, 0, 0x7F, 0, 0, 0, last, 0, 0, 0, 0];
+        let end = [3, 0, 0, 0, 0, 0, 0, 0, 0, 0, 0, 0];
+        let set = [value, end][usize::from(last == 0)..].concat();
+        let sets = &recovered.job.bytes()[12 * columns as usize..];
+        assert!(sets == set.repeat(outer as usize), "{last}");
+    }
+}
+
 /// Just at the limits of a job: regions, axes, records.
 #[test]
 fn limits_of_a_job() {
