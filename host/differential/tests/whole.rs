@@ -171,6 +171,48 @@ fn our_own_are_right() {
     assert!(changed > 20, "{changed}");
 }
 
+/// A store of one subtable with these rows, whose columns are all regions of the job in order.
+fn all_columns(job: &Job, rows: &[Vec<u8>]) -> Vec<u8> {
+    let count = job.regions.len() as u16;
+    let table = 16 + 6 * u32::from(count);
+    let mut store = [&[0, 1, 0, 0, 0, 12, 0, 1][..], &table.to_be_bytes()].concat();
+    store.extend([[0, 1], count.to_be_bytes()].concat());
+    let tents = job.regions.iter().flatten().flatten();
+    store.extend(tents.flat_map(|coordinate| coordinate.to_be_bytes()));
+    for head in [rows.len() as u16, 0, count] {
+        store.extend(head.to_be_bytes());
+    }
+    store.extend((0..count).flat_map(u16::to_be_bytes));
+    store.extend(rows.concat());
+    store
+}
+
+/// Very many sets at rows of 32,767 columns: a set costs what it has, and not what its row is wide
+/// (by the width of the rows this would be 13,000,000,000 cells).
+#[test]
+fn wide_rows_of_many_sets() {
+    let sets = seeds(400_000) as usize;
+    let job = Job {
+        sets: vec![vec![(7, -5)]; sets],
+        ..Job::one_axis(jobs::REGIONS)
+    };
+    let mut rows = vec![vec![0; jobs::REGIONS]; 3];
+    for row in &mut rows {
+        row[7] = -5_i8 as u8;
+    }
+    // A region that no set names.
+    *rows[1].last_mut().unwrap() = 1;
+    rows[2][7] = 0;
+    let (bytes, store) = (job.to_bytes(), all_columns(&job, &rows));
+    let mut words = vec![0; sets];
+    let said = |words: &[u32]| ivs::judge(1, &bytes, &store, words).unwrap();
+    assert_eq!(said(&words), ivs::Verdict::Yes);
+    for row in [1, 2] {
+        words[sets - 1] = row;
+        assert_eq!(said(&words), ivs::Verdict::Set(sets as u64 - 1));
+    }
+}
+
 #[test]
 fn kept() {
     let (lent, mut rows, mut none) = (&mut Whole::default(), 0, 0);
