@@ -28,11 +28,11 @@ use Rattle.arranging.specs.LentArranged.{oneNull, nullPacking}
 abbrev three : List ℕ
 three = 0 ∷ 3 ∷ 0 ∷ []
 
-null-in : FinalIn noPlaces three 0
+null-in : FinalIn (noPlaces 3) three 0
 unfolding seg
 null-in = record { shape-to = omega arith; rows-from = omega arith; rows-to = omega arith; numbers = tt }
 
-none-packed : PackedAt (own 0 []) noPlaces oneNull three
+none-packed : PackedAt (own 0 []) (noPlaces 3) oneNull three
 unfolding own oneCost tabulate seg relabel originsIn finalsAt finalAt coverFrom sum words
 none-packed = record {
   held = record { room = omega arith; rows = omega arith; body = λ x h. absurd (omega arith); ascending = λ x h. absurd (omega arith); proper = λ x h. absurd (omega arith) };
@@ -50,7 +50,7 @@ none-packed = record {
   sets-are = λ x h. absurd (omega arith);
   distinct-is = refl;
   distinct-few = omega arith;
-  finals-in = λ g h. let e : 0 ≡ g = omega arith in subst (λ (z : ℕ). FinalIn noPlaces three z) e null-in;
+  finals-in = λ g h. let e : 0 ≡ g = omega arith in subst (λ (z : ℕ). FinalIn (noPlaces 3) three z) e null-in;
   rows-few = omega arith;
   finals-are = refl;
   groups-is = refl;
@@ -63,10 +63,10 @@ none-packed = record {
   after-is = refl;
 }
 
-none-words : WordsFit noPlaces oneNull three
+none-words : WordsFit (noPlaces 3) oneNull three
 none-words = record { packed-as = own 0 []; packed = none-packed; merges-few = omega arith; ids-below = λ x h. absurd (omega arith) }
 
-null-fit : (axes : ℕ) (job : List ℕ) → axes ≤ mostAxes → FinishFit axes 0 job noPlaces oneNull three
+null-fit : (axes : ℕ) (job : List ℕ) → axes ≤ mostAxes → FinishFit axes 0 job (noPlaces 3) oneNull three
 null-fit axes job a = record {
   axes-few = a;
   packed-as = own 0 [];
@@ -77,10 +77,10 @@ null-fit axes job a = record {
   ids-below = λ x h. absurd (omega arith);
 }
 
-null-room : scratchAt noPlaces + 4 * noPlaces .regions ≤ length three
+null-room : scratchAt (noPlaces 3) + 4 * noPlaces 3 .regions ≤ length three
 null-room = omega arith
 
-pub null-is : (axes : ℕ) (p : Places) → p ≡ noPlaces → _≡_ {A = Packing} (record { axes = axes; starts = 0; places = p; encoded = oneNull }) (nullPacking axes)
+pub null-is : (axes : ℕ) (p : Places) → p ≡ noPlaces 3 → _≡_ {A = Packing} (record { axes = axes; starts = 0; places = p; encoded = oneNull }) (nullPacking axes)
 null-is axes p e = ap (λ (x : Places). record { axes = axes; starts = 0; places = x; encoded = oneNull }) e
 
 module _ (axes : ℕ) (k : Packing) (e : k ≡ nullPacking axes) where

@@ -35,7 +35,7 @@ abbrev pub oneNull : Encoded
 oneNull = record { distinct = 0; count = 1; groups = 0; merges = 0; weighed = 0; before = 0; after = 0 }
 
 abbrev pub nullPacking : ℕ → Packing
-nullPacking axes = record { axes = axes; starts = 0; places = noPlaces; encoded = oneNull }
+nullPacking axes = record { axes = axes; starts = 0; places = noPlaces 3; encoded = oneNull }
 
 -- what the sets of a job are packed as by their mode stands in work
 pub record ArrangedAs (axes mode : ℕ) (job : List ℕ) (o : Outcome) (k : Packing) (w : List ℕ) : Type 0 where

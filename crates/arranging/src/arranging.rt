@@ -42,7 +42,7 @@ pub fn null_packing(axes: usize) -> Packing
     Packing {
         axes,
         starts: 0,
-        places: nowhere(),
+        places: nowhere(3),
         encoded,
     }
 }

@@ -215,61 +215,61 @@ pub examples : answers ≡
     (0 ∷ 1 ∷ 0 ∷ 0 ∷ 0 ∷ 8 ∷ 0 ∷ 0
     ∷ 0 ∷ 1 ∷ 0 ∷ 0
     ∷ x ∷ x ∷ [])
-    (x ∷ []) (x ∷ []) (x ∷ []) (x ∷ []) 69
+    (x ∷ []) (x ∷ []) (x ∷ []) (x ∷ []) 75
     -- P2: 16 bytes, of which four are the offset 0
     ∷ left (counts 16 1 0 0 0 0 0 0 0 16)
     (0 ∷ 1 ∷ 0 ∷ 0 ∷ 0 ∷ 0x0C ∷ 0 ∷ 1 ∷ 0 ∷ 0 ∷ 0 ∷ 0
     ∷ 0 ∷ 1 ∷ 0 ∷ 0
     ∷ x ∷ x ∷ [])
-    (x ∷ []) (x ∷ []) (x ∷ []) (x ∷ []) 69
+    (x ∷ []) (x ∷ []) (x ∷ []) (x ∷ []) 75
     -- P3: 31 bytes; map word 0
     ∷ left (counts 31 1 1 1 1 0 0 13 13 31)
     (0 ∷ 1 ∷ 0 ∷ 0 ∷ 0 ∷ 0x0C ∷ 0 ∷ 1 ∷ 0 ∷ 0 ∷ 0 ∷ 0x16
     ∷ 0 ∷ 1 ∷ 0 ∷ 1 ∷ 0 ∷ 0 ∷ 0x40 ∷ 0 ∷ 0x40 ∷ 0
     ∷ 0 ∷ 1 ∷ 0 ∷ 0 ∷ 0 ∷ 1 ∷ 0 ∷ 0 ∷ 0x0A
     ∷ x ∷ x ∷ [])
-    (0 ∷ x ∷ []) (0 ∷ x ∷ []) (x ∷ []) (0 ∷ 0 ∷ x ∷ []) 137
+    (0 ∷ x ∷ []) (0 ∷ x ∷ []) (x ∷ []) (0 ∷ 0 ∷ x ∷ []) 149
     -- P4: 22 bytes; the row has none, and no region is kept
     ∷ left (counts 22 1 0 1 1 0 0 10 10 22)
     (0 ∷ 1 ∷ 0 ∷ 0 ∷ 0 ∷ 0x0C ∷ 0 ∷ 1 ∷ 0 ∷ 0 ∷ 0 ∷ 0x10
     ∷ 0 ∷ 1 ∷ 0 ∷ 0
     ∷ 0 ∷ 1 ∷ 0 ∷ 0 ∷ 0 ∷ 0
     ∷ x ∷ x ∷ [])
-    (0 ∷ x ∷ []) (0 ∷ x ∷ []) (x ∷ []) (0 ∷ 0 ∷ x ∷ []) 137
+    (0 ∷ x ∷ []) (0 ∷ x ∷ []) (x ∷ []) (0 ∷ 0 ∷ x ∷ []) 149
     -- P5: columns R1, R0; word count 1; row 0080 80
     ∷ left (counts 41 1 2 1 1 0 0 17 17 41)
     (0 ∷ 1 ∷ 0 ∷ 0 ∷ 0 ∷ 0x0C ∷ 0 ∷ 1 ∷ 0 ∷ 0 ∷ 0 ∷ 0x1C
     ∷ 0 ∷ 1 ∷ 0 ∷ 2 ∷ 0 ∷ 0 ∷ 0x40 ∷ 0 ∷ 0x40 ∷ 0 ∷ 0xC0 ∷ 0 ∷ 0xC0 ∷ 0 ∷ 0 ∷ 0
     ∷ 0 ∷ 1 ∷ 0 ∷ 1 ∷ 0 ∷ 2 ∷ 0 ∷ 1 ∷ 0 ∷ 0 ∷ 0 ∷ 0x80 ∷ 0x80
     ∷ x ∷ x ∷ [])
-    (0 ∷ x ∷ []) (0 ∷ x ∷ []) (x ∷ []) (0 ∷ 0 ∷ x ∷ []) 171
+    (0 ∷ x ∷ []) (0 ∷ x ∷ []) (x ∷ []) (0 ∷ 0 ∷ x ∷ []) 186
     -- P6: word count 0, row 7F; word count 1, row FF7F
     ∷ left (counts 31 1 1 1 1 0 0 13 13 31)
     (0 ∷ 1 ∷ 0 ∷ 0 ∷ 0 ∷ 0x0C ∷ 0 ∷ 1 ∷ 0 ∷ 0 ∷ 0 ∷ 0x16
     ∷ 0 ∷ 1 ∷ 0 ∷ 1 ∷ 0 ∷ 0 ∷ 0x40 ∷ 0 ∷ 0x40 ∷ 0
     ∷ 0 ∷ 1 ∷ 0 ∷ 0 ∷ 0 ∷ 1 ∷ 0 ∷ 0 ∷ 0x7F
     ∷ x ∷ x ∷ [])
-    (0 ∷ x ∷ []) (0 ∷ x ∷ []) (x ∷ []) (0 ∷ 0 ∷ x ∷ []) 137
+    (0 ∷ x ∷ []) (0 ∷ x ∷ []) (x ∷ []) (0 ∷ 0 ∷ x ∷ []) 149
     ∷ left (counts 32 1 1 1 1 0 0 14 14 32)
     (0 ∷ 1 ∷ 0 ∷ 0 ∷ 0 ∷ 0x0C ∷ 0 ∷ 1 ∷ 0 ∷ 0 ∷ 0 ∷ 0x16
     ∷ 0 ∷ 1 ∷ 0 ∷ 1 ∷ 0 ∷ 0 ∷ 0x40 ∷ 0 ∷ 0x40 ∷ 0
     ∷ 0 ∷ 1 ∷ 0 ∷ 1 ∷ 0 ∷ 1 ∷ 0 ∷ 0 ∷ 0xFF ∷ 0x7F
     ∷ x ∷ x ∷ [])
-    (0 ∷ x ∷ []) (0 ∷ x ∷ []) (x ∷ []) (0 ∷ 0 ∷ x ∷ []) 137
+    (0 ∷ x ∷ []) (0 ∷ x ∷ []) (x ∷ []) (0 ∷ 0 ∷ x ∷ []) 149
     -- P7: word count 0x8001; row 00011170 0064
     ∷ left (counts 44 1 2 1 1 0 0 19 19 44)
     (0 ∷ 1 ∷ 0 ∷ 0 ∷ 0 ∷ 0x0C ∷ 0 ∷ 1 ∷ 0 ∷ 0 ∷ 0 ∷ 0x1C
     ∷ 0 ∷ 1 ∷ 0 ∷ 2 ∷ 0 ∷ 0 ∷ 0x40 ∷ 0 ∷ 0x40 ∷ 0 ∷ 0xC0 ∷ 0 ∷ 0xC0 ∷ 0 ∷ 0 ∷ 0
     ∷ 0 ∷ 1 ∷ 0x80 ∷ 1 ∷ 0 ∷ 2 ∷ 0 ∷ 1 ∷ 0 ∷ 0 ∷ 0 ∷ 1 ∷ 0x11 ∷ 0x70 ∷ 0 ∷ 0x64
     ∷ x ∷ x ∷ [])
-    (0 ∷ x ∷ []) (0 ∷ x ∷ []) (x ∷ []) (0 ∷ 0 ∷ x ∷ []) 171
+    (0 ∷ x ∷ []) (0 ∷ x ∷ []) (x ∷ []) (0 ∷ 0 ∷ x ∷ []) 186
     -- P8: 42 bytes; one merge, which gains 8; the second set's row is first
     ∷ left (counts 42 1 2 2 2 1 1 26 18 42)
     (0 ∷ 1 ∷ 0 ∷ 0 ∷ 0 ∷ 0x0C ∷ 0 ∷ 1 ∷ 0 ∷ 0 ∷ 0 ∷ 0x1C
     ∷ 0 ∷ 1 ∷ 0 ∷ 2 ∷ 0 ∷ 0 ∷ 0x40 ∷ 0 ∷ 0x40 ∷ 0 ∷ 0xC0 ∷ 0 ∷ 0xC0 ∷ 0 ∷ 0 ∷ 0
     ∷ 0 ∷ 2 ∷ 0 ∷ 0 ∷ 0 ∷ 2 ∷ 0 ∷ 0 ∷ 0 ∷ 1 ∷ 0 ∷ 1 ∷ 1 ∷ 0
     ∷ x ∷ x ∷ [])
-    (0 ∷ 1 ∷ x ∷ []) (1 ∷ 0 ∷ x ∷ []) (0 ∷ 1 ∷ 8 ∷ x ∷ []) (0 ∷ 0 ∷ 1 ∷ 0 ∷ x ∷ []) 205
+    (0 ∷ 1 ∷ x ∷ []) (1 ∷ 0 ∷ x ∷ []) (0 ∷ 1 ∷ 8 ∷ x ∷ []) (0 ∷ 0 ∷ 1 ∷ 0 ∷ x ∷ []) 223
     -- P9: gain 0, two subtables
     ∷ left (counts 58 2 2 10 2 0 1 34 34 58)
     (0 ∷ 1 ∷ 0 ∷ 0 ∷ 0 ∷ 0x10 ∷ 0 ∷ 2 ∷ 0 ∷ 0 ∷ 0 ∷ 0x20 ∷ 0 ∷ 0 ∷ 0 ∷ 0x2D
@@ -277,28 +277,28 @@ pub examples : answers ≡
     ∷ 0 ∷ 5 ∷ 0 ∷ 0 ∷ 0 ∷ 1 ∷ 0 ∷ 0 ∷ 0x0A ∷ 0x14 ∷ 0x1E ∷ 0x28 ∷ 0x32
     ∷ 0 ∷ 5 ∷ 0 ∷ 0 ∷ 0 ∷ 1 ∷ 0 ∷ 1 ∷ 0xFB ∷ 0xFC ∷ 0xFD ∷ 0xFE ∷ 0xFF
     ∷ x ∷ x ∷ [])
-    (0 ∷ 1 ∷ 2 ∷ 3 ∷ 4 ∷ 5 ∷ 6 ∷ 7 ∷ 8 ∷ 9 ∷ x ∷ []) (0 ∷ 1 ∷ 2 ∷ 3 ∷ 4 ∷ 0x1_0004 ∷ 0x1_0003 ∷ 0x1_0002 ∷ 0x1_0001 ∷ 0x1_0000 ∷ x ∷ []) (x ∷ x ∷ x ∷ x ∷ []) (0 ∷ 0 ∷ 1 ∷ 1 ∷ x ∷ []) 749
+    (0 ∷ 1 ∷ 2 ∷ 3 ∷ 4 ∷ 5 ∷ 6 ∷ 7 ∷ 8 ∷ 9 ∷ x ∷ []) (0 ∷ 1 ∷ 2 ∷ 3 ∷ 4 ∷ 0x1_0004 ∷ 0x1_0003 ∷ 0x1_0002 ∷ 0x1_0001 ∷ 0x1_0000 ∷ x ∷ []) (x ∷ x ∷ x ∷ x ∷ []) (0 ∷ 0 ∷ 1 ∷ 1 ∷ x ∷ []) 815
     -- P10: gain 1, one subtable
     ∷ left (counts 56 1 2 9 2 1 1 33 32 56)
     (0 ∷ 1 ∷ 0 ∷ 0 ∷ 0 ∷ 0x0C ∷ 0 ∷ 1 ∷ 0 ∷ 0 ∷ 0 ∷ 0x1C
     ∷ 0 ∷ 1 ∷ 0 ∷ 2 ∷ 0 ∷ 0 ∷ 0x40 ∷ 0 ∷ 0x40 ∷ 0 ∷ 0xC0 ∷ 0 ∷ 0xC0 ∷ 0 ∷ 0 ∷ 0
     ∷ 0 ∷ 9 ∷ 0 ∷ 0 ∷ 0 ∷ 2 ∷ 0 ∷ 0 ∷ 0 ∷ 1 ∷ 0 ∷ 0xFC ∷ 0 ∷ 0xFD ∷ 0 ∷ 0xFE ∷ 0 ∷ 0xFF ∷ 0x0A ∷ 0 ∷ 0x14 ∷ 0 ∷ 0x1E ∷ 0 ∷ 0x28 ∷ 0 ∷ 0x32 ∷ 0
     ∷ x ∷ x ∷ [])
-    (0 ∷ 1 ∷ 2 ∷ 3 ∷ 4 ∷ 5 ∷ 6 ∷ 7 ∷ 8 ∷ x ∷ []) (4 ∷ 5 ∷ 6 ∷ 7 ∷ 8 ∷ 3 ∷ 2 ∷ 1 ∷ 0 ∷ x ∷ []) (0 ∷ 1 ∷ 1 ∷ x ∷ []) (0 ∷ 0 ∷ 1 ∷ 0 ∷ x ∷ []) 681
+    (0 ∷ 1 ∷ 2 ∷ 3 ∷ 4 ∷ 5 ∷ 6 ∷ 7 ∷ 8 ∷ x ∷ []) (4 ∷ 5 ∷ 6 ∷ 7 ∷ 8 ∷ 3 ∷ 2 ∷ 1 ∷ 0 ∷ x ∷ []) (0 ∷ 1 ∷ 1 ∷ x ∷ []) (0 ∷ 0 ∷ 1 ∷ 0 ∷ x ∷ []) 741
     -- P11: both id 0
     ∷ left (counts 31 1 1 1 1 0 0 13 13 31)
     (0 ∷ 1 ∷ 0 ∷ 0 ∷ 0 ∷ 0x0C ∷ 0 ∷ 1 ∷ 0 ∷ 0 ∷ 0 ∷ 0x16
     ∷ 0 ∷ 1 ∷ 0 ∷ 1 ∷ 0 ∷ 0 ∷ 0x40 ∷ 0 ∷ 0x40 ∷ 0
     ∷ 0 ∷ 1 ∷ 0 ∷ 0 ∷ 0 ∷ 1 ∷ 0 ∷ 0 ∷ 1
     ∷ x ∷ x ∷ [])
-    (0 ∷ 0 ∷ x ∷ []) (0 ∷ x ∷ []) (x ∷ []) (0 ∷ 0 ∷ x ∷ []) 239
+    (0 ∷ 0 ∷ x ∷ []) (0 ∷ x ∷ []) (x ∷ []) (0 ∷ 0 ∷ x ∷ []) 260
     -- P12: a gain of 9; the row of zero is first
     ∷ left (counts 32 1 1 2 2 1 1 23 14 32)
     (0 ∷ 1 ∷ 0 ∷ 0 ∷ 0 ∷ 0x0C ∷ 0 ∷ 1 ∷ 0 ∷ 0 ∷ 0 ∷ 0x16
     ∷ 0 ∷ 1 ∷ 0 ∷ 1 ∷ 0 ∷ 0 ∷ 0x40 ∷ 0 ∷ 0x40 ∷ 0
     ∷ 0 ∷ 2 ∷ 0 ∷ 0 ∷ 0 ∷ 1 ∷ 0 ∷ 0 ∷ 0 ∷ 0x0A
     ∷ x ∷ x ∷ [])
-    (0 ∷ 1 ∷ x ∷ []) (0 ∷ 1 ∷ x ∷ []) (0 ∷ 1 ∷ 9 ∷ x ∷ []) (0 ∷ 0 ∷ 1 ∷ 0 ∷ x ∷ []) 171
+    (0 ∷ 1 ∷ x ∷ []) (0 ∷ 1 ∷ x ∷ []) (0 ∷ 1 ∷ 9 ∷ x ∷ []) (0 ∷ 0 ∷ 1 ∷ 0 ∷ x ∷ []) 186
     ∷ []
 unfolding answers setRecords setsRecords jobOf weigh allBelow tabulate be bytesOf compared thenBy isMost fits isZero signed twos word value insert sorted keep widthOf costOf rowCost columns overhead join shapes.widthsOrder shapes.order groupCost joined gain wordOf sameSet sets.byWords sets.partNone sets.partHead sets.parting sets.orderOf sets.order place withSet idsFrom distinctFrom groups.shapeOf groups.putShape groups.withShape groups.groupsFrom groups.groupsOf coverFrom rule.keepOut rule.outs rule.pairWith rule.keepPair rule.pairs rule.better rule.lead rule.best rule.worth rule.ifWorth rule.choice rule.entry rule.merge rule.follow rule.step rule.run rule.number rule.start rule.merged rule.total words addIf ofWidth columnsOf wordCount bytesFor wordIn cellsOf rowOf joinAll rows.runCount store.runsOf store.allRuns store.inRun store.idWords store.names store.slotOf store.madeOf stores.tableBytes stores.slotBytes stores.offsets stores.listBytes stores.place store.storeOf columnAt store.runBytes store.forecastOf stored mustBeZero firstNotZero wrongByte valueWord firstFailed publishedWork headRegions headRun earlyNo inTurn formNo valueNo endNo said.coordinates said.regionList said.sameRegion said.like said.firstLike said.has said.withUse said.indexIn said.withEntry said.withValue job.unless job.afterValue job.afterEnd job.valueStep job.endStep job.regionsOnly job.saidAt job.axesBefore job.isLate job.kindStep job.step job.endedSets job.ended job.follow job.recordsFrom job.outcomeFrom job.outcome workLeft packed.noLater packed.dense packed.sameShape packed.numberOf packed.isAmong packed.belongs packed.finalOf packed.isAhead packed.homeOf packed.originsOf packed.finalsOf packed.shared packed.oneCost packed.own storeFor regionsKept originWords lateNo reportOf lateAnswer written buffersLeft regionBytes coordsInUse packedOf answerFrom leftFrom
 examples = refl

@@ -3,6 +3,7 @@ use mathlib.Core.Path.{_≡_, refl, sym, ap, subst, _∙_}
 use mathlib.Core.Bool.{Bool, true, false}
 use mathlib.Core.List.{List, [], _∷_}
 use Prim.Native.Nat.{ℕ, _+_, _*_, _/_, _≤_, _<_}
+use native.Mathlib.Nat.{zero-mul}
 use native.Mathlib.Omega.{arith}
 use lib.ListN.{length}
 use Rattle.laws.specs.LentRange.{Only}
@@ -26,8 +27,8 @@ use Rattle.opening.specs.LentOpened.{noPlaces, refusedAt, Grouped, Read,
 use Rattle.opening.proofs.KeptLaws.{collected-kept}
 
 -- where nothing is laid out, merging has no groups
-pub nowhere-ready : (w : List ℕ) → Ready (tablesOf noPlaces 0) w
-nowhere-ready w = ready-none noPlaces w (record {
+pub nowhere-ready : (w : List ℕ) → Ready (tablesOf (noPlaces 0) 0) w
+nowhere-ready w = ready-none (noPlaces 0) w (record {
   groups-few = omega arith;
   regions-few = omega arith;
   slots-end = omega arith;
@@ -38,7 +39,7 @@ nowhere-ready w = ready-none noPlaces w (record {
   columns-end = omega arith;
   into-end = omega arith;
   log-end = omega arith;
-  planes-end = omega arith;
+  planes-end = simp zero-mul (omega arith);
 })
 
 -- ---- the records
@@ -112,5 +113,5 @@ module _ (h : Profile) (axes mode : ℕ) (job w : List ℕ) (pairs n : ℕ) (e :
         ready = g .ready;
       }
 
-pub refuse-is : (h : Profile) (early : Bool) (n i : ℕ) (p : Places) → p ≡ noPlaces → _≡_ {A = Stage} (record { profile = h; early = early; no = n; at = i; axes = 0; mode = 0; starts = 0; places = p; groups = 0; distinct = 0 }) (refusedAt h early n i)
+pub refuse-is : (h : Profile) (early : Bool) (n i : ℕ) (p : Places) → p ≡ noPlaces 0 → _≡_ {A = Stage} (record { profile = h; early = early; no = n; at = i; axes = 0; mode = 0; starts = 0; places = p; groups = 0; distinct = 0 }) (refusedAt h early n i)
 refuse-is h early n i p e = ap (λ (x : Places). record { profile = h; early = early; no = n; at = i; axes = 0; mode = 0; starts = 0; places = x; groups = 0; distinct = 0 }) e

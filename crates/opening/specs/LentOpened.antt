@@ -17,11 +17,11 @@ use Rattle.panel.specs.Panelled.{panelled}
 use Rattle.opening.specs.LentCollected.{Collected}
 
 -- no tables
-abbrev pub noPlaces : Places
-noPlaces = record { sets = 0; regions = 0; room = 0; line = 0; first = 0; ids = 0; kinds = 0; slots = 0; order = 0; counts = 0; homes = 0; place = 0; costs = 0; living = 0; columns = 0; spots = 0; finals = 0; into = 0; log = 0; rows = 3 }
+abbrev pub noPlaces : ℕ → Places
+noPlaces n = record { sets = 0; regions = 0; room = 0; line = 0; first = 0; ids = 0; kinds = 0; slots = 0; order = 0; counts = 0; homes = 0; place = 0; costs = 0; living = 0; columns = 0; spots = 0; finals = 0; into = 0; log = 0; rows = n }
 
 abbrev pub refusedAt : Profile → Bool → ℕ → ℕ → Stage
-refusedAt p early n i = record { profile = p; early = early; no = n; at = i; axes = 0; mode = 0; starts = 0; places = noPlaces; groups = 0; distinct = 0 }
+refusedAt p early n i = record { profile = p; early = early; no = n; at = i; axes = 0; mode = 0; starts = 0; places = noPlaces 0; groups = 0; distinct = 0 }
 
 -- a job that says x is read: there are too many shapes, or its sets are held in work, and grouped in mode 0
 pub record Grouped (axes mode : ℕ) (job : List ℕ) (x : Said) (s : Stage) (w : List ℕ) : Type 0 where

@@ -37,9 +37,9 @@ pub struct Stage {
     pub distinct: usize,
 }
 
-// No tables: three words, for a group that has no rows.
-pub fn nowhere() -> Places
-    ensures { λ r. ⌜ r ≡ noPlaces ⌝ }
+// No tables, in so many words. A group that has no rows stands in three.
+pub fn nowhere(words: usize) -> Places
+    ensures { λ r. ⌜ r ≡ noPlaces words ⌝ }
 {
     Places {
         sets: 0,
@@ -61,7 +61,7 @@ pub fn nowhere() -> Places
         finals: 0,
         into: 0,
         log: 0,
-        rows: 3,
+        rows: words,
     }
 }
 
@@ -77,7 +77,7 @@ fn refuse(profile: Profile, early: bool, no: usize, at: usize) -> Stage
         axes: 0,
         mode: 0,
         starts: 0,
-        places: nowhere(),
+        places: nowhere(0),
         groups: 0,
         distinct: 0,
     }
