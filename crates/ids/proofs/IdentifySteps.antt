@@ -20,13 +20,14 @@ use Rattle.laws.proofs.SortMap.{keep-all, keep-two, keep-passes, keep-keep, kee
 use Rattle.laws.proofs.UpLaws.{up-long, up-at, up-all}
 use Rattle.sets.specs.Set.{Set}
 use Rattle.sets.specs.Ids.{place}
-use Rattle.sets.specs.Lent.{setOf, Ready, SortedAt, Held, setsIn, isFirst, atMost, IdsFit, Identified}
+use Rattle.sets.specs.Lent.{setOf, Held, setsIn, isFirst, atMost, IdsFit, Identified}
 use Rattle.ids.specs.LentFirsts.{FirstsFit, FirstsAt, Resolved, GivesIds}
-use Rattle.ids.specs.LentScreened.{isKept, Screened}
+use Rattle.buckets.specs.LentBuckets.{isKept, KeptFit, KeptSorted}
+use Rattle.ids.specs.LentScreened.{Screened}
 use Rattle.sets.proofs.IdLaws.{place-first, place-here}
-use Rattle.sets.proofs.HeldLaws.{Kept, kept-only, kept-trans, held-kept, held-ready, set-same, sets-same, most-same, sets-length, sets-at}
+use Rattle.sets.proofs.HeldLaws.{Kept, kept-only, kept-trans, held-kept, set-same, sets-same, most-same, sets-length, sets-at}
 use Rattle.ids.proofs.FirstLaws.{up-two, le-trans, le-total, line-has, line-length}
-use Rattle.ids.proofs.ScreenLaws.{is-kept}
+use Rattle.ids.proofs.ScreenLaws.{is-kept, not-kept}
 
 -- ---- lists
 
@@ -92,14 +93,23 @@ module _ {w₀ : List ℕ} {index n at first ids : ℕ} (r : IdsFit w₀ index n
     not-first : (x : ℕ) → x < n → (getD w₁ (first + x) 0 ≡ x → ⊥) → firstOf x < x
     not-first x h d = let o = c .noted x h d in later x (getD w₁ (first + x) 0) h (o .0) (o .1)
 
-    pub sort-ready : Ready w₁ index at m ids
-    sort-ready = held-ready held₁ at ids m (r .behind) (omega (arith, r .behind, r .at-to, r .first-to)) (omega (arith, c .few, r .at-to, r .first-to, r .room, c .only .long))
-        (omega (arith, c .few, r .room, c .only .long)) (record { apart = λ p. absurd (omega (arith, c .few, r .at-to, r .first-to)) })
-        (λ k p q. seg-all (λ x. x < n) m at w₁ (omega (arith, c .few, r .at-to, r .first-to, r .room, c .only .long)) (rw (c .line) low) k p q)
+    pub sort-fit : KeptFit w₁ index n at m first ids
+    sort-fit = record {
+      regions = r .regions;
+      end = r .end;
+      held = held₁;
+      few = r .few;
+      most = c .few;
+      behind = r .behind;
+      at-to = r .at-to;
+      first-to = r .first-to;
+      room = omega (arith, r .room, c .only .long);
+      line = c .line;
+    }
 
-    module _ {w₂ : List ℕ} (s : SortedAt index at m ids w₁ w₂) where
+    module _ {w₂ : List ℕ} (s : KeptSorted index n at m first ids w₁ w₂) where
       kept₂ : Kept (r .end) w₁ w₂
-      kept₂ = kept-only (s .only) (r .behind, (omega (arith, r .behind, r .at-to, r .first-to), tt))
+      kept₂ = kept-only (s .only) (r .behind, (omega (arith, r .behind, r .at-to), (omega (arith, r .behind, r .at-to, r .first-to), tt)))
 
       held₂ : Held w₂ index n (r .regions) (r .end)
       held₂ = held-kept held₁ kept₂
@@ -112,7 +122,7 @@ module _ {w₀ : List ℕ} {index n at first ids : ℕ} (r : IdsFit w₀ index n
       sorted-kept {u} {v} h k l a = sorted-same (atMost v index) (atMost u index) (λ x. x < n) (λ x y p q. most-same h k x y p q) (sorted-all (atMost u index) (λ x. x < n)) l a
 
       line₀ : seg at m w₂ ≡ sorted (atMost w₀ index) some
-      line₀ = s .sorts .is ∙ ap (sorted (atMost w₁ index)) (c .line) ∙ sorted-kept (r .held) kept₁ some low
+      line₀ = s .sorts ∙ ap (sorted (atMost w₁ index)) (c .line) ∙ sorted-kept (r .held) kept₁ some low
 
       first-same : (x : ℕ) → x < n → place (setOf index x w₂) (setsIn index n w₂) ≡ firstOf x
       first-same x h = rw (set-same (r .held) kept₀₂ x h, sets-same (r .held) kept₀₂) refl
@@ -163,8 +173,8 @@ module _ {w₀ : List ℕ} {index n at first ids : ℕ} (r : IdsFit w₀ index n
           let e : getD w₂ (at + p) 0 ≡ getD (sorted (atMost w₀ index) some) p 0 = sym (getD-seg at m w₂ p h) ∙ ap (λ (l : List ℕ). getD l p 0) line₀ in
           rw e (all-getD (λ x. getD w₁ (first + x) 0 ≡ x) (sorted (atMost w₀ index) some) p 0 k g)
 
-      first-kept₂ : (x : ℕ) → x < n → getD w₂ (first + x) 0 ≡ getD w₁ (first + x) 0
-      first-kept₂ x h = s .only .kept (first + x) (record { apart = λ p. omega (arith, c .few, r .at-to) }, (record { apart = λ p. absurd (omega (arith, r .first-to)) }, tt))
+      first-kept₂ : (x : ℕ) → x < n → (getD w₁ (first + x) 0 ≡ x → ⊥) → getD w₂ (first + x) 0 ≡ getD w₁ (first + x) 0
+      first-kept₂ x h d = s .others x h (not-kept first w₁ x d)
 
       module _ {w₃ : List ℕ} (f : FirstsAt index at m first n w₂ w₃) where
         -- what is noted of a set: its first, or an earlier set that equals it
@@ -176,7 +186,7 @@ module _ {w₀ : List ℕ} {index n at first ids : ℕ} (r : IdsFit w₀ index n
             g ∙ first-same x h
 
         noted-first : (x : ℕ) → x < n → (getD w₁ (first + x) 0 ≡ x → ⊥) → getD w₃ (first + x) 0 ≡ getD w₁ (first + x) 0
-        noted-first x h d = f .others x (λ p l e. d (subst (λ (y : ℕ). getD w₁ (first + y) 0 ≡ y) e (alone p l))) ∙ first-kept₂ x h
+        noted-first x h d = f .others x (λ p l e. d (subst (λ (y : ℕ). getD w₁ (first + y) 0 ≡ y) e (alone p l))) ∙ first-kept₂ x h d
 
         pub first-room : first + n ≤ length w₃
         first-room = omega (arith, r .first-to, r .room, c .only .long, s .only .long, f .only .long)
@@ -244,7 +254,7 @@ module _ {w₀ : List ℕ} {index n at first ids : ℕ} (r : IdsFit w₀ index n
               ∙ sym (keep-sorted (λ x. x < n) (atMost w₀ index) (le-trans (r .held)) (le-total (r .held)) (isFirst index n w₀) (upTo n) (up-all n))
 
           rest₂ : (q : ℕ) → m ≤ q → q < n → getD w₂ (at + q) 0 ≡ getD w₁ (at + q) 0
-          rest₂ q l h = s .only .kept (at + q) (record { apart = λ p. omega arith }, (record { apart = λ p. absurd (omega (arith, r .at-to, r .first-to)) }, tt))
+          rest₂ q l h = s .only .kept (at + q) (record { apart = λ p. omega arith }, (record { apart = λ p. absurd (omega (arith, r .at-to)) }, (record { apart = λ p. absurd (omega (arith, r .at-to, r .first-to)) }, tt)))
 
           behind-none : All (λ x. isFirst index n w₀ x ≡ false) (seg (at + m) (n - m) w₂)
           behind-none = all-seg (λ x. isFirst index n w₀ x ≡ false) (n - m) (at + m) w₂ (omega (arith, c .few, r .at-to, r .first-to, r .room, c .only .long, s .only .long))
@@ -289,7 +299,7 @@ module _ {w₀ : List ℕ} {index n at first ids : ℕ} (r : IdsFit w₀ index n
               record {
                 only =
                     only-trans (c .only)
-                    (only-trans (only-weaken (λ k o. (record { apart = λ z. omega (arith, c .few, o .0 .apart (omega (arith, c .few))) }, (record { apart = λ z. omega (arith, c .few, o .1 .1 .0 .apart (omega (arith, c .few))) }, tt))) (s .only))
+                    (only-trans (only-weaken (λ k o. (record { apart = λ z. omega (arith, c .few, o .0 .apart (omega (arith, c .few))) }, (o .1 .0, (record { apart = λ z. omega (arith, c .few, o .1 .1 .0 .apart (omega (arith, c .few))) }, tt)))) (s .only))
                     (only-trans (only-weaken (λ k o. (o .1 .0, tt)) (f .only))
                     (only-trans (only-weaken (λ k o. (o .1 .0, tt)) (t .only)) (only-weaken (λ k o. (o .1 .1 .0, tt)) (v .only)))));
                 numbers = rw line-kept numbers₂;

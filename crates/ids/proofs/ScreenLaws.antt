@@ -23,7 +23,8 @@ use Rattle.laws.proofs.UpLaws.{up-all, up-snoc}
 use Rattle.sets.specs.Order.{order}
 use Rattle.sets.specs.Lent.{setOf, Stored, IdsFit}
 use Rattle.sets.proofs.HeldLaws.{Kept, kept-only, set-same, held-kept, held-stored}
-use Rattle.ids.specs.LentScreened.{isKept, Screened}
+use Rattle.buckets.specs.LentBuckets.{isKept}
+use Rattle.ids.specs.LentScreened.{Screened}
 use Rattle.ids.proofs.FirstLaws.{order-same}
 
 -- ---- keeping what is marked, one more
@@ -36,7 +37,7 @@ pub is-kept : (first : ℕ) (w : List ℕ) (k : ℕ) → getD w (first + k) 0 �
 unfolding isKept
 is-kept first w k e = eq-eqb (getD w (first + k) 0) k e
 
-not-kept : (first : ℕ) (w : List ℕ) (k : ℕ) → (getD w (first + k) 0 ≡ k → ⊥) → isKept first w k ≡ false
+pub not-kept : (first : ℕ) (w : List ℕ) (k : ℕ) → (getD w (first + k) 0 ≡ k → ⊥) → isKept first w k ≡ false
 unfolding isKept
 not-kept first w k e = ne-eqb (getD w (first + k) 0) k e
 

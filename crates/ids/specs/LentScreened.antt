@@ -1,18 +1,13 @@
 -- What screening n sets leaves. Assumes nothing.
 use mathlib.Core.Path.{_≡_}
-use mathlib.Core.Bool.{Bool}
 use mathlib.Core.List.{List, [], _∷_}
 use Prim.Native.Nat.{ℕ, _+_, _≤_, _<_}
-use lib.Dec.{eqb}
 use lib.ListN.{getD}
 use Rattle.laws.specs.LentRange.{Only, seg}
 use Rattle.laws.specs.Bounded.{upTo}
 use Rattle.laws.specs.Sorting.{keep}
 use Rattle.sets.specs.Lent.{setOf}
-
--- set k is to be sorted: no earlier one is known that equals it
-unfoldable pub isKept : ℕ → List ℕ → ℕ → Bool
-isKept first w k = eqb (getD w (first + k) 0) k
+use Rattle.buckets.specs.LentBuckets.{isKept}
 
 -- m numbers are to be sorted, and stand in front
 pub record Screened (index n at first seen : ℕ) (old new : List ℕ) (m : ℕ) : Type 0 where

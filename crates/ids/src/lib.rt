@@ -2,10 +2,10 @@
 mod screening;
 
 use crate::screening::screen;
+use buckets::sort_kept;
 use comparing::compare;
 use laws::wide;
 use sets::Parting;
-use sorting::sort;
 ghost use mathlib.Core.Path.{_≡_};
 ghost use mathlib.Core.List.{List};
 ghost use Prim.Native.Nat.{ℕ, _+_, _-_, _<_, _≤_};
@@ -119,7 +119,7 @@ pub fn identify(
     ensures { λ r. ⌜ Identified index n at first ids (now (work .entry)) (now (work .exit)) r ⌝ }
 {
     let m = screen(work, index, n, at, first, ids);
-    sort(work, index, at, m, ids);
+    sort_kept(work, index, n, at, m, first, ids);
     firsts(work, index, at, m, first);
     resolve(work, first, n);
     give_ids(work, first, ids, n)
