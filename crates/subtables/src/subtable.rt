@@ -1,7 +1,7 @@
 // Writes one subtable: item count, word count, region count, region indexes, rows. Each function puts its bytes from a place on and
 // answers where they end.
-use crate::row::write_row;
-use reader::column_at;
+use crate::block::SetList;
+use crate::block::write_rows;
 use rows::put;
 use rows::run_count;
 use rows::run_items;
@@ -9,12 +9,11 @@ use shapes::Encoding;
 ghost use mathlib.Core.Path.{_≡_};
 ghost use mathlib.Core.Bool.{true};
 ghost use Prim.Native.Nat.{_+_, _*_, _≤_, _<_};
-ghost use mathlib.Core.List.{_++_};
-ghost use lib.ListN.{length, drop};
+ghost use lib.ListN.{length};
 ghost use Rattle.laws.specs.LentRange.{seg};
 ghost use Rattle.laws.specs.Every.{All};
-ghost use Rattle.reader.specs.Store.{columnAt, columnsOk};
-ghost use Rattle.rows.specs.Lent.{Placed, Put, Stored, cellWords, headBytes, indexBytes, numberIn, rowBytes, rowsBytes, runsBytes, setAt, tableBytes};
+ghost use Rattle.reader.specs.Store.{columnsOk};
+ghost use Rattle.rows.specs.Lent.{Placed, Put, Stored, headBytes, indexBytes, numberIn, runsBytes, setAt, tableBytes};
 
 fn write_head(out: &mut [u8], at: usize, items: usize, word: usize, count: usize) -> usize
     requires { ⌜ at + 6 ≤ length (now out) ⌝ }
@@ -43,66 +42,6 @@ fn write_indexes(out: &mut [u8], at: usize, cols: &[u32], numbers: &[u32]) -> us
         j += 1;
     }
     at + 2 * j
-}
-
-// The row of set x.
-fn write_set(
-    row: &mut [u8],
-    word: usize,
-    cols: &[u32],
-    places: &[u32],
-    work: &[u32],
-    index: usize,
-    x: usize,
-)
-    requires { ⌜ word < 65536 ⌝ }
-    requires { ⌜ length (now cols) < 65536 ⌝ }
-    requires { ⌜ columnAt word (length (now cols)) ≤ length (now row) ⌝ }
-    requires { ⌜ Placed (now cols) (now places) ⌝ }
-    requires { ⌜ Stored index (now work) x ⌝ }
-    ensures { λ _. ⌜ now (row .exit) ≡ rowBytes word 0 (cellWords (setAt index (now (work .entry)) x) (now (cols .entry))) ++ drop (columnAt word (length (now (cols .entry)))) (now (row .entry)) ⌝ }
-{
-    let start = work[index + 2 * x] as usize;
-    let entries = work[index + 2 * x + 1] as usize;
-    write_row(row, word, cols, places, work, start, entries);
-}
-
-// Sets that are to be rows: `count` of them, whose numbers stand from `ids` on; set x is found by two words of the index, which starts
-// at `index`.
-pub struct SetList {
-    pub index: usize,
-    pub ids: usize,
-    pub count: usize,
-}
-
-// One row for each of the sets, each written into its own part of the output.
-fn write_rows(
-    out: &mut [u8],
-    at: usize,
-    word: usize,
-    cols: &[u32],
-    places: &[u32],
-    work: &[u32],
-    sets: SetList,
-) -> usize
-    requires { ⌜ word < 65536 ⌝ }
-    requires { ⌜ length (now cols) < 65536 ⌝ }
-    requires { ⌜ Placed (now cols) (now places) ⌝ }
-    requires { ⌜ sets .ids + sets .count ≤ length (now work) ⌝ }
-    requires { ⌜ All (Stored (sets .index) (now work)) (seg (sets .ids) (sets .count) (now work)) ⌝ }
-    requires { ⌜ at + sets .count * columnAt word (length (now cols)) ≤ length (now out) ⌝ }
-    ensures { λ r. ⌜ Put at (rowsBytes word (now (cols .entry)) (setAt (sets .index) (now (work .entry))) (seg (sets .ids) (sets .count) (now (work .entry)))) (now (out .entry)) (now (out .exit)) r ⌝ }
-{
-    let n = column_at(word, cols.len());
-    let mut a = at;
-    let mut i: usize = 0;
-    while i < sets.count {
-        let x = work[sets.ids + i] as usize;
-        write_set(&mut out[a..], word, cols, places, work, sets.index, x);
-        a += n;
-        i += 1;
-    }
-    a
 }
 
 // One subtable of the sets' rows. One of no rows is null, and has no bytes.

@@ -16,7 +16,7 @@ use Rattle.subtables.proofs.subtable.write_table.Reads as reads
 use Rattle.subtables.proofs.subtable.write_table.Lts as lts
 use Rattle.subtables.proofs.subtable.write_head.Reads as write-head-reads
 use Rattle.subtables.proofs.subtable.write_indexes.Reads as write-indexes-reads
-use Rattle.subtables.proofs.subtable.write_rows.Reads as write-rows-reads
+use Rattle.subtables.proofs.block.write_rows.Reads as write-rows-reads
 
 room : (c : tie.Else1) → c .before .before .before .before .before .before .before .args .at + 6 + 2 * length (now (c .before .before .before .before .before .before .before .args .cols)) + c .before .before .before .before .before .before .before .args .sets .count * columnAt (c .before .before .before .before .before .before .before .args .word) (length (now (c .before .before .before .before .before .before .before .args .cols))) ≤ length (now (c .before .before .before .before .before .before .before .args .out))
 room c =

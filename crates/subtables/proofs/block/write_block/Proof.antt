@@ -9,12 +9,12 @@ use Rattle.rows.specs.Lent.{Stored, rowBytes, rowsBytes, cellWords, setAt}
 use Rattle.rows.proofs.PutLaws.{Putting, part-over, rows-start, rows-room, rows-more, rows-done}
 use borrow.Author.Needs.{needs}
 use native.Mathlib.Omega.{arith}
-use Rattle.subtables.proofs.subtable.write_rows.Statement.{statement}
-use Rattle.subtables.proofs.subtable.write_rows.Tie as tie
-use Rattle.subtables.proofs.subtable.write_rows.Reads as reads
-use Rattle.subtables.proofs.subtable.write_rows.Lts as lts
+use Rattle.subtables.proofs.block.write_block.Statement.{statement}
+use Rattle.subtables.proofs.block.write_block.Tie as tie
+use Rattle.subtables.proofs.block.write_block.Reads as reads
+use Rattle.subtables.proofs.block.write_block.Lts as lts
 use Rattle.reader.proofs.column_at.Reads as column-at-reads
-use Rattle.subtables.proofs.subtable.write_set.Reads as write-set-reads
+use Rattle.subtables.proofs.block.write_set.Reads as write-set-reads
 
 abbrev Inv-loop : tie.InvT-loop
 Inv-loop out₀ at word cols places work sets n a₀ i₀ out a i = (i ≤ sets .count) × Putting at (rowsBytes word cols (setAt (sets .index) work) (seg (sets .ids) (sets .count) work)) out₀ out a (rowsBytes word cols (setAt (sets .index) work) (seg (sets .ids + i) (sets .count - i) work))
@@ -82,8 +82,8 @@ same-length c = c .before .before .loop .inv .1 .long
 returns : tie.Need-returns Inv-loop μ-loop
 returns c = rows-done _ _ _ _ _ _ _ _ (c .before .before .before .before .before .before .before .before .pre .1 .1 .1 .0) (c .before .before .before .before .before .before .before .before .pre .1 .1 .1 .1 .1) _ _ _ (c .before .before .loop .inv .1) (omega arith)
 
-pub write-rows-spec : {M : Type 1} → statement M
-write-rows-spec =
+pub write-block-spec : {M : Type 1} → statement M
+write-block-spec =
     tie.close
     (tie.spec
     Inv-loop

@@ -1,10 +1,10 @@
 use Rattle.rows.specs.Lent.{setAt}
 use native.Mathlib.Omega.{arith}
 use borrow.Author.Needs.{needs}
-use Rattle.subtables.proofs.subtable.write_set.Statement.{statement}
-use Rattle.subtables.proofs.subtable.write_set.Tie as tie
-use Rattle.subtables.proofs.subtable.write_set.Reads as reads
-use Rattle.subtables.proofs.subtable.write_set.Lts as lts
+use Rattle.subtables.proofs.block.write_set.Statement.{statement}
+use Rattle.subtables.proofs.block.write_set.Tie as tie
+use Rattle.subtables.proofs.block.write_set.Reads as reads
+use Rattle.subtables.proofs.block.write_set.Lts as lts
 use Rattle.subtables.proofs.row.write_row.Reads as write-row-reads
 
 mul-start : tie.Need-mul-start
