@@ -3,4 +3,5 @@ pub mod OrderLaws
 pub mod MergeLaws
 pub mod HalfLaws
 pub mod InsertLaws
+pub mod TabledLaws
 pub mod Unique

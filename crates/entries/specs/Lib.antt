@@ -1,3 +1,4 @@
 pub mod Lent
 pub mod LentHalves
 pub mod LentInserts
+pub mod LentTabled
