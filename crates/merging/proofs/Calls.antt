@@ -1,7 +1,7 @@
 -- What a walk cites of each function: its call, as one entailment (`Loan.antt`). Written by tools/walks. Assumes `Given`, and each function's theorem.
 use mathlib.Core.Path.{_≡_, refl, _∙_}
 use mathlib.Core.Bool.{Bool}
-use Prim.Native.Nat.{ℕ, _+_, _-_, _*_, _<_, _≤_, _^_}
+use Prim.Native.Nat.{ℕ, _+_, _-_, _*_, _/_, _<_, _≤_, _^_}
 use mathlib.Core.List.{List, [], _∷_}
 use lib.Dec.{T, ltb}
 use lib.ListN.{length}
@@ -709,7 +709,7 @@ module _ {M : Type 1} (𝓤 : URA M) (H : Heap 𝓤) (A : Atoms 𝓤) (W : Given
 
   module _ (C : Calls 𝓤 H) (fm : FmC 𝓤 H (W .laws) C) (known : Triple 𝓤 (C #merging·crowded) (Crowded-of 𝓤 H A mem run)) (tb : MergeTables) (s : Progress) where
     abbrev pub After-crowded-call : Val → Item 𝓤
-    After-crowded-call w = later (some (λ (r : Bool). given (r ≡ ltb ((tb .groups - s .merges) * (tb .groups - s .merges)) (s .waiting)) (‵ (Boolean .own r (w ∷ [])))))
+    After-crowded-call w = later (some (λ (r : Bool). given (r ≡ ltb ((tb .groups - s .merges) * (tb .groups - s .merges) / 8 * 5) (s .waiting)) (‵ (Boolean .own r (w ∷ [])))))
 
     abbrev at-crowded-call : Crowded-of 𝓤 H A mem run .Ghost
     at-crowded-call = ((tt, tt, tt, (tb, (s, tt)), (mach-tables tb ∷ [], (mach-progress s ∷ [], tt))), tt)
@@ -717,14 +717,14 @@ module _ {M : Type 1} (𝓤 : URA M) (H : Heap 𝓤) (A : Atoms 𝓤) (W : Given
     leaves-crowded-call : (w : Val) → ent 𝓤 (Crowded-of 𝓤 H A mem run .post (at-crowded-call) w) (mean 𝓤 H A (After-crowded-call w))
     leaves-crowded-call w =
         qed W (later (some (λ (r : Bool). ((‵ ftrue) ⊛ ‵ (Boolean .own r (w ∷ [])))
-        ⊛ some (λ (ws : Lasts crowded.ended tt (at-crowded-call .0 .3)). ‵ (lasts crowded.ended tt (at-crowded-call .0 .3) ws) ⊛ raw (fact 𝓤 (r ≡ ltb ((tb .groups - s .merges) * (tb .groups - s .merges)) (s .waiting)))))) ∷ []) ∵
+        ⊛ some (λ (ws : Lasts crowded.ended tt (at-crowded-call .0 .3)). ‵ (lasts crowded.ended tt (at-crowded-call .0 .3) ws) ⊛ raw (fact 𝓤 (r ≡ ltb ((tb .groups - s .merges) * (tb .groups - s .merges) / 8 * 5) (s .waiting)))))) ∷ []) ∵
         updating ! $ await ! tt $ pick ! (λ r. split ! $ move ! (1 ∷ []) $ pick ! (λ ws. split ! $
         move ! (1 ∷ []) $
-        heard ! (r ≡ ltb ((tb .groups - s .merges) * (tb .groups - s .merges)) (s .waiting)) (λ e.
+        heard ! (r ≡ ltb ((tb .groups - s .merges) * (tb .groups - s .merges) / 8 * 5) (s .waiting)) (λ e.
         move ! (1 ∷ []) $
         split ! $
         at-once ! $
-        keep ! (1 ∷ []) $ show ! (λ (r : Bool). guard 𝓤 (r ≡ ltb ((tb .groups - s .merges) * (tb .groups - s .merges)) (s .waiting)) (sem 𝓤 H A (Boolean .own r (w ∷ [])))) r $ check ! e $ done !)))
+        keep ! (1 ∷ []) $ show ! (λ (r : Bool). guard 𝓤 (r ≡ ltb ((tb .groups - s .merges) * (tb .groups - s .merges) / 8 * 5) (s .waiting)) (sem 𝓤 H A (Boolean .own r (w ∷ [])))) r $ check ! e $ done !)))
 
     pub crowded-call : Is L.the-row tb (mach-tables tb ∷ []) → Is Z.the-row s (mach-progress s ∷ []) → ((tb .groups ≤ 1024) × (s .merges ≤ tb .groups)) → ent 𝓤 (emp 𝓤) (C #merging·crowded (mach-tables tb ∷ mach-progress s ∷ []) (λ w. mean 𝓤 H A (After-crowded-call w)))
     crowded-call g-tb g-s l =

@@ -9,7 +9,7 @@ use slots::MergeTables;
 use waits::Tally;
 use waits::offer_all;
 ghost use mathlib.Core.Path.{_≡_};
-ghost use Prim.Native.Nat.{_-_, _*_, _≤_, _<_};
+ghost use Prim.Native.Nat.{_-_, _*_, _/_, _≤_, _<_};
 ghost use lib.Dec.{ltb};
 ghost use lib.ListN.{length};
 ghost use Rattle.waits.specs.LentWaits.{room};
@@ -70,14 +70,14 @@ pub fn turn(pairs: &mut [Pair], work: &mut [u32], t: MergeTables, s: Progress) -
     left
 }
 
-// Whether more pairs wait than twice those of the living groups: then half of them and more are of dead ones.
+// Whether a quarter more pairs wait than the living groups have: then a fifth of them and more are of dead ones.
 pub fn crowded(t: MergeTables, s: Progress) -> bool
     requires { ⌜ t .groups ≤ maxShapes ⌝ }
     requires { ⌜ s .merges ≤ t .groups ⌝ }
-    ensures { λ r. ⌜ r ≡ ltb ((t .groups - s .merges) * (t .groups - s .merges)) (s .waiting) ⌝ }
+    ensures { λ r. ⌜ r ≡ ltb ((t .groups - s .merges) * (t .groups - s .merges) / 8 * 5) (s .waiting) ⌝ }
 {
     let living = t.groups - s.merges;
-    living * living < s.waiting
+    living * living / 8 * 5 < s.waiting
 }
 
 // Where it is crowded, what waits of dead groups goes: else most of what is taken would be passed over.

@@ -13,8 +13,11 @@ sub-living c = search needs
 mul-result : tie.Need-mul-result
 mul-result c = omega (arith, product 1024 1024 {a = c .before .before .args .t .groups - c .before .before .args .s .merges} {b = c .before .before .args .t .groups - c .before .before .args .s .merges} (omega arith) (omega arith))
 
+mul-result-2 : tie.Need-mul-result-2
+mul-result-2 c = omega (arith, product 1024 1024 {a = c .before .before .args .t .groups - c .before .before .args .s .merges} {b = c .before .before .args .t .groups - c .before .before .args .s .merges} (omega arith) (omega arith))
+
 returns : tie.Need-returns
 returns c = search needs
 
 pub crowded-spec : {M : Type 1} → statement M
-crowded-spec = tie.close (tie.spec sub-living mul-result returns)
+crowded-spec = tie.close (tie.spec sub-living mul-result mul-result-2 returns)
