@@ -1,5 +1,5 @@
 -- The loops that count up, find firsts and give ids: their invariants and steps. Assumes nothing.
-use mathlib.Core.Path.{_≡_, refl, sym, ap, ap₂, _∙_}
+use mathlib.Core.Path.{_≡_, refl, sym, ap, ap₂, subst, _∙_}
 use mathlib.Core.Bool.{Bool, true, false, not}
 use mathlib.Core.List.{List, [], _∷_, map}
 use mathlib.Core.Logic.{⊎-elim}
@@ -25,7 +25,7 @@ use Rattle.sets.specs.Set.{Set}
 use Rattle.sets.specs.Order.{order}
 use Rattle.sets.specs.Ids.{place, distinctFrom, distinct}
 use Rattle.sets.specs.Lent.{setOf, Stored, Held, setsIn, atMost, CountedUp}
-use Rattle.ids.specs.LentFirsts.{isSame, beginsAt, FirstsFit, FirstsAt, Resolved, GivesIds}
+use Rattle.ids.specs.LentFirsts.{isSame, beginsAt, FirstsFit, Firsting, BlockFit, FirstsAt, Resolved, GivesIds}
 use Rattle.sets.proofs.IdLaws.{ids-place, first-id, first-count, again-count, again-same, distinct-all-of}
 use Rattle.sets.proofs.HeldLaws.{Kept, kept-only, set-same, held-kept, held-stored, sets-length, sets-at}
 use Rattle.ids.proofs.FirstLaws.{line-at, order-same, begins-first}
@@ -62,13 +62,6 @@ module _ (at n : ℕ) (old : List ℕ) (room : at + n ≤ length old) where
   }
 
 -- ---- firsts
-
--- the sets of the first i sorted numbers have their firsts
-pub record Firsting (index at n first all : ℕ) (old new : List ℕ) (i : ℕ) : Type 0 where
-  pub within : i ≤ n
-  pub only : Only ((first, all) ∷ []) old new
-  pub done : (p : ℕ) → p < i → getD new (first + getD old (at + p) 0) 0 ≡ place (setOf index (getD old (at + p) 0) old) (setsIn index all old)
-  pub others : (x : ℕ) → ((p : ℕ) → p < n → getD old (at + p) 0 ≡ x → ⊥) → getD new (first + x) 0 ≡ getD old (first + x) 0
 
 module _ {index at n first : ℕ} {old : List ℕ} (r : FirstsFit old index at n first) where
   number-is : (p : ℕ) → p < n → getD old (at + p) 0 ≡ getD (sorted (atMost old index) (r .numbers)) p 0
@@ -166,8 +159,20 @@ module _ {index at n first : ℕ} {old : List ℕ} (r : FirstsFit old index at n
         more (getD new (first + getD new (at + (i - 1)) 0) 0) h
         (ap (λ (y : ℕ). getD new (first + y) 0) (number-same (i - 1) j) ∙ f .done (i - 1) k ∙ ap (λ (s : Set). place s (setsIn index (r .all) old)) (b .1))
 
+    -- a block from here on may be gone through, and what it promises is one step of all
+    pub block-fit : {j : ℕ} → i ≤ j → j ≤ n → BlockFit new index at first i j
+    block-fit l m = record { old = old; n = n; fit = r; so-far = f; ahead = l; inside = m }
+
+    pub block-done : {j : ℕ} {next : List ℕ} → i ≤ j → j ≤ n
+        → ((b : BlockFit new index at first i j) → Firsting index at (b .n) first (b .fit .all) (b .old) next j) → Firsting index at n first (r .all) old next j
+    block-done l m h = h (record { old = old; n = n; fit = r; so-far = f; ahead = l; inside = m })
+
     pub first-done : n ≤ i → FirstsAt index at n first (r .all) old new
     first-done h = record { only = f .only; found = λ p l. f .done p (omega arith); others = f .others }
+
+-- a block that was gone through up to i, which is its end
+pub block-to : {index at n first all : ℕ} {old new : List ℕ} {i j : ℕ} → Firsting index at n first all old new i → i ≡ j → Firsting index at n first all old new j
+block-to {index} {at} {n} {first} {all} {old} {new} f e = subst (λ (k : ℕ). Firsting index at n first all old new k) e f
 
 -- ---- a first's first
 

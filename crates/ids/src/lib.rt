@@ -1,6 +1,8 @@
 // Ids: sets sorted once; of equal ones, which stand side by side, the first in the job gives its id to all.
+mod block;
 mod screening;
 
+use crate::block::block_end;
 use crate::screening::screen;
 use buckets::sort_kept;
 use comparing::compare;
@@ -13,7 +15,7 @@ ghost use lib.ListN.{length, getD};
 ghost use Rattle.laws.specs.LentRange.{Apart};
 ghost use Rattle.sets.specs.Set.{Set};
 ghost use Rattle.sets.specs.Lent.{Stored, CountedUp, IdsFit, Identified};
-ghost use Rattle.ids.specs.LentFirsts.{beginsAt, FirstsFit, FirstsAt, Resolved, GivesIds};
+ghost use Rattle.ids.specs.LentFirsts.{beginsAt, FirstsFit, Firsting, BlockFit, FirstsAt, Resolved, GivesIds};
 
 // The numbers 0 up to n: in mode 1 a set's own number is its id.
 pub fn own_ids(work: &mut [u32], at: usize, n: usize)
@@ -47,13 +49,13 @@ fn begins(work: &[u32], index: usize, at: usize, i: usize) -> bool
     }
 }
 
-// For each of n sorted numbers the first set that equals its set.
-fn firsts(work: &mut [u32], index: usize, at: usize, n: usize, first: usize)
-    requires { ⌜ FirstsFit (now work) index at n first ⌝ }
-    ensures { λ _. ⌜ ((f : FirstsFit (now (work .entry)) index at n first) → FirstsAt index at n first (f .all) (now (work .entry)) (now (work .exit))) ⌝ }
+// For each of a block of sorted numbers, from one up to another, the first set that equals its set; those before the block have theirs.
+fn firsts_block(work: &mut [u32], index: usize, at: usize, first: usize, from: usize, to: usize)
+    requires { ⌜ BlockFit (now work) index at first from to ⌝ }
+    ensures { λ _. ⌜ ((f : BlockFit (now (work .entry)) index at first from to) → Firsting index at (f .n) first (f .fit .all) (f .old) (now (work .exit)) to) ⌝ }
 {
-    let mut i = 0;
-    while i < n {
+    let mut i = from;
+    while i < to {
         let x = wide(work[at + i]);
         if begins(work, index, at, i) {
             work[first + x] = work[at + i];
@@ -63,6 +65,19 @@ fn firsts(work: &mut [u32], index: usize, at: usize, n: usize, first: usize)
             work[first + x] = work[first + y];
             i += 1;
         }
+    }
+}
+
+// For each of n sorted numbers the first set that equals its set, block by block.
+fn firsts(work: &mut [u32], index: usize, at: usize, n: usize, first: usize)
+    requires { ⌜ FirstsFit (now work) index at n first ⌝ }
+    ensures { λ _. ⌜ ((f : FirstsFit (now (work .entry)) index at n first) → FirstsAt index at n first (f .all) (now (work .entry)) (now (work .exit))) ⌝ }
+{
+    let mut i = 0;
+    while i < n {
+        let j = block_end(work, index, at, i, n);
+        firsts_block(work, index, at, first, i, j);
+        i = j;
     }
 }
 

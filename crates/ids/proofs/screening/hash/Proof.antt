@@ -1,6 +1,5 @@
 use Prim.Native.Nat.{_-_, _<_}
 use native.Mathlib.Omega.{arith}
-use native.Mathlib.Nat.{mod-lt}
 use borrow.Author.Needs.{needs}
 use Rattle.ids.proofs.screening.hash.Statement.{statement}
 use Rattle.ids.proofs.screening.hash.Tie as tie
@@ -9,10 +8,10 @@ use Rattle.ids.proofs.screening.hash.Lts as lts
 use Rattle.laws.proofs.wide.Reads as wide-reads
 
 abbrev Inv-loop : tie.InvT-loop
-Inv-loop work index x n start end h₀ i₀ h i = h < 4294967296
+Inv-loop work index x start end h₀ i₀ h i = h < 4294967296
 
 abbrev μ-loop : tie.MeasureT-loop
-μ-loop work index x n start end h₀ i₀ h i = end - i
+μ-loop work index x start end h₀ i₀ h i = end - i
 
 mul-wide : tie.Need-mul-wide Inv-loop μ-loop
 mul-wide c = omega arith
@@ -48,10 +47,10 @@ wide-requires-2 : tie.Need-wide-requires-2 Inv-loop μ-loop
 wide-requires-2 c κs = search needs
 
 mul-end : tie.Need-mul-end Inv-loop μ-loop
-mul-end c = omega (arith, c .wide2 .ensures, c .before .before .wide .ensures, c .before .before .before .before .before .pre .0 .to)
+mul-end c = omega (arith, c .wide2 .ensures, c .before .before .wide .ensures, c .before .before .before .before .before .pre .to)
 
 add-end : tie.Need-add-end Inv-loop μ-loop
-add-end c = omega (arith, c .wide2 .ensures, c .before .before .wide .ensures, c .before .before .before .before .before .pre .0 .to)
+add-end c = omega (arith, c .wide2 .ensures, c .before .before .wide .ensures, c .before .before .before .before .before .pre .to)
 
 loop-holds : tie.Need-loop-holds Inv-loop μ-loop
 loop-holds c = omega arith
@@ -60,10 +59,10 @@ mul-h : tie.Need-mul-h Inv-loop μ-loop
 mul-h c = omega arith
 
 mul-wide-5 : tie.Need-mul-wide-5 Inv-loop μ-loop
-mul-wide-5 c = omega (arith, c .before .before .wide2 .ensures, c .before .before .before .before .wide .ensures, c .before .before .before .before .before .before .before .pre .0 .to)
+mul-wide-5 c = omega (arith, c .before .before .wide2 .ensures, c .before .before .before .before .wide .ensures, c .before .before .before .before .before .before .before .pre .to)
 
 shared-slice-read-wide-3 : tie.Need-shared-slice-read-wide-3 Inv-loop μ-loop
-shared-slice-read-wide-3 c = omega (arith, c .before .before .before .wide2 .ensures, c .before .before .before .before .before .wide .ensures, c .before .before .before .before .before .before .before .before .pre .0 .to)
+shared-slice-read-wide-3 c = omega (arith, c .before .before .before .wide2 .ensures, c .before .before .before .before .before .wide .ensures, c .before .before .before .before .before .before .before .before .pre .to)
 
 wide-requires-3 : tie.Need-wide-requires-3 Inv-loop μ-loop
 wide-requires-3 c κs = search needs
@@ -72,7 +71,7 @@ add-h : tie.Need-add-h Inv-loop μ-loop
 add-h c = omega (arith, c .wide3 .ensures, c .before .shared-slice-known4 .given (c .before .before .before .loop .i))
 
 add-i : tie.Need-add-i Inv-loop μ-loop
-add-i c = omega (arith, c .before .before .before .before .wide2 .ensures, c .before .before .before .before .before .before .wide .ensures, c .before .before .before .before .before .before .before .before .before .pre .0 .to)
+add-i c = omega (arith, c .before .before .before .before .wide2 .ensures, c .before .before .before .before .before .before .wide .ensures, c .before .before .before .before .before .before .before .before .before .pre .to)
 
 loop-less : tie.Need-loop-less Inv-loop μ-loop
 loop-less c = omega arith
@@ -80,11 +79,8 @@ loop-less c = omega arith
 loop-again : tie.Need-loop-again Inv-loop μ-loop
 loop-again c = omega arith
 
-rem-result : tie.Need-rem-result Inv-loop μ-loop
-rem-result c = omega arith
-
 returns : tie.Need-returns Inv-loop μ-loop
-returns c = mod-lt _ (c .before .before .before .before .before .before .before .pre .1)
+returns c = omega arith
 
 pub hash-spec : {M : Type 1} → statement M
 hash-spec =
@@ -114,5 +110,4 @@ hash-spec =
     add-i
     loop-less
     loop-again
-    rem-result
     returns)
