@@ -1,11 +1,13 @@
 use Prim.Native.Nat.{_+_, _-_}
-use Rattle.planes.proofs.JoinLaws.{Counting, count-start, count-next, count-done, or-few, measured}
-use borrow.Author.Needs.{needs}
+use Rattle.planes.proofs.JoinLaws.{Counting, count-start, count-pair, count-last, measured}
 use native.Mathlib.Omega.{arith}
+use borrow.Author.Needs.{needs}
 use Rattle.planes.proofs.joining.measure_join.Statement.{statement}
 use Rattle.planes.proofs.joining.measure_join.Tie as tie
 use Rattle.planes.proofs.joining.measure_join.Reads as reads
 use Rattle.planes.proofs.joining.measure_join.Lts as lts
+use Rattle.planes.proofs.joining.last_ones.Reads as last-ones-reads
+use Rattle.planes.proofs.joining.pair_ones.Reads as pair-ones-reads
 
 abbrev Inv-loop : tie.InvT-loop
 Inv-loop work a b words c d e f one₀ two₀ four₀ i₀ one two four i = Counting work a b words one i × Counting work (a + words) (b + words) words two i × Counting work (a + words + words) (b + words + words) words four i
@@ -28,71 +30,26 @@ add-f c = omega arith
 loop-holds : tie.Need-loop-holds Inv-loop μ-loop
 loop-holds c = (count-start _ _ _ _, count-start _ _ _ _, count-start _ _ _ _)
 
+add-loop : tie.Need-add-loop Inv-loop μ-loop
+add-loop c = omega (arith, c .loop .inv .0 .within)
+
+pair-ones-requires : tie.Need-pair-ones-requires Inv-loop μ-loop
+pair-ones-requires c κs = (omega arith, omega arith)
+
 add-one : tie.Need-add-one Inv-loop μ-loop
-add-one c = omega arith
+add-one c = omega (arith, c .before .before .loop .inv .0 .most, c .pair-ones .ensures .most)
 
-mul-one : tie.Need-mul-one Inv-loop μ-loop
-mul-one c = omega arith
-
-shared-slice-read-one : tie.Need-shared-slice-read-one Inv-loop μ-loop
-shared-slice-read-one c = omega arith
-
-add-one-2 : tie.Need-add-one-2 Inv-loop μ-loop
-add-one-2 c = omega arith
-
-mul-one-2 : tie.Need-mul-one-2 Inv-loop μ-loop
-mul-one-2 c = omega arith
-
-shared-slice-read-one-2 : tie.Need-shared-slice-read-one-2 Inv-loop μ-loop
-shared-slice-read-one-2 c = omega arith
-
-add-one-3 : tie.Need-add-one-3 Inv-loop μ-loop
-add-one-3 c = let w = c .before .before .before .before .args .work .now in let a = c .before .before .before .before .args .a in let b = c .before .before .before .before .args .b in let i = c .before .before .before .loop .i in
-    omega (arith, c .before .before .before .loop .inv .0 .most, or-few w (a + i) (b + i) (λ k. omega (arith, c .shared-slice-known2 .given k)))
+pair-ones-requires-2 : tie.Need-pair-ones-requires-2 Inv-loop μ-loop
+pair-ones-requires-2 c κs = (omega arith, omega arith)
 
 add-two : tie.Need-add-two Inv-loop μ-loop
-add-two c = omega arith
+add-two c = omega (arith, c .before .before .before .loop .inv .1 .most, c .pair-ones2 .ensures .most)
 
-mul-two : tie.Need-mul-two Inv-loop μ-loop
-mul-two c = omega arith
-
-shared-slice-read-two : tie.Need-shared-slice-read-two Inv-loop μ-loop
-shared-slice-read-two c = omega arith
-
-add-two-2 : tie.Need-add-two-2 Inv-loop μ-loop
-add-two-2 c = omega arith
-
-mul-two-2 : tie.Need-mul-two-2 Inv-loop μ-loop
-mul-two-2 c = omega arith
-
-shared-slice-read-two-2 : tie.Need-shared-slice-read-two-2 Inv-loop μ-loop
-shared-slice-read-two-2 c = omega arith
-
-add-two-3 : tie.Need-add-two-3 Inv-loop μ-loop
-add-two-3 c = let w = c .before .before .before .before .before .before .args .work .now in let n = c .before .before .before .before .before .before .args .words in let a = c .before .before .before .before .before .before .args .a in let b = c .before .before .before .before .before .before .args .b in let i = c .before .before .before .before .before .loop .i in
-    omega (arith, c .before .before .before .before .before .loop .inv .1 .most, or-few w (a + n + i) (b + n + i) (λ k. omega (arith, c .shared-slice-known4 .given k)))
+pair-ones-requires-3 : tie.Need-pair-ones-requires-3 Inv-loop μ-loop
+pair-ones-requires-3 c κs = (omega arith, omega arith)
 
 add-four : tie.Need-add-four Inv-loop μ-loop
-add-four c = omega arith
-
-mul-four : tie.Need-mul-four Inv-loop μ-loop
-mul-four c = omega arith
-
-shared-slice-read-four : tie.Need-shared-slice-read-four Inv-loop μ-loop
-shared-slice-read-four c = omega arith
-
-add-four-2 : tie.Need-add-four-2 Inv-loop μ-loop
-add-four-2 c = omega arith
-
-mul-four-2 : tie.Need-mul-four-2 Inv-loop μ-loop
-mul-four-2 c = omega arith
-
-shared-slice-read-four-2 : tie.Need-shared-slice-read-four-2 Inv-loop μ-loop
-shared-slice-read-four-2 c = omega arith
-
-add-four-3 : tie.Need-add-four-3 Inv-loop μ-loop
-add-four-3 c = let w = c .before .before .before .before .before .before .before .before .args .work .now in let n = c .before .before .before .before .before .before .before .before .args .words in let a = c .before .before .before .before .before .before .before .before .args .a in let b = c .before .before .before .before .before .before .before .before .args .b in let i = c .before .before .before .before .before .before .before .loop .i in
-    omega (arith, c .before .before .before .before .before .before .before .loop .inv .2 .most, or-few w (a + n + n + i) (b + n + n + i) (λ k. omega (arith, c .shared-slice-known6 .given k)))
+add-four c = omega (arith, c .before .before .before .before .loop .inv .2 .most, c .pair-ones3 .ensures .most)
 
 add-i : tie.Need-add-i Inv-loop μ-loop
 add-i c = omega arith
@@ -101,23 +58,42 @@ loop-less : tie.Need-loop-less Inv-loop μ-loop
 loop-less c = omega arith
 
 loop-again : tie.Need-loop-again Inv-loop μ-loop
-loop-again c = let w = c .before .before .before .before .before .before .before .before .args .work .now in let n = c .before .before .before .before .before .before .before .before .args .words in let a = c .before .before .before .before .before .before .before .before .args .a in let b = c .before .before .before .before .before .before .before .before .args .b in let i = c .before .before .before .before .before .before .before .loop .i in (
-  count-next w a b n _ i (λ k. omega (arith, c .shared-slice-known6 .given k)) (c .before .before .before .before .before .before .before .loop .inv .0) (omega arith),
-  count-next w (a + n) (b + n) n _ i (λ k. omega (arith, c .shared-slice-known6 .given k)) (c .before .before .before .before .before .before .before .loop .inv .1) (omega arith),
-  count-next w (a + n + n) (b + n + n) n _ i (λ k. omega (arith, c .shared-slice-known6 .given k)) (c .before .before .before .before .before .before .before .loop .inv .2) (omega arith),
+loop-again c = let j = c .before .before .before .before .loop .inv in (
+  count-pair _ _ _ _ _ _ _ (j .0) (c .before .before .pair-ones .ensures) (omega arith),
+  count-pair _ _ _ _ _ _ _ (j .1) (c .before .pair-ones2 .ensures) (omega arith),
+  count-pair _ _ _ _ _ _ _ (j .2) (c .pair-ones3 .ensures) (omega arith),
 )
 
-add-t28 : tie.Need-add-t28 Inv-loop μ-loop
-add-t28 c = omega arith
+last-ones-requires : tie.Need-last-ones-requires Inv-loop μ-loop
+last-ones-requires c κs = let j = c .before .loop .inv .0 .within in (j, (omega arith, (omega arith, omega arith)))
 
-mul-t29 : tie.Need-mul-t29 Inv-loop μ-loop
-mul-t29 c = omega arith
+add-one-2 : tie.Need-add-one-2 Inv-loop μ-loop
+add-one-2 c = let j = c .before .before .loop .inv .0 in omega (arith, j .within, j .most, c .last-ones .ensures .most)
 
-add-t30 : tie.Need-add-t30 Inv-loop μ-loop
-add-t30 c = omega arith
+last-ones-requires-2 : tie.Need-last-ones-requires-2 Inv-loop μ-loop
+last-ones-requires-2 c κs = let j = c .before .before .loop .inv .0 .within in (j, (omega arith, (omega arith, omega arith)))
+
+add-two-2 : tie.Need-add-two-2 Inv-loop μ-loop
+add-two-2 c = let j = c .before .before .before .loop .inv .1 in omega (arith, j .within, j .most, c .last-ones2 .ensures .most)
+
+last-ones-requires-3 : tie.Need-last-ones-requires-3 Inv-loop μ-loop
+last-ones-requires-3 c κs = let j = c .before .before .before .loop .inv .0 .within in (j, (omega arith, (omega arith, omega arith)))
+
+add-four-2 : tie.Need-add-four-2 Inv-loop μ-loop
+add-four-2 c = let j = c .before .before .before .before .loop .inv .2 in omega (arith, j .within, j .most, c .last-ones3 .ensures .most)
+
+add-t16 : tie.Need-add-t16 Inv-loop μ-loop
+add-t16 c = let j = c .before .before .before .before .loop .inv in omega (arith, j .0 .within, j .0 .most, j .1 .most, c .before .before .last-ones .ensures .most, c .before .last-ones2 .ensures .most)
+
+mul-t17 : tie.Need-mul-t17 Inv-loop μ-loop
+mul-t17 c = let j = c .before .before .before .before .loop .inv .2 in omega (arith, j .within, j .most, c .last-ones3 .ensures .most)
+
+add-t18 : tie.Need-add-t18 Inv-loop μ-loop
+add-t18 c = let j = c .before .before .before .before .loop .inv in omega (arith, j .0 .within, j .0 .most, j .1 .most, j .2 .most, c .before .before .last-ones .ensures .most, c .before .last-ones2 .ensures .most, c .last-ones3 .ensures .most)
 
 returns : tie.Need-returns Inv-loop μ-loop
-returns c = measured _ _ _ _ _ _ _ (count-done _ _ _ _ _ _ (c .before .loop .inv .0) (omega arith) .0) (count-done _ _ _ _ _ _ (c .before .loop .inv .1) (omega arith) .0) (count-done _ _ _ _ _ _ (c .before .loop .inv .2) (omega arith) .0)
+returns c = let j = c .before .before .before .before .loop .inv in measured _ _ _ _ _ _ _
+    (count-last _ _ _ _ _ _ _ (j .0) (c .before .before .last-ones .ensures)) (count-last _ _ _ _ _ _ _ (j .1) (c .before .last-ones2 .ensures)) (count-last _ _ _ _ _ _ _ (j .2) (c .last-ones3 .ensures))
 
 pub measure-join-spec : {M : Type 1} → statement M
 measure-join-spec =
@@ -130,31 +106,23 @@ measure-join-spec =
     add-e
     add-f
     loop-holds
+    add-loop
+    pair-ones-requires
     add-one
-    mul-one
-    shared-slice-read-one
-    add-one-2
-    mul-one-2
-    shared-slice-read-one-2
-    add-one-3
+    pair-ones-requires-2
     add-two
-    mul-two
-    shared-slice-read-two
-    add-two-2
-    mul-two-2
-    shared-slice-read-two-2
-    add-two-3
+    pair-ones-requires-3
     add-four
-    mul-four
-    shared-slice-read-four
-    add-four-2
-    mul-four-2
-    shared-slice-read-four-2
-    add-four-3
     add-i
     loop-less
     loop-again
-    add-t28
-    mul-t29
-    add-t30
+    last-ones-requires
+    add-one-2
+    last-ones-requires-2
+    add-two-2
+    last-ones-requires-3
+    add-four-2
+    add-t16
+    mul-t17
+    add-t18
     returns)
