@@ -32,8 +32,22 @@ count-start w p q n = record { within = omega arith; most = omega arith; is = un
 pub or-below : (w : List ℕ) (i j : ℕ) → ((k : ℕ) → getD w k 0 < 4294967296) → bitOr (getD w i 0) (getD w j 0) < 4294967296
 or-below w i j h = or-lt 32 (getD w i 0) (getD w j 0) (h i) (h j)
 
-or-few : (w : List ℕ) (i j : ℕ) → ((k : ℕ) → getD w k 0 < 4294967296) → ones (bitOr (getD w i 0) (getD w j 0)) ≤ 32
+pub or-few : (w : List ℕ) (i j : ℕ) → ((k : ℕ) → getD w k 0 < 4294967296) → ones (bitOr (getD w i 0) (getD w j 0)) ≤ 32
 or-few w i j h = ones-le 32 (bitOr (getD w i 0) (getD w j 0)) (or-below w i j h)
+
+pub count-next : (w : List ℕ) (p q n count i : ℕ) → ((k : ℕ) → getD w k 0 < 4294967296) → Counting w p q n count i → i < n
+    → Counting w p q n (count + ones (bitOr (getD w (p + i) 0) (getD w (q + i) 0))) (i + 1)
+unfolding orOnes
+count-next w p q n count i h c l = record {
+  within = omega arith;
+  most = omega (arith, or-few w (p + i) (q + i) h, c .most);
+  is = ap (λ (k : ℕ). k + ones (bitOr (getD w (p + i) 0) (getD w (q + i) 0))) (c .is) ∙ sym (sum-next (orOnes w p q) i);
+}
+
+pub count-done : (w : List ℕ) (p q n count i : ℕ) → Counting w p q n count i → n ≤ i → count ≡ sum (orOnes w p q) n
+count-done w p q n count i c h =
+    let e : i ≡ n = omega (arith, c .within) in
+    c .is ∙ ap (sum (orOnes w p q)) e
 
 -- two words as one number: the ones of each are counted apart
 pub pair-done : (w : List ℕ) (p q i : ℕ) → ((k : ℕ) → getD w k 0 < 4294967296)

@@ -32,8 +32,8 @@ fn last_ones(work: &[u32], a: usize, b: usize, i: usize, words: usize) -> u32
     }
 }
 
-// What the shapes at a and b cost joined, in one pass over the three planes.
-pub fn measure_join(work: &[u32], a: usize, b: usize, words: usize) -> RowShape
+// What the shapes at a and b cost joined, in one pass over the three planes, two words at once.
+fn measure_pairs(work: &[u32], a: usize, b: usize, words: usize) -> RowShape
     requires { ⌜ words ≤ 1048576 ⌝ }
     requires { ⌜ a + 3 * words ≤ length (now work) ⌝ }
     requires { ⌜ b + 3 * words ≤ length (now work) ⌝ }
@@ -60,6 +60,47 @@ pub fn measure_join(work: &[u32], a: usize, b: usize, words: usize) -> RowShape
         row_cost: one + two + 2 * four,
         columns: one,
     }
+}
+
+// What the shapes at a and b cost joined, in one pass over the three planes, word by word: of this loop the compiler makes one that counts eight
+// words at once, and of that over pairs it does not.
+fn measure_words(work: &[u32], a: usize, b: usize, words: usize) -> RowShape
+    requires { ⌜ words ≤ 1048576 ⌝ }
+    requires { ⌜ a + 3 * words ≤ length (now work) ⌝ }
+    requires { ⌜ b + 3 * words ≤ length (now work) ⌝ }
+    ensures { λ r. ⌜ MeasuresJoin (now (work .entry)) a b words (r .«row_cost») (r .columns) ⌝ }
+{
+    let c = a + words;
+    let d = b + words;
+    let e = c + words;
+    let f = d + words;
+    let mut one: u32 = 0;
+    let mut two: u32 = 0;
+    let mut four: u32 = 0;
+    let mut i = 0;
+    while i < words {
+        one = one + u32::count_ones(work[a + i] | work[b + i]);
+        two = two + u32::count_ones(work[c + i] | work[d + i]);
+        four = four + u32::count_ones(work[e + i] | work[f + i]);
+        i += 1;
+    }
+    RowShape {
+        row_cost: one + two + 2 * four,
+        columns: one,
+    }
+}
+
+// What the shapes at a and b cost joined: by pairs where there are fewer than the eight words that are counted at once.
+pub fn measure_join(work: &[u32], a: usize, b: usize, words: usize) -> RowShape
+    requires { ⌜ words ≤ 1048576 ⌝ }
+    requires { ⌜ a + 3 * words ≤ length (now work) ⌝ }
+    requires { ⌜ b + 3 * words ≤ length (now work) ⌝ }
+    ensures { λ r. ⌜ MeasuresJoin (now (work .entry)) a b words (r .«row_cost») (r .columns) ⌝ }
+{
+    if words < 8 {
+        return measure_pairs(work, a, b, words);
+    }
+    measure_words(work, a, b, words)
 }
 
 // Makes the shape at a the join of those at a and b.

@@ -2,10 +2,10 @@ use Prim.Native.Nat.{_+_, _-_}
 use Rattle.planes.proofs.JoinLaws.{Counting, count-start, count-pair, count-last, measured}
 use native.Mathlib.Omega.{arith}
 use borrow.Author.Needs.{needs}
-use Rattle.planes.proofs.joining.measure_join.Statement.{statement}
-use Rattle.planes.proofs.joining.measure_join.Tie as tie
-use Rattle.planes.proofs.joining.measure_join.Reads as reads
-use Rattle.planes.proofs.joining.measure_join.Lts as lts
+use Rattle.planes.proofs.joining.measure_pairs.Statement.{statement}
+use Rattle.planes.proofs.joining.measure_pairs.Tie as tie
+use Rattle.planes.proofs.joining.measure_pairs.Reads as reads
+use Rattle.planes.proofs.joining.measure_pairs.Lts as lts
 use Rattle.planes.proofs.joining.last_ones.Reads as last-ones-reads
 use Rattle.planes.proofs.joining.pair_ones.Reads as pair-ones-reads
 
@@ -95,8 +95,8 @@ returns : tie.Need-returns Inv-loop μ-loop
 returns c = let j = c .before .before .before .before .loop .inv in measured _ _ _ _ _ _ _
     (count-last _ _ _ _ _ _ _ (j .0) (c .before .before .last-ones .ensures)) (count-last _ _ _ _ _ _ _ (j .1) (c .before .last-ones2 .ensures)) (count-last _ _ _ _ _ _ _ (j .2) (c .last-ones3 .ensures))
 
-pub measure-join-spec : {M : Type 1} → statement M
-measure-join-spec =
+pub measure-pairs-spec : {M : Type 1} → statement M
+measure-pairs-spec =
     tie.close
     (tie.spec
     Inv-loop
