@@ -7,7 +7,7 @@ use borrow.Author.Count.{below-more}
 use lib.ListN.{length, getD, set}
 use lib.Seq.{getD-set-same, getD-set-other}
 use lib.Bits.{bitOr, or-lt}
-use lib.Count.{ones, ones-le}
+use lib.Count.{ones, ones-le, ones-cat}
 use Rattle.laws.specs.Bag.{sum}
 use Rattle.laws.specs.LentRange.{Apart, Only}
 use Rattle.laws.proofs.BagLaws.{sum-same, sum-next}
@@ -16,7 +16,7 @@ use Rattle.shapes.specs.Shape.{Shape, rowCost, columns, join}
 use Rattle.shapes.specs.Lent.{Measured}
 use Rattle.shapes.proofs.ShapeLaws.{join-at}
 use Rattle.planes.specs.Plane.{IsCost, plane, word, wide}
-use Rattle.planes.specs.Lent.{Holds, PlanesAt, orOnes, MeasuresJoin, JoinsPlanes}
+use Rattle.planes.specs.Lent.{Holds, PlanesAt, orOnes, PairOnes, LastOnes, MeasuresJoin, JoinsPlanes}
 use Rattle.planes.proofs.PlaneLaws.{cost-max, plane-room, plane-join, plane-ones, wide-columns, wide-row, word-or, ones-words, join-room}
 
 -- ---- counting the bits of two numbers together
@@ -29,29 +29,66 @@ pub record Counting (w : List ℕ) (p q n count i : ℕ) : Type 0 where
 pub count-start : (w : List ℕ) (p q n : ℕ) → Counting w p q n 0 0
 count-start w p q n = record { within = omega arith; most = omega arith; is = unfold sum in refl }
 
-pub or-most : (x y : ℕ) → x < 4294967296 → y < 4294967296 → ones (bitOr x y) ≤ 32
-or-most x y p q = ones-le 32 (bitOr x y) (or-lt 32 x y p q)
+pub or-below : (w : List ℕ) (i j : ℕ) → ((k : ℕ) → getD w k 0 < 4294967296) → bitOr (getD w i 0) (getD w j 0) < 4294967296
+or-below w i j h = or-lt 32 (getD w i 0) (getD w j 0) (h i) (h j)
 
 pub or-few : (w : List ℕ) (i j : ℕ) → ((k : ℕ) → getD w k 0 < 4294967296) → ones (bitOr (getD w i 0) (getD w j 0)) ≤ 32
-or-few w i j h = or-most (getD w i 0) (getD w j 0) (h i) (h j)
-
-pub count-more : (w : List ℕ) (p q n count i : ℕ) → getD w (p + i) 0 < 4294967296 → getD w (q + i) 0 < 4294967296 → Counting w p q n count i → i < n
-    → Counting w p q n (count + ones (bitOr (getD w (p + i) 0) (getD w (q + i) 0))) (i + 1)
-unfolding orOnes
-count-more w p q n count i x y c h = record {
-  within = omega arith;
-  most = omega (arith, or-most (getD w (p + i) 0) (getD w (q + i) 0) x y, c .most);
-  is = ap (λ (k : ℕ). k + ones (bitOr (getD w (p + i) 0) (getD w (q + i) 0))) (c .is) ∙ sym (sum-next (orOnes w p q) i);
-}
+or-few w i j h = ones-le 32 (bitOr (getD w i 0) (getD w j 0)) (or-below w i j h)
 
 pub count-next : (w : List ℕ) (p q n count i : ℕ) → ((k : ℕ) → getD w k 0 < 4294967296) → Counting w p q n count i → i < n
     → Counting w p q n (count + ones (bitOr (getD w (p + i) 0) (getD w (q + i) 0))) (i + 1)
-count-next w p q n count i h = count-more w p q n count i (h (p + i)) (h (q + i))
+unfolding orOnes
+count-next w p q n count i h c l = record {
+  within = omega arith;
+  most = omega (arith, or-few w (p + i) (q + i) h, c .most);
+  is = ap (λ (k : ℕ). k + ones (bitOr (getD w (p + i) 0) (getD w (q + i) 0))) (c .is) ∙ sym (sum-next (orOnes w p q) i);
+}
 
-pub count-done : (w : List ℕ) (p q n count i : ℕ) → Counting w p q n count i → n ≤ i → (count ≡ sum (orOnes w p q) n) × (count ≤ 32 * n)
+pub count-done : (w : List ℕ) (p q n count i : ℕ) → Counting w p q n count i → n ≤ i → count ≡ sum (orOnes w p q) n
 count-done w p q n count i c h =
     let e : i ≡ n = omega (arith, c .within) in
-    (c .is ∙ ap (sum (orOnes w p q)) e, omega (arith, c .most))
+    c .is ∙ ap (sum (orOnes w p q)) e
+
+-- two words as one number: the ones of each are counted apart
+pub pair-done : (w : List ℕ) (p q i : ℕ) → ((k : ℕ) → getD w k 0 < 4294967296)
+    → PairOnes w p q i (ones (bitOr (getD w (p + i + 1) 0) (getD w (q + i + 1) 0) * 4294967296 + bitOr (getD w (p + i) 0) (getD w (q + i) 0)))
+unfolding orOnes
+pair-done w p q i h =
+    let low = bitOr (getD w (p + i) 0) (getD w (q + i) 0) in
+    let high = bitOr (getD w (p + i + 1) 0) (getD w (q + i + 1) 0) in
+    let apart : ones (high * 4294967296 + low) ≡ ones high + ones low = ones-cat 32 high low (or-below w (p + i) (q + i) h) in
+    let at-p : p + i + 1 ≡ p + (i + 1) = omega arith in
+    let at-q : q + i + 1 ≡ q + (i + 1) = omega arith in
+    let behind : ones high ≡ orOnes w p q (i + 1) = ap₂ (λ (u v : ℕ). ones (bitOr (getD w u 0) (getD w v 0))) at-p at-q in
+    record {
+      most = omega (arith, apart, or-few w (p + i) (q + i) h, or-few w (p + i + 1) (q + i + 1) h);
+      is = omega (arith, apart, behind);
+    }
+
+pub count-pair : (w : List ℕ) (p q n count i r : ℕ) → Counting w p q n count i → PairOnes w p q i r → i + 1 < n → Counting w p q n (count + r) (i + 2)
+count-pair w p q n count i r c o h =
+    let next : i + 2 ≡ i + 1 + 1 = omega arith in
+    record {
+      within = omega arith;
+      most = omega (arith, c .most, o .most);
+      is = omega (arith, c .is, o .is, ap (sum (orOnes w p q)) next, sum-next (orOnes w p q) i, sum-next (orOnes w p q) (i + 1));
+    }
+
+-- the word that the pairs leave, where there is one
+pub last-one : (w : List ℕ) (p q i n : ℕ) → ((k : ℕ) → getD w k 0 < 4294967296) → i < n → n ≤ i + 1
+    → LastOnes w p q i n (ones (bitOr (getD w (p + i) 0) (getD w (q + i) 0)))
+unfolding orOnes
+last-one w p q i n h l m =
+    let e : i + 1 ≡ n = omega arith in
+    record { most = or-few w (p + i) (q + i) h; is = sym (sum-next (orOnes w p q) i) ∙ ap (sum (orOnes w p q)) e }
+
+pub last-none : (w : List ℕ) (p q i n : ℕ) → i ≤ n → n ≤ i → LastOnes w p q i n 0
+last-none w p q i n l m =
+    let e : i ≡ n = omega arith in
+    record { most = omega arith; is = omega (arith, ap (sum (orOnes w p q)) e) }
+
+pub count-last : (w : List ℕ) (p q n count i r : ℕ) → Counting w p q n count i → LastOnes w p q i n r → count + r ≡ sum (orOnes w p q) n
+count-last w p q n count i r c o = omega (arith, c .is, o .is)
 
 -- ---- what a join costs
 

@@ -27,6 +27,16 @@ pub record PlanesAt (w : List ℕ) (a n : ℕ) (s : Shape) : Type 0 where
 unfoldable pub orOnes : List ℕ → ℕ → ℕ → ℕ → ℕ
 orOnes w p q k = ones (bitOr (getD w (p + k) 0) (getD w (q + k) 0))
 
+-- r are the bits of words i and i + 1 of two numbers together
+pub record PairOnes (w : List ℕ) (p q i r : ℕ) : Type 0 where
+  pub most : r ≤ 64
+  pub is : r ≡ orOnes w p q i + orOnes w p q (i + 1)
+
+-- r are those of the words from i on, up to n
+pub record LastOnes (w : List ℕ) (p q i n r : ℕ) : Type 0 where
+  pub most : r ≤ 32
+  pub is : sum (orOnes w p q) i + r ≡ sum (orOnes w p q) n
+
 -- the numbers are those of the bits together, which are the two shapes joined
 pub record MeasuresJoin (w : List ℕ) (a b n row cols : ℕ) : Type 0 where
   pub row-bits : row ≡ sum (orOnes w a b) n + sum (orOnes w (a + n) (b + n)) n + 2 * sum (orOnes w (a + n + n) (b + n + n)) n

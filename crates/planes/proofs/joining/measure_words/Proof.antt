@@ -2,10 +2,10 @@ use Prim.Native.Nat.{_+_, _-_}
 use Rattle.planes.proofs.JoinLaws.{Counting, count-start, count-next, count-done, or-few, measured}
 use borrow.Author.Needs.{needs}
 use native.Mathlib.Omega.{arith}
-use Rattle.planes.proofs.joining.measure_join.Statement.{statement}
-use Rattle.planes.proofs.joining.measure_join.Tie as tie
-use Rattle.planes.proofs.joining.measure_join.Reads as reads
-use Rattle.planes.proofs.joining.measure_join.Lts as lts
+use Rattle.planes.proofs.joining.measure_words.Statement.{statement}
+use Rattle.planes.proofs.joining.measure_words.Tie as tie
+use Rattle.planes.proofs.joining.measure_words.Reads as reads
+use Rattle.planes.proofs.joining.measure_words.Lts as lts
 
 abbrev Inv-loop : tie.InvT-loop
 Inv-loop work a b words c d e f one₀ two₀ four₀ i₀ one two four i = Counting work a b words one i × Counting work (a + words) (b + words) words two i × Counting work (a + words + words) (b + words + words) words four i
@@ -117,10 +117,10 @@ add-t30 : tie.Need-add-t30 Inv-loop μ-loop
 add-t30 c = omega arith
 
 returns : tie.Need-returns Inv-loop μ-loop
-returns c = measured _ _ _ _ _ _ _ (count-done _ _ _ _ _ _ (c .before .loop .inv .0) (omega arith) .0) (count-done _ _ _ _ _ _ (c .before .loop .inv .1) (omega arith) .0) (count-done _ _ _ _ _ _ (c .before .loop .inv .2) (omega arith) .0)
+returns c = measured _ _ _ _ _ _ _ (count-done _ _ _ _ _ _ (c .before .loop .inv .0) (omega arith)) (count-done _ _ _ _ _ _ (c .before .loop .inv .1) (omega arith)) (count-done _ _ _ _ _ _ (c .before .loop .inv .2) (omega arith))
 
-pub measure-join-spec : {M : Type 1} → statement M
-measure-join-spec =
+pub measure-words-spec : {M : Type 1} → statement M
+measure-words-spec =
     tie.close
     (tie.spec
     Inv-loop
