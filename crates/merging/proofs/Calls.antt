@@ -1,7 +1,7 @@
 -- What a walk cites of each function: its call, as one entailment (`Loan.antt`). Written by tools/walks. Assumes `Given`, and each function's theorem.
 use mathlib.Core.Path.{_≡_, refl, _∙_}
 use mathlib.Core.Bool.{Bool}
-use Prim.Native.Nat.{ℕ, _+_, _-_, _*_, _/_, _<_, _≤_, _^_}
+use Prim.Native.Nat.{ℕ, _+_, _/_, _<_, _≤_, _^_}
 use mathlib.Core.List.{List, [], _∷_}
 use lib.Dec.{T, ltb}
 use lib.ListN.{length}
@@ -60,6 +60,7 @@ use Rattle.slots.proofs.size as size
 use Rattle.merging.proofs.optimizing.place_groups as place-groups
 use Rattle.merging.proofs.optimizing.resolve_all as resolve-all
 use Rattle.merging.proofs.run.join as join
+use Rattle.merging.proofs.run.one_more as one-more
 use Rattle.merging.proofs.run.turn as turn
 use Rattle.merging.proofs.run.crowded as crowded
 use Rattle.merging.proofs.run.tidy as tidy
@@ -74,6 +75,7 @@ use Rattle.slots.proofs.size.Symbol.{name as #slots·size}
 use Rattle.merging.proofs.optimizing.place_groups.Symbol.{name as #merging·place-groups}
 use Rattle.merging.proofs.optimizing.resolve_all.Symbol.{name as #merging·resolve-all}
 use Rattle.merging.proofs.run.join.Symbol.{name as #merging·join}
+use Rattle.merging.proofs.run.one_more.Symbol.{name as #merging·one-more}
 use Rattle.merging.proofs.run.turn.Symbol.{name as #merging·turn}
 use Rattle.merging.proofs.run.crowded.Symbol.{name as #merging·crowded}
 use Rattle.merging.proofs.run.tidy.Symbol.{name as #merging·tidy}
@@ -92,7 +94,7 @@ abbrev pub mach-merged : Merged → Val
 mach-merged x = vstruct (vcons (vint w64 (x .merges)) (vcons (vint w64 (x .weighed)) (vcons (vint w64 (x .before)) (vcons (vint w64 (x .after)) vnil))))
 
 abbrev pub mach-progress : Progress → Val
-mach-progress x = vstruct (vcons (vint w64 (x .waiting)) (vcons (vint w64 (x .weighed)) (vcons (vint w64 (x .merges)) (vcons (vint w64 (x .size)) vnil))))
+mach-progress x = vstruct (vcons (vint w64 (x .waiting)) (vcons (vint w64 (x .weighed)) (vcons (vint w64 (x .merges)) (vcons (vint w64 (x .size)) (vcons (vint w64 (x .taken)) vnil)))))
 
 module _ {M : Type 1} (𝓤 : URA M) (H : Heap 𝓤) (A : Atoms 𝓤) (mem : Memory → SProp 𝓤) (run : Routine → Fun 𝓤) where
   abbrev pub Take-of : Contract 𝓤
@@ -124,6 +126,9 @@ module _ {M : Type 1} (𝓤 : URA M) (H : Heap 𝓤) (A : Atoms 𝓤) (mem : Mem
 
   abbrev pub Join-of : Contract 𝓤
   Join-of = tripleOf 𝓤 H A join.signature (join.spec 𝓤 H A mem run)
+
+  abbrev pub OneMore-of : Contract 𝓤
+  OneMore-of = tripleOf 𝓤 H A one-more.signature (one-more.spec 𝓤 H A mem run)
 
   abbrev pub Turn-of : Contract 𝓤
   Turn-of = tripleOf 𝓤 H A turn.signature (turn.spec 𝓤 H A mem run)
@@ -640,6 +645,38 @@ module _ {M : Type 1} (𝓤 : URA M) (H : Heap 𝓤) (A : Atoms 𝓤) (W : Given
         frame ! $
         use0 W (raw (fact 𝓤 (p .gain ≤ s .size))) (factI 𝓤 (p .gain ≤ s .size) (emp 𝓤) (l .1)) $ use0 W (raw (fact 𝓤 (Joinable tb (s .merges) p work))) (factI 𝓤 (Joinable tb (s .merges) p work) (emp 𝓤) (l .0)) $ done !)
 
+  module _ (C : Calls 𝓤 H) (fm : FmC 𝓤 H (W .laws) C) (known : Triple 𝓤 (C #merging·one-more) (OneMore-of 𝓤 H A mem run)) (taken : ℕ) where
+    abbrev pub After-one-more-call : Val → Item 𝓤
+    After-one-more-call w = later (some (λ (r : ℕ). given (r ≤ taken + 1) (‵ (usize .own r (w ∷ [])))))
+
+    abbrev at-one-more-call : OneMore-of 𝓤 H A mem run .Ghost
+    at-one-more-call = ((tt, tt, tt, (taken, tt), (vint w64 taken ∷ [], tt)), tt)
+
+    leaves-one-more-call : (w : Val) → ent 𝓤 (OneMore-of 𝓤 H A mem run .post (at-one-more-call) w) (mean 𝓤 H A (After-one-more-call w))
+    leaves-one-more-call w =
+        qed W (later (some (λ (r : ℕ). ((‵ ftrue) ⊛ ‵ (usize .own r (w ∷ [])))
+        ⊛ some (λ (ws : Lasts one-more.ended tt (at-one-more-call .0 .3)). ‵ (lasts one-more.ended tt (at-one-more-call .0 .3) ws) ⊛ raw (fact 𝓤 (r ≤ taken + 1))))) ∷ []) ∵
+        updating ! $ await ! tt $ pick ! (λ r. split ! $ move ! (1 ∷ []) $ pick ! (λ ws. split ! $
+        move ! (1 ∷ []) $
+        heard ! (r ≤ taken + 1) (λ e.
+        move ! (1 ∷ []) $
+        split ! $
+        at-once ! $
+        keep ! (1 ∷ []) $ show ! (λ (r : ℕ). guard 𝓤 (r ≤ taken + 1) (sem 𝓤 H A (usize .own r (w ∷ [])))) r $ check ! e $ done !)))
+
+    pub one-more-call : taken < 2 ^ 64 → ent 𝓤 (emp 𝓤) (C #merging·one-more (vint w64 taken ∷ []) (λ w. mean 𝓤 H A (After-one-more-call w)))
+    one-more-call g-taken =
+        qed W ([]) ∵
+        suffices ! (C #merging·one-more (vint w64 taken ∷ []) (OneMore-of 𝓤 H A mem run .post (at-one-more-call))) (fm→monoC 𝓤 H (W .laws) C fm #merging·one-more (vint w64 taken ∷ []) (OneMore-of 𝓤 H A mem run .post (at-one-more-call)) _ (leaves-one-more-call)) $
+        suffices ! (OneMore-of 𝓤 H A mem run .pre (at-one-more-call)) (known (at-one-more-call)) $ nothing ! $
+        nothing ! $
+        owned ! usize (Is usize) (uint-makes 𝓤 H A W w64) taken _ (refl, g-taken) $
+        fjoin ! $
+        move ! (1 ∷ 0 ∷ []) $
+        join ! $
+        frame ! $
+        done !
+
   module _ (C : Calls 𝓤 H) (fm : FmC 𝓤 H (W .laws) C) (known : Triple 𝓤 (C #merging·turn) (Turn-of 𝓤 H A mem run)) (κ : Lft) (θ : Share) (γ : GName) (β ι : ℕ) (ν : ℕ) (pairs : List Pair) (κ₂ : Lft) (θ₂ : Share) (γ₂ : GName) (β₂ ι₂ : ℕ) (ν₂ : ℕ) (work : List ℕ) (tb : MergeTables) (s : Progress) where
     abbrev Loan-turn-call : (long : length pairs ≡ ν) (long₂ : length work ≡ ν₂) (sized : Room T.the-row ν) (sized₂ : Room u32 ν₂) → Loan 𝓤 H A
     Loan-turn-call long long₂ sized sized₂ = both 𝓤 H A W (lent-mut T.the-row κ θ γ β ι 𝓤 H A W pairs ν long sized) (lent-mut u32 κ₂ θ₂ γ₂ β₂ ι₂ 𝓤 H A W work ν₂ long₂ sized₂)
@@ -707,39 +744,37 @@ module _ {M : Type 1} (𝓤 : URA M) (H : Heap 𝓤) (A : Atoms 𝓤) (W : Given
         frame ! $
         use0 W (raw (fact 𝓤 (room (tb .groups) ≤ length pairs))) (factI 𝓤 (room (tb .groups) ≤ length pairs) (emp 𝓤) (l .2)) $ use0 W (raw (fact 𝓤 (0 < s .waiting))) (factI 𝓤 (0 < s .waiting) (emp 𝓤) (l .1)) $ use0 W (raw (fact 𝓤 (SomeStanding tb (s .waiting) (s .weighed) (s .merges) (s .size) work pairs))) (factI 𝓤 (SomeStanding tb (s .waiting) (s .weighed) (s .merges) (s .size) work pairs) (emp 𝓤) (l .0)) $ done !)
 
-  module _ (C : Calls 𝓤 H) (fm : FmC 𝓤 H (W .laws) C) (known : Triple 𝓤 (C #merging·crowded) (Crowded-of 𝓤 H A mem run)) (tb : MergeTables) (s : Progress) where
+  module _ (C : Calls 𝓤 H) (fm : FmC 𝓤 H (W .laws) C) (known : Triple 𝓤 (C #merging·crowded) (Crowded-of 𝓤 H A mem run)) (s : Progress) where
     abbrev pub After-crowded-call : Val → Item 𝓤
-    After-crowded-call w = later (some (λ (r : Bool). given (r ≡ ltb ((tb .groups - s .merges) * (tb .groups - s .merges) / 8 * 5) (s .waiting)) (‵ (Boolean .own r (w ∷ [])))))
+    After-crowded-call w = later (some (λ (r : Bool). given (r ≡ ltb (s .waiting / 64) (s .taken)) (‵ (Boolean .own r (w ∷ [])))))
 
     abbrev at-crowded-call : Crowded-of 𝓤 H A mem run .Ghost
-    at-crowded-call = ((tt, tt, tt, (tb, (s, tt)), (mach-tables tb ∷ [], (mach-progress s ∷ [], tt))), tt)
+    at-crowded-call = ((tt, tt, tt, (s, tt), (mach-progress s ∷ [], tt)), tt)
 
     leaves-crowded-call : (w : Val) → ent 𝓤 (Crowded-of 𝓤 H A mem run .post (at-crowded-call) w) (mean 𝓤 H A (After-crowded-call w))
     leaves-crowded-call w =
         qed W (later (some (λ (r : Bool). ((‵ ftrue) ⊛ ‵ (Boolean .own r (w ∷ [])))
-        ⊛ some (λ (ws : Lasts crowded.ended tt (at-crowded-call .0 .3)). ‵ (lasts crowded.ended tt (at-crowded-call .0 .3) ws) ⊛ raw (fact 𝓤 (r ≡ ltb ((tb .groups - s .merges) * (tb .groups - s .merges) / 8 * 5) (s .waiting)))))) ∷ []) ∵
+        ⊛ some (λ (ws : Lasts crowded.ended tt (at-crowded-call .0 .3)). ‵ (lasts crowded.ended tt (at-crowded-call .0 .3) ws) ⊛ raw (fact 𝓤 (r ≡ ltb (s .waiting / 64) (s .taken)))))) ∷ []) ∵
         updating ! $ await ! tt $ pick ! (λ r. split ! $ move ! (1 ∷ []) $ pick ! (λ ws. split ! $
         move ! (1 ∷ []) $
-        heard ! (r ≡ ltb ((tb .groups - s .merges) * (tb .groups - s .merges) / 8 * 5) (s .waiting)) (λ e.
+        heard ! (r ≡ ltb (s .waiting / 64) (s .taken)) (λ e.
         move ! (1 ∷ []) $
         split ! $
         at-once ! $
-        keep ! (1 ∷ []) $ show ! (λ (r : Bool). guard 𝓤 (r ≡ ltb ((tb .groups - s .merges) * (tb .groups - s .merges) / 8 * 5) (s .waiting)) (sem 𝓤 H A (Boolean .own r (w ∷ [])))) r $ check ! e $ done !)))
+        keep ! (1 ∷ []) $ show ! (λ (r : Bool). guard 𝓤 (r ≡ ltb (s .waiting / 64) (s .taken)) (sem 𝓤 H A (Boolean .own r (w ∷ [])))) r $ check ! e $ done !)))
 
-    pub crowded-call : Is L.the-row tb (mach-tables tb ∷ []) → Is Z.the-row s (mach-progress s ∷ []) → ((tb .groups ≤ 1024) × (s .merges ≤ tb .groups)) → ent 𝓤 (emp 𝓤) (C #merging·crowded (mach-tables tb ∷ mach-progress s ∷ []) (λ w. mean 𝓤 H A (After-crowded-call w)))
-    crowded-call g-tb g-s l =
+    pub crowded-call : Is Z.the-row s (mach-progress s ∷ []) → ent 𝓤 (emp 𝓤) (C #merging·crowded (mach-progress s ∷ []) (λ w. mean 𝓤 H A (After-crowded-call w)))
+    crowded-call g-s =
         qed W ([]) ∵
-        suffices ! (C #merging·crowded (mach-tables tb ∷ mach-progress s ∷ []) (Crowded-of 𝓤 H A mem run .post (at-crowded-call))) (fm→monoC 𝓤 H (W .laws) C fm #merging·crowded (mach-tables tb ∷ mach-progress s ∷ []) (Crowded-of 𝓤 H A mem run .post (at-crowded-call)) _ (leaves-crowded-call)) $
+        suffices ! (C #merging·crowded (mach-progress s ∷ []) (Crowded-of 𝓤 H A mem run .post (at-crowded-call))) (fm→monoC 𝓤 H (W .laws) C fm #merging·crowded (mach-progress s ∷ []) (Crowded-of 𝓤 H A mem run .post (at-crowded-call)) _ (leaves-crowded-call)) $
         suffices ! (Crowded-of 𝓤 H A mem run .pre (at-crowded-call)) (known (at-crowded-call)) $ nothing ! $
         nothing ! $
         owned ! Z.the-row (Is Z.the-row) (LL.makes Z.the-type Z′.the-plain 𝓤 H A) s _ g-s $
         fjoin ! $
-        owned ! L.the-row (Is L.the-row) (LL.makes L.the-type L′.the-plain 𝓤 H A) tb _ g-tb $
-        fjoin ! $
         move ! (1 ∷ 0 ∷ []) $
         join ! $
         frame ! $
-        use0 W (raw (fact 𝓤 (s .merges ≤ tb .groups))) (factI 𝓤 (s .merges ≤ tb .groups) (emp 𝓤) (l .1)) $ use0 W (raw (fact 𝓤 (tb .groups ≤ 1024))) (factI 𝓤 (tb .groups ≤ 1024) (emp 𝓤) (l .0)) $ done !
+        done !
 
   module _ (C : Calls 𝓤 H) (fm : FmC 𝓤 H (W .laws) C) (known : Triple 𝓤 (C #merging·tidy) (Tidy-of 𝓤 H A mem run)) (κ : Lft) (θ : Share) (γ : GName) (β ι : ℕ) (ν : ℕ) (pairs : List Pair) (κ₂ : Lft) (θ₂ : Share) (γ₂ : GName) (β₂ ι₂ : ℕ) (ν₂ : ℕ) (work : List ℕ) (tb : MergeTables) (s : Progress) where
     abbrev Loan-tidy-call : (long : length pairs ≡ ν) (long₂ : length work ≡ ν₂) (sized : Room T.the-row ν) → Loan 𝓤 H A

@@ -100,9 +100,6 @@ pub tidied-none : {t : MergeTables} {n m j z : ℕ} {w : List ℕ} {ps : List Pa
 tidied-none = record { stands = λ xs s. s; fewer = omega arith; weighed-same = refl; rest = λ i _. refl }
 
 module _ {t : MergeTables} {n m j z : ℕ} {w : List ℕ} {ps : List Pair} (s : SomeStanding t n m j z w ps) where
-  pub tidy-merges : j ≤ t .groups
-  tidy-merges = omega (arith, turn-merges s)
-
   pub tidy-numbered : Numbered w (t .place) ps n
   tidy-numbered = waits-numbered (turn-laid s) (turn-merges s) (s .standing .waits)
 

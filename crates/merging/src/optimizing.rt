@@ -83,6 +83,7 @@ pub fn optimize(pairs: &mut [Pair], work: &mut [u32], t: MergeTables) -> Merged
         weighed: tally.weighed,
         merges: 0,
         size: before,
+        taken: 0,
     };
     let end = run::join_all(pairs, work, t, start);
     resolve_all(work, t, t.groups + end.merges);

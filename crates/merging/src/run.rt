@@ -1,6 +1,7 @@
 // The run: the best pair is taken, and joined where both of its groups live, until none waits. A number lives that has a place: that is its mark. What decides is covered by the prover; `turn`,
 // `tidy` and `join_all` hold the pairs, and are walked (docs/PROVING.md).
 use crate::joining;
+use limits::Limits;
 use pairs::Pair;
 use pairs::keep_marked;
 use pairs::marked;
@@ -9,19 +10,19 @@ use slots::MergeTables;
 use waits::Tally;
 use waits::offer_all;
 ghost use mathlib.Core.Path.{_≡_};
-ghost use Prim.Native.Nat.{_-_, _*_, _/_, _≤_, _<_};
+ghost use Prim.Native.Nat.{_+_, _/_, _≤_, _<_};
 ghost use lib.Dec.{ltb};
 ghost use lib.ListN.{length};
 ghost use Rattle.waits.specs.LentWaits.{room};
-ghost use Rattle.limits.specs.Limits.{maxShapes};
 ghost use Rattle.merging.specs.LentHeld.{Joinable, JoinedAt, SomeStanding, Turned, Tidied, Ran};
 
-// How many pairs wait, were weighed and were joined, and what the groups cost together.
+// How many pairs wait, were weighed and were joined, what the groups cost together, and how many pairs were taken since dead ones were dropped.
 pub struct Progress {
     pub waiting: usize,
     pub weighed: usize,
     pub merges: usize,
     pub size: u64,
+    pub taken: usize,
 }
 
 // Joins the pair p, whose two live.
@@ -36,7 +37,18 @@ pub fn join(work: &mut [u32], t: MergeTables, s: Progress, p: Pair) -> Progress
         weighed: s.weighed,
         merges: s.merges + 1,
         size: s.size - p.gain as u64,
+        taken: s.taken,
     }
+}
+
+// One more, up to as many as there are pair records.
+pub fn one_more(taken: usize) -> usize
+    ensures { λ r. ⌜ r ≤ taken + 1 ⌝ }
+{
+    if taken < Limits::PAIRS {
+        return taken + 1;
+    }
+    taken
 }
 
 // Takes the best pair. Where both of its groups live it is joined, and what they become is weighed with each living group; else it is passed over.
@@ -47,11 +59,13 @@ pub fn turn(pairs: &mut [Pair], work: &mut [u32], t: MergeTables, s: Progress) -
     ensures { λ r. ⌜ Turned t (s .waiting) (s .weighed) (s .merges) (s .size) (r .waiting) (r .weighed) (r .merges) (r .size) (now (work .entry)) (now (work .exit)) (now (pairs .entry)) (now (pairs .exit)) ⌝ }
 {
     let p = take(pairs, s.waiting);
+    let taken = one_more(s.taken);
     let left = Progress {
         waiting: s.waiting - 1,
         weighed: s.weighed,
         merges: s.merges,
         size: s.size,
+        taken,
     };
     if marked(work, t.place, p) {
         let joined = join(work, t, left, p);
@@ -65,19 +79,18 @@ pub fn turn(pairs: &mut [Pair], work: &mut [u32], t: MergeTables, s: Progress) -
             weighed: after.weighed,
             merges: joined.merges,
             size: joined.size,
+            taken: joined.taken,
         };
     }
     left
 }
 
-// Whether a quarter more pairs wait than the living groups have: then a fifth of them and more are of dead ones.
-pub fn crowded(t: MergeTables, s: Progress) -> bool
-    requires { ⌜ t .groups ≤ maxShapes ⌝ }
-    requires { ⌜ s .merges ≤ t .groups ⌝ }
-    ensures { λ r. ⌜ r ≡ ltb ((t .groups - s .merges) * (t .groups - s .merges) / 8 * 5) (s .waiting) ⌝ }
+// Whether more than a 64th of what waits was taken since dead pairs were dropped. Most of what is taken is dead then, since a pair that lives is joined,
+// and there are few joins; the other dead ones wait near the front too.
+pub fn crowded(s: Progress) -> bool
+    ensures { λ r. ⌜ r ≡ ltb (s .waiting / 64) (s .taken) ⌝ }
 {
-    let living = t.groups - s.merges;
-    living * living / 8 * 5 < s.waiting
+    s.waiting / 64 < s.taken
 }
 
 // Where it is crowded, what waits of dead groups goes: else most of what is taken would be passed over.
@@ -86,13 +99,14 @@ pub fn tidy(pairs: &mut [Pair], work: &[u32], t: MergeTables, s: Progress) -> Pr
     requires { ⌜ room (t .groups) ≤ length (now pairs) ⌝ }
     ensures { λ r. ⌜ Tidied t (s .waiting) (s .weighed) (s .merges) (s .size) (r .waiting) (r .weighed) (r .merges) (r .size) (now (work .entry)) (now (pairs .entry)) (now (pairs .exit)) ⌝ }
 {
-    if crowded(t, s) {
+    if crowded(s) {
         let waiting = keep_marked(pairs, work, t.place, s.waiting);
         return Progress {
             waiting,
             weighed: s.weighed,
             merges: s.merges,
             size: s.size,
+            taken: 0,
         };
     }
     s

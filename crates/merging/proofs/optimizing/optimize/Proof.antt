@@ -181,14 +181,14 @@ module _ {M : Type 1} (𝓤 : URA M) (H : Heap 𝓤) (A : Atoms 𝓤) (W : Given
           land ! (from ! (stop !)) (init ! 41 refl (LL.lawful Y.the-type Y′.the-laws 𝓤 H A W .typed tally _ g-tally .0)) $
           rewrite ! 41 (λ (u : Val). ‵ (fat fullShare (Y′.mir) l₅ 0 u)) (spelt-Y tally r-tally g-tally) refl $
           split ! $
-          assigns ! (agg ! (and-then ! (load ! (from ! (fld ! refl (stop !))) (look-in ! 42 (sub ! 0 refl (whole !)))) (and-then ! (load ! (from ! (fld ! refl (stop !))) (look-in ! 42 (sub ! 1 refl (whole !)))) (and-then ! (lit ! tt) (and-then ! (load ! (from ! (stop !)) (look ! 44 refl)) (no-more !)))))) (from ! (stop !)) (init ! 40 refl (LL.lawful Z.the-type Z′.the-laws 𝓤 H A W .typed (record { waiting = tally .waiting; weighed = tally .weighed; merges = 0; size = before }) _ (LL.owes Z.the-type Z′.the-laws (record { waiting = tally .waiting; weighed = tally .weighed; merges = 0; size = before }) ((refl, (LL.owed Y.the-type Y′.the-laws tally _ (at-Y tally r-tally g-tally) .0 .1)), ((refl, (LL.owed Y.the-type Y′.the-laws tally _ (at-Y tally r-tally g-tally) .1 .0 .1)), ((refl, (lit< tt)), ((refl, (g-before .1)), tt))))) .0)) $
+          assigns ! (agg ! (and-then ! (load ! (from ! (fld ! refl (stop !))) (look-in ! 42 (sub ! 0 refl (whole !)))) (and-then ! (load ! (from ! (fld ! refl (stop !))) (look-in ! 42 (sub ! 1 refl (whole !)))) (and-then ! (lit ! tt) (and-then ! (load ! (from ! (stop !)) (look ! 44 refl)) (and-then ! (lit ! tt) (no-more !))))))) (from ! (stop !)) (init ! 40 refl (LL.lawful Z.the-type Z′.the-laws 𝓤 H A W .typed (record { waiting = tally .waiting; weighed = tally .weighed; merges = 0; size = before; taken = 0 }) _ (LL.owes Z.the-type Z′.the-laws (record { waiting = tally .waiting; weighed = tally .weighed; merges = 0; size = before; taken = 0 }) ((refl, (LL.owed Y.the-type Y′.the-laws tally _ (at-Y tally r-tally g-tally) .0 .1)), ((refl, (LL.owed Y.the-type Y′.the-laws tally _ (at-Y tally r-tally g-tally) .1 .0 .1)), ((refl, (lit< tt)), ((refl, (g-before .1)), ((refl, (lit< tt)), tt)))))) .0)) $
           assigns ! (addr ! (from ! (fld ! refl (hop ! (look-in ! 50 (sub ! 0 refl (whole !))) (stop !))))) (from ! (stop !)) (init ! 14 refl (tt, tt)) $
           assigns ! (agg ! (and-then ! (load ! (from ! (stop !)) (look ! 14 refl)) (and-then ! (load ! (from ! (fld ! refl (stop !))) (look-in ! 50 (sub ! 1 refl (whole !)))) (no-more !)))) (from ! (stop !)) (init ! 12 refl (tt, (tt, (record { fits = sized .0 }, tt)))) $
           assigns ! (addr ! (from ! (fld ! refl (hop ! (look-in ! 48 (sub ! 0 refl (whole !))) (stop !))))) (from ! (stop !)) (init ! 10 refl (tt, tt)) $
           assigns ! (agg ! (and-then ! (load ! (from ! (stop !)) (look ! 10 refl)) (and-then ! (load ! (from ! (fld ! refl (stop !))) (look-in ! 48 (sub ! 1 refl (whole !)))) (no-more !)))) (from ! (stop !)) (init ! 8 refl (tt, (tt, (record { fits = sized₂ .0 }, tt)))) $
           join ! $
-          use1 W (later (raw (C #merging·join-all (σ ∷ σ₂ ∷ mach-tables tb ∷ mach-progress (record { waiting = tally .waiting; weighed = tally .weighed; merges = 0; size = before }) ∷ []) (λ w. mean 𝓤 H A (After-join-all-call 𝓤 H A W mem run C fm known-join-all κ θ γ β ι ν (x-tally .0) κ₂ θ₂ γ₂ β₂ ι₂ ν₂ w2 tb (record { waiting = tally .waiting; weighed = tally .weighed; merges = 0; size = before }) w))))) (join-all-call 𝓤 H A W mem run C fm known-join-all κ θ γ β ι ν (x-tally .0) κ₂ θ₂ γ₂ β₂ ι₂ ν₂ w2 tb (record { waiting = tally .waiting; weighed = tally .weighed; merges = 0; size = before }) (e-tally .0 .0) (e-w2 .0) sized sized₂ g-tb (LL.owes Z.the-type Z′.the-laws (record { waiting = tally .waiting; weighed = tally .weighed; merges = 0; size = before }) ((refl, (LL.owed Y.the-type Y′.the-laws tally _ (at-Y tally r-tally g-tally) .0 .1)), ((refl, (LL.owed Y.the-type Y′.the-laws tally _ (at-Y tally r-tally g-tally) .1 .0 .1)), ((refl, (lit< tt)), ((refl, (g-before .1)), tt))))) ((record { groups = _; standing = optimize-begun ready (e-w1 .1) (e-before .1) (e-w2 .1) (e-tally .1) }, omega (arith, e-tally .0 .0)))) $ await ! tt $
-          calls ! fm (After-join-all-call 𝓤 H A W mem run C fm known-join-all κ θ γ β ι ν (x-tally .0) κ₂ θ₂ γ₂ β₂ ι₂ ν₂ w2 tb (record { waiting = tally .waiting; weighed = tally .weighed; merges = 0; size = before })) (and-then ! (load ! (from ! (stop !)) (look ! 11 refl)) (and-then ! (load ! (from ! (stop !)) (look ! 7 refl)) (and-then ! (load ! (from ! (stop !)) (look ! 45 refl)) (and-then ! (load ! (from ! (stop !)) (look ! 39 refl)) (no-more !))))) (λ r-end. await ! tt $ pick ! (λ end. pick ! (λ x-end. learn ! (λ e-end. split ! $ move ! (1 ∷ []) $ facts ! Z.the-row (Is Z.the-row) (shows 𝓤 H A Z.the-row) end (r-end ∷ []) (λ g-end.
+          use1 W (later (raw (C #merging·join-all (σ ∷ σ₂ ∷ mach-tables tb ∷ mach-progress (record { waiting = tally .waiting; weighed = tally .weighed; merges = 0; size = before; taken = 0 }) ∷ []) (λ w. mean 𝓤 H A (After-join-all-call 𝓤 H A W mem run C fm known-join-all κ θ γ β ι ν (x-tally .0) κ₂ θ₂ γ₂ β₂ ι₂ ν₂ w2 tb (record { waiting = tally .waiting; weighed = tally .weighed; merges = 0; size = before; taken = 0 }) w))))) (join-all-call 𝓤 H A W mem run C fm known-join-all κ θ γ β ι ν (x-tally .0) κ₂ θ₂ γ₂ β₂ ι₂ ν₂ w2 tb (record { waiting = tally .waiting; weighed = tally .weighed; merges = 0; size = before; taken = 0 }) (e-tally .0 .0) (e-w2 .0) sized sized₂ g-tb (LL.owes Z.the-type Z′.the-laws (record { waiting = tally .waiting; weighed = tally .weighed; merges = 0; size = before; taken = 0 }) ((refl, (LL.owed Y.the-type Y′.the-laws tally _ (at-Y tally r-tally g-tally) .0 .1)), ((refl, (LL.owed Y.the-type Y′.the-laws tally _ (at-Y tally r-tally g-tally) .1 .0 .1)), ((refl, (lit< tt)), ((refl, (g-before .1)), ((refl, (lit< tt)), tt)))))) ((record { groups = _; standing = optimize-begun ready (e-w1 .1) (e-before .1) (e-w2 .1) (e-tally .1) }, omega (arith, e-tally .0 .0)))) $ await ! tt $
+          calls ! fm (After-join-all-call 𝓤 H A W mem run C fm known-join-all κ θ γ β ι ν (x-tally .0) κ₂ θ₂ γ₂ β₂ ι₂ ν₂ w2 tb (record { waiting = tally .waiting; weighed = tally .weighed; merges = 0; size = before; taken = 0 })) (and-then ! (load ! (from ! (stop !)) (look ! 11 refl)) (and-then ! (load ! (from ! (stop !)) (look ! 7 refl)) (and-then ! (load ! (from ! (stop !)) (look ! 45 refl)) (and-then ! (load ! (from ! (stop !)) (look ! 39 refl)) (no-more !))))) (λ r-end. await ! tt $ pick ! (λ end. pick ! (λ x-end. learn ! (λ e-end. split ! $ move ! (1 ∷ []) $ facts ! Z.the-row (Is Z.the-row) (shows 𝓤 H A Z.the-row) end (r-end ∷ []) (λ g-end.
           land ! (from ! (stop !)) (init ! 37 refl (LL.lawful Z.the-type Z′.the-laws 𝓤 H A W .typed end _ g-end .0)) $
           rewrite ! 37 (λ (u : Val). ‵ (fat fullShare (Z′.mir) l₇ 0 u)) (spelt-Z end r-end g-end) refl $
           split ! $
