@@ -16,15 +16,10 @@ use Rattle.shapes.specs.Shape.{Shape, rowCost, columns, join}
 use Rattle.shapes.specs.Lent.{Measured}
 use Rattle.shapes.proofs.ShapeLaws.{join-at}
 use Rattle.planes.specs.Plane.{IsCost, plane, word, wide}
-use Rattle.planes.specs.Lent.{Holds, PlanesAt, orOnes, PairOnes, LastOnes, MeasuresJoin, JoinsPlanes}
+use Rattle.planes.specs.Lent.{Holds, PlanesAt, orOnes, FourOnes, PairOnes, LastOnes, Counting, CountedTo, MeasuresJoin, JoinsPlanes}
 use Rattle.planes.proofs.PlaneLaws.{cost-max, plane-room, plane-join, plane-ones, wide-columns, wide-row, word-or, ones-words, join-room}
 
 -- ---- counting the bits of two numbers together
-
-pub record Counting (w : List ℕ) (p q n count i : ℕ) : Type 0 where
-  pub within : i ≤ n
-  pub most : count ≤ 32 * i
-  pub is : count ≡ sum (orOnes w p q) i
 
 pub count-start : (w : List ℕ) (p q n : ℕ) → Counting w p q n 0 0
 count-start w p q n = record { within = omega arith; most = omega arith; is = unfold sum in refl }
@@ -48,6 +43,31 @@ pub count-done : (w : List ℕ) (p q n count i : ℕ) → Counting w p q n count
 count-done w p q n count i c h =
     let e : i ≡ n = omega (arith, c .within) in
     c .is ∙ ap (sum (orOnes w p q)) e
+
+-- four words, each counted alone
+pub four-done : (w : List ℕ) (p q i : ℕ) → ((k : ℕ) → getD w k 0 < 4294967296)
+    → FourOnes w p q i (ones (bitOr (getD w (p + i) 0) (getD w (q + i) 0)) + ones (bitOr (getD w (p + i + 1) 0) (getD w (q + i + 1) 0))
+    + ones (bitOr (getD w (p + i + 2) 0) (getD w (q + i + 2) 0)) + ones (bitOr (getD w (p + i + 3) 0) (getD w (q + i + 3) 0)))
+unfolding orOnes
+four-done w p q i h =
+    let behind : (k : ℕ) → ones (bitOr (getD w (p + i + k) 0) (getD w (q + i + k) 0)) ≡ orOnes w p q (i + k) =
+    λ k. ap₂ (λ (u v : ℕ). ones (bitOr (getD w u 0) (getD w v 0))) {x = p + i + k} {y = p + (i + k)} (omega arith) (omega arith) in
+    record {
+      most = omega (arith, or-few w (p + i) (q + i) h, or-few w (p + i + 1) (q + i + 1) h, or-few w (p + i + 2) (q + i + 2) h, or-few w (p + i + 3) (q + i + 3) h);
+      is = omega (arith, behind 1, behind 2, behind 3);
+    }
+
+sum-up : (f : ℕ → ℕ) (i k : ℕ) → k ≡ i + 1 → sum f k ≡ sum f i + f i
+sum-up f i k e = ap (sum f) e ∙ sum-next f i
+
+pub count-four : (w : List ℕ) (p q n count i r : ℕ) → Counting w p q n count i → FourOnes w p q i r → i + 3 < n → Counting w p q n (count + r) (i + 4)
+count-four w p q n count i r c o h =
+    let f = orOnes w p q in
+    record {
+      within = omega arith;
+      most = omega (arith, c .most, o .most);
+      is = omega (arith, c .is, o .is, sum-next f i, sum-up f (i + 1) (i + 2) (omega arith), sum-up f (i + 2) (i + 3) (omega arith), sum-up f (i + 3) (i + 4) (omega arith));
+    }
 
 -- two words as one number: the ones of each are counted apart
 pub pair-done : (w : List ℕ) (p q i : ℕ) → ((k : ℕ) → getD w k 0 < 4294967296)
@@ -90,6 +110,30 @@ last-none w p q i n l m =
 pub count-last : (w : List ℕ) (p q n count i r : ℕ) → Counting w p q n count i → LastOnes w p q i n r → count + r ≡ sum (orOnes w p q) n
 count-last w p q n count i r c o = omega (arith, c .is, o .is)
 
+-- ---- the three planes side by side
+
+module _ (w : List ℕ) (a b n : ℕ) where
+  pub counted-start : CountedTo w a b n 0 0 0 0
+  counted-start = record { ones = count-start w a b n; twos = count-start w (a + n) (b + n) n; fours = count-start w (a + n + n) (b + n + n) n }
+
+  pub counted-four : (one two four i x y z : ℕ) → CountedTo w a b n one two four i
+      → FourOnes w a b i x → FourOnes w (a + n) (b + n) i y → FourOnes w (a + n + n) (b + n + n) i z → i + 3 < n
+      → CountedTo w a b n (one + x) (two + y) (four + z) (i + 4)
+  counted-four one two four i x y z c o p q h = record {
+    ones = count-four w a b n one i x (c .ones) o h;
+    twos = count-four w (a + n) (b + n) n two i y (c .twos) p h;
+    fours = count-four w (a + n + n) (b + n + n) n four i z (c .fours) q h;
+  }
+
+  pub counted-pair : (one two four i x y z : ℕ) → CountedTo w a b n one two four i
+      → PairOnes w a b i x → PairOnes w (a + n) (b + n) i y → PairOnes w (a + n + n) (b + n + n) i z → i + 1 < n
+      → CountedTo w a b n (one + x) (two + y) (four + z) (i + 2)
+  counted-pair one two four i x y z c o p q h = record {
+    ones = count-pair w a b n one i x (c .ones) o h;
+    twos = count-pair w (a + n) (b + n) n two i y (c .twos) p h;
+    fours = count-pair w (a + n + n) (b + n + n) n four i z (c .fours) q h;
+  }
+
 -- ---- what a join costs
 
 module _ (w : List ℕ) (p q n x y : ℕ) (a : Holds w p n x) (b : Holds w q n y) where
@@ -124,6 +168,16 @@ measured w a b n one two four p q r = record {
         columns-is = e ∙ wide-columns (join x y);
       };
 }
+
+-- counted to the last word, and that one with it
+pub counted-done : (w : List ℕ) (a b n one two four i x y z : ℕ) → CountedTo w a b n one two four i
+    → LastOnes w a b i n x → LastOnes w (a + n) (b + n) i n y → LastOnes w (a + n + n) (b + n + n) i n z
+    → MeasuresJoin w a b n (one + x + (two + y) + 2 * (four + z)) (one + x)
+counted-done w a b n one two four i x y z c o p q =
+    measured w a b n (one + x) (two + y) (four + z)
+    (count-last w a b n one i x (c .ones) o)
+    (count-last w (a + n) (b + n) n two i y (c .twos) p)
+    (count-last w (a + n + n) (b + n + n) n four i z (c .fours) q)
 
 -- ---- a number ored into the n words from p on
 

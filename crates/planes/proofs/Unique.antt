@@ -7,6 +7,7 @@ use Rattle.laws.proofs.OnceLaws.{only-both, only-same, only-none}
 use Rattle.planes.specs.Lent.{MeasuresJoin, JoinsPlanes, Filled}
 use Rattle.planes.proofs.Meaning.{planes-once}
 
+-- `measure_join` and `measure_words` promise the same, so their answers are equal too
 pub measures-once : {w : List ℕ} {a b n r c r′ c′ : ℕ} → MeasuresJoin w a b n r c → MeasuresJoin w a b n r′ c′ → (r ≡ r′) × (c ≡ c′)
 measures-once p q = (p .row-bits ∙ sym (q .row-bits), p .columns-bits ∙ sym (q .columns-bits))
 

@@ -27,6 +27,11 @@ pub record PlanesAt (w : List ℕ) (a n : ℕ) (s : Shape) : Type 0 where
 unfoldable pub orOnes : List ℕ → ℕ → ℕ → ℕ → ℕ
 orOnes w p q k = ones (bitOr (getD w (p + k) 0) (getD w (q + k) 0))
 
+-- r are the bits of the four words from i on of two numbers together
+pub record FourOnes (w : List ℕ) (p q i r : ℕ) : Type 0 where
+  pub most : r ≤ 128
+  pub is : r ≡ orOnes w p q i + orOnes w p q (i + 1) + orOnes w p q (i + 2) + orOnes w p q (i + 3)
+
 -- r are the bits of words i and i + 1 of two numbers together
 pub record PairOnes (w : List ℕ) (p q i r : ℕ) : Type 0 where
   pub most : r ≤ 64
@@ -36,6 +41,18 @@ pub record PairOnes (w : List ℕ) (p q i r : ℕ) : Type 0 where
 pub record LastOnes (w : List ℕ) (p q i n r : ℕ) : Type 0 where
   pub most : r ≤ 32
   pub is : sum (orOnes w p q) i + r ≡ sum (orOnes w p q) n
+
+-- count are the bits of the first i of n words of two numbers together
+pub record Counting (w : List ℕ) (p q n count i : ℕ) : Type 0 where
+  pub within : i ≤ n
+  pub most : count ≤ 32 * i
+  pub is : count ≡ sum (orOnes w p q) i
+
+-- the numbers are those of the first i words of each plane of the shapes at a and b together
+pub record CountedTo (w : List ℕ) (a b n one two four i : ℕ) : Type 0 where
+  pub ones : Counting w a b n one i
+  pub twos : Counting w (a + n) (b + n) n two i
+  pub fours : Counting w (a + n + n) (b + n + n) n four i
 
 -- the numbers are those of the bits together, which are the two shapes joined
 pub record MeasuresJoin (w : List ℕ) (a b n row cols : ℕ) : Type 0 where

@@ -6,3 +6,4 @@ mod putting;
 pub use filling::fill;
 pub use joining::join_into;
 pub use joining::measure_join;
+pub use joining::measure_words;

@@ -3,6 +3,7 @@ use crate::tables::MergeTables;
 use planes::fill;
 use planes::join_into;
 use planes::measure_join;
+use planes::measure_words;
 use shapes::Encoding;
 use shapes::RowShape;
 ghost use mathlib.Core.Path.{_≡_};
@@ -64,7 +65,8 @@ pub fn weigh(work: &[u32], t: MergeTables, a: usize, b: usize) -> u32
     scan(work, t, a, b)
 }
 
-// Notes what the shape in slot s costs, which its planes say.
+// Notes what the shape in slot s costs, which its planes say. They are counted word by word whatever their length: a slot is noted seldom, and what
+// weighs pairs, `measure_join`, is put in line where it has one caller, `scan`.
 fn note_costs(work: &mut [u32], t: MergeTables, s: usize)
     requires { ⌜ Laid t (length (now work)) ⌝ }
     requires { ⌜ s < t .groups ⌝ }
@@ -72,7 +74,7 @@ fn note_costs(work: &mut [u32], t: MergeTables, s: usize)
 {
     let words = t.plane_long();
     let x = t.plane(s);
-    let shape = measure_join(work, x, x, words);
+    let shape = measure_words(work, x, x, words);
     let rows = t.costs;
     let columns = t.columns;
     work[rows + s] = shape.row_cost;

@@ -1,5 +1,6 @@
 use Prim.Native.Nat.{_+_, _-_}
-use Rattle.planes.proofs.JoinLaws.{Counting, count-start, count-next, count-done, or-few, measured}
+use Rattle.planes.specs.Lent.{Counting}
+use Rattle.planes.proofs.JoinLaws.{count-start, count-next, count-done, or-few, measured}
 use borrow.Author.Needs.{needs}
 use native.Mathlib.Omega.{arith}
 use Rattle.planes.proofs.joining.measure_words.Statement.{statement}

@@ -7,7 +7,7 @@ use Rattle.slots.proofs.groups.note_costs.Statement.{statement}
 use Rattle.slots.proofs.groups.note_costs.Tie as tie
 use Rattle.slots.proofs.groups.note_costs.Reads as reads
 use Rattle.slots.proofs.groups.note_costs.Lts as lts
-use Rattle.planes.proofs.measure_join.Reads as measure-join-reads
+use Rattle.planes.proofs.measure_words.Reads as measure-words-reads
 use Rattle.slots.proofs.tables.MergeTables.plane.Reads as plane-reads
 use Rattle.slots.proofs.tables.MergeTables.plane_long.Reads as plane-long-reads
 
@@ -17,8 +17,8 @@ plane-long-requires c κs = c .before .pre .0 .regions-few
 plane-requires : tie.Need-plane-requires
 plane-requires c κs = let h = c .before .before .pre in (h .1, (h .0 .regions-few, omega (arith, h .0 .planes-end)))
 
-measure-join-requires : tie.Need-measure-join-requires
-measure-join-requires c κs =
+measure-words-requires : tie.Need-measure-words-requires
+measure-words-requires c κs =
     let h = c .before .before .before .before .pre in
     let r = plane-room _ _ _ _ _ (h .0) (h .1) (c .before .plane .ensures) (c .before .before .plane-long .ensures) in
     (plane-few _ _ _ (h .0) (c .before .before .plane-long .ensures), (r, r))
@@ -45,7 +45,7 @@ same-length : tie.Need-same-length
 same-length c = search needs
 
 returns : tie.Need-returns
-returns c = noted-in _ _ _ _ _ _ _ (c .before .before .before .before .before .pre .0) (c .before .before .before .before .before .pre .1) (c .before .before .plane .ensures) (c .before .before .before .plane-long .ensures) (c .measure-join .ensures)
+returns c = noted-in _ _ _ _ _ _ _ (c .before .before .before .before .before .pre .0) (c .before .before .before .before .before .pre .1) (c .before .before .plane .ensures) (c .before .before .before .plane-long .ensures) (c .measure-words .ensures)
 
 pub note-costs-spec : {M : Type 1} → statement M
 note-costs-spec =
@@ -53,7 +53,7 @@ note-costs-spec =
     (tie.spec
     plane-long-requires
     plane-requires
-    measure-join-requires
+    measure-words-requires
     add-work
     mul-work
     slice-write-work
