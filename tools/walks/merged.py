@@ -1,5 +1,5 @@
 """The structs and functions of merging that walks of several crates name."""
-from kinds import BOOL, Fn, PAIR, WORD, struct
+from kinds import BOOL, Fn, PAIR, UNIT, WORD, struct
 
 TABLES = struct("slots", "tables.MergeTables", "L", "mach-tables")
 TALLY = struct("waits", "Tally", "Y", "mach-tally")
@@ -9,8 +9,10 @@ MERGED = struct("merging", "optimizing.Merged", "D", "mach-merged")
 LENT = [("pairs", "&mut Pair"), ("work", "& u32"), ("tb", TABLES)]
 ENOUGH = ("enough", "room (tb .groups) ≤ length pairs")
 
-push = Fn("push", [("pairs", "&mut Pair"), ("count", WORD), ("p", PAIR)], WORD, "(r ≡ count + 1) × Pushed pairs count p pairs′",
-          [("within", "count < length pairs"), ("ordered", "HeapOrdered pairs count")], crate="pairs")
+append = Fn("append", [("pairs", "&mut Pair"), ("count", WORD), ("p", PAIR)], WORD, "(r ≡ count + 1) × (pairs′ ≡ set pairs count p)",
+            [("within", "count < length pairs")], crate="pairs")
+raise_all = Fn("raise_all", [("pairs", "&mut Pair"), ("start", WORD), ("to", WORD)], UNIT, "Heaped pairs to pairs′",
+               [("fits", "to ≤ length pairs"), ("within", "start ≤ to"), ("ordered", "HeapOrdered pairs start")], crate="pairs")
 take = Fn("take", [("pairs", "&mut Pair"), ("count", WORD)], PAIR, "Popped pairs count r pairs′",
           [("fits", "count ≤ length pairs"), ("some-in", "0 < count"), ("ordered", "HeapOrdered pairs count")], crate="pairs")
 marked = Fn("marked", [("work", "& u32"), ("place", WORD), ("p", PAIR)], BOOL, "r ≡ bothMarked work place p",

@@ -13,8 +13,9 @@ use Rattle.pairs.specs.declared.Pair.{Pair}
 use Rattle.laws.specs.Bag.{sum}
 use Rattle.laws.specs.Pick.{pick}
 use Rattle.laws.proofs.Cases.{same-or-not}
-use Rattle.pairs.specs.LentQueue.{pairAt, AtLeast, Weight, weightOf, Has, Pushed, Popped, bothMarked, ifMarked, KeptMarked}
+use Rattle.pairs.specs.LentQueue.{pairAt, AtLeast, Weight, weightOf, Has, Heaped, Pushed, Popped, bothMarked, ifMarked, KeptMarked}
 use Rattle.pairs.proofs.Order.{carry}
+use Rattle.pairs.proofs.Sets.{Put}
 use Rattle.pairs.proofs.Marks.{both-marked}
 
 -- ---- the weight that counts one pair
@@ -69,6 +70,35 @@ unfolding weightOf
 counted-has w n p h =
     let k = sum-where (λ k. is p (pairAt w k)) n h in
     record { place = k .0; below = k .1; here = sym (is-same p (pairAt w (k .0)) (k .2)) }
+
+-- ---- a pair put behind those that are there
+
+module _ {w w′ : List Pair} {n : ℕ} {p : Pair} (s : Put w n p w′) where
+  -- it is there
+  pub behind-has : Has w′ (n + 1) p
+  behind-has = record { place = n; below = omega arith; here = s .here }
+
+  -- what was there is there
+  pub behind-keeps : {q : Pair} → Has w n q → Has w′ (n + 1) q
+  behind-keeps h = record { place = h .place; below = omega (arith, h .below); here = s .other (h .place) (omega (arith, h .below)) ∙ h .here }
+
+  -- and nothing else is
+  pub behind-only : {q : Pair} → Has w′ (n + 1) q → (q ≡ p) ⊎ Has w n q
+  behind-only h = ⊎-elim
+      (λ (e : h .place ≡ n). inl (sym (h .here) ∙ ap (pairAt w′) e ∙ s .here))
+      (λ (d : h .place ≢ n). inr (record { place = h .place; below = omega (arith, h .below); here = sym (s .other (h .place) d) ∙ h .here }))
+      (same-or-not (h .place) n)
+
+-- ---- the same pairs in heap order
+
+module _ {w w′ : List Pair} {n : ℕ} (s : Heaped w n w′) where
+  -- what was there is there
+  pub heaped-has : {q : Pair} → Has w n q → Has w′ n q
+  heaped-has {q} h = counted-has w′ n q (let c = s .content (is q) in let some = has-counted h in omega arith)
+
+  -- and nothing else is
+  pub heaped-only : {q : Pair} → Has w′ n q → Has w n q
+  heaped-only {q} h = counted-has w n q (let c = s .content (is q) in let some = has-counted h in omega arith)
 
 -- ---- what a push and a take do to what is there
 

@@ -3,10 +3,10 @@ use mathlib.Core.Path.{_≡_, refl, sym, ap, ap₂, subst, _∙_}
 use mathlib.Core.Bool.{Bool, not}
 use mathlib.Core.Logic.{⊎-elim}
 use mathlib.Core.List.{List}
-use Prim.Native.Nat.{ℕ, zero, suc, _+_, _-_, _*_, _≤_, _<_}
+use Prim.Native.Nat.{ℕ, zero, suc, _+_, _-_, _*_, _/_, _≤_, _<_}
 use native.Mathlib.Omega.{arith}
 use lib.Dec.{T, eqb}
-use lib.ListN.{length}
+use lib.ListN.{length, set}
 use borrow.Author.Tests.{eq-eqb, ne-eqb}
 use Rattle.laws.specs.Bag.{sum}
 use Rattle.laws.specs.LentRange.{Only, Outside}
@@ -15,11 +15,13 @@ use Rattle.laws.proofs.BagLaws.{sum-next, sum-zero}
 use Rattle.laws.proofs.Products.{product}
 use Rattle.shapes.specs.Group.{gain}
 use Rattle.pairs.specs.declared.Pair.{Pair}
-use Rattle.pairs.specs.LentQueue.{pairAt, Has, SameFrom, Pushed, Numbered, KeptMarked}
-use Rattle.pairs.proofs.Content.{push-has, push-keeps, push-only, kept-has, kept-only}
+use Rattle.pairs.specs.LentQueue.{pairAt, HeapOrdered, Has, SameFrom, Heaped, Numbered, KeptMarked}
+use Rattle.pairs.proofs.Order.{carry}
+use Rattle.pairs.proofs.Sets.{Put, is-put}
+use Rattle.pairs.proofs.Content.{behind-has, behind-keeps, behind-only, heaped-has, heaped-only, kept-has, kept-only}
 use Rattle.slots.specs.declared.tables.MergeTables.{MergeTables}
 use Rattle.slots.specs.Lent.{Laid, groupIn}
-use Rattle.waits.specs.LentWaits.{room, placeOf, groupOf, alive, pairOf, Reached, Fair, Waits, Considered, Asked, Offered, OfferedAll, Opening, Opened}
+use Rattle.waits.specs.LentWaits.{room, placeOf, groupOf, alive, pairOf, Reached, Fair, Waits, Lists, Considered, Asked, Offered, OfferedAll, Opening, Opened}
 use Rattle.slots.proofs.SlotLaws.{shape-kept, group-is}
 
 -- ---- how many pairs can wait
@@ -91,23 +93,24 @@ pub considered : (t : MergeTables) (w : List ℕ) (c k g : ℕ) → (placeOf t w
 unfolding groupOf
 considered t w c k g d e = record { weighed = sym (alive-one t w c d); first-is = refl; second-is = refl; dead = λ z. absurd (d z); gain-is = λ _. e }
 
-module _ {t : MergeTables} {w : List ℕ} {ps : List Pair} {k c n v : ℕ} {p : Pair} (h : Asked t k c n w ps) (l : c < k) (q : Considered t c k v p w) where
+module _ {t : MergeTables} {w : List ℕ} {ps : List Pair} {k c n v : ℕ} {p : Pair} (h : Lists t k c n w ps) (l : c < k) (q : Considered t c k v p w) where
   -- they gain nothing, or c is dead
   pub offer-none : (m : ℕ) → p .gain ≡ 0 → Offered t k c n m n (m + v) w ps ps
   offer-none m z = record {
-    waits = record {
-      ordered = h .waits .ordered;
+    lists = record {
       all = λ a b r x y u.
-          h .waits .all a b
+          h .all a b
           (reached-less k c a b r
           (λ i j.
           let o : 0 < placeOf t w c = omega (arith, ap (placeOf t w) j) in
           omega (arith, q .gain-is o, ap₂ (λ (i j : ℕ). gain (groupOf t w i) (groupOf t w j)) j i)))
           x y u;
-      fair = λ f u. fair-more t w k c f (h .waits .fair f u);
+      fair = λ f u. fair-more t w k c f (h .fair f u);
     };
     weighed = ap (λ (i : ℕ). m + i) (q .weighed);
     few = omega arith;
+    more = omega arith;
+    front = λ i _. refl;
     rest = λ i _. refl;
   }
 
@@ -129,48 +132,61 @@ module _ {t : MergeTables} {w : List ℕ} {ps : List Pair} {k c n v : ℕ} {p : 
       is = λ x y. sym pair-same ∙ ap₂ (pairOf t w) (sym (q .first-is)) (sym (q .second-is));
     }
 
-    pub offer-push : (m : ℕ) (ps′ : List Pair) (n′ : ℕ) → n + alive t w c ≤ room (t .groups) → n′ ≡ n + 1 → Pushed ps n p ps′ → Offered t k c n m n′ (m + v) w ps ps′
-    offer-push m ps′ n′ fits e s =
+    lists-more : {ps′ : List Pair} → Put ps n p ps′ → Lists t k (c + 1) (n + 1) w ps′
+    lists-more {ps′} s = record {
+      all = λ a b r x y z. ⊎-elim
+          (λ (i : b ≡ k). ⊎-elim
+          (λ (j : a ≡ c). subst (Has ps′ (n + 1)) (sym (ap₂ (pairOf t w) j i ∙ pair-same)) (behind-has s))
+          (λ j. behind-keeps s (h .all a b (reached-less k c a b r (λ _ f. j f)) x y z))
+          (same-or-not a c))
+          (λ i. behind-keeps s (h .all a b (reached-less k c a b r (λ f _. i f)) x y z))
+          (same-or-not b k);
+      fair = λ f z. ⊎-elim
+          (λ (e : f ≡ p). subst (Fair t k (c + 1) w) (sym e) own)
+          (λ e. fair-more t w k c f (h .fair f e))
+          (behind-only s z);
+    }
+
+    pub offer-append : (m : ℕ) (ps′ : List Pair) (n′ : ℕ) → n + alive t w c ≤ room (t .groups) → room (t .groups) ≤ length ps → n′ ≡ n + 1 → ps′ ≡ set ps n p → Offered t k c n m n′ (m + v) w ps ps′
+    offer-append m ps′ n′ fits enough e made =
         let u = offer-one in
+        let s = is-put ps ps′ n p (omega arith) made in
         record {
-          waits = rw e (record {
-            ordered = s .ordered;
-            all = λ a b r x y z. ⊎-elim
-                (λ (i : b ≡ k). ⊎-elim
-                (λ (j : a ≡ c). subst (Has ps′ (n + 1)) (sym (ap₂ (pairOf t w) j i ∙ pair-same)) (push-has s))
-                (λ j. push-keeps s (h .waits .all a b (reached-less k c a b r (λ _ f. j f)) x y z))
-                (same-or-not a c))
-                (λ i. push-keeps s (h .waits .all a b (reached-less k c a b r (λ f _. i f)) x y z))
-                (same-or-not b k);
-            fair = λ f z. ⊎-elim
-                (λ (e : f ≡ p). subst (Fair t k (c + 1) w) (sym e) own)
-                (λ e. fair-more t w k c f (h .waits .fair f e))
-                (push-only s z);
-          });
+          lists = rw e (lists-more s);
           weighed = ap (λ (i : ℕ). m + i) (q .weighed);
           few = omega arith;
-          rest = λ i j. s .rest i (omega arith);
+          more = omega arith;
+          front = λ i j. s .other i (omega arith);
+          rest = λ i j. s .other i (omega arith);
         }
 
 -- ---- weighing k with each number below it
 
+-- what waits, without its order
+lists-of : {t : MergeTables} {k c n : ℕ} {w : List ℕ} {ps : List Pair} → Waits t k c n w ps → Lists t k c n w ps
+lists-of h = record { all = h .all; fair = h .fair }
+
+-- and in heap order
+waits-of : {t : MergeTables} {k c n : ℕ} {w : List ℕ} {ps ps′ : List Pair} → Lists t k c n w ps → Heaped ps n ps′ → Waits t k c n w ps′
+waits-of h s = record { ordered = s .ordered; all = λ a b r x y z. heaped-has s (h .all a b r x y z); fair = λ q u. h .fair q (heaped-only s u) }
+
+-- the first n pairs wait in heap order as they did; those behind them, up to n′, are new
 pub record Offering (t : MergeTables) (k n m : ℕ) (w : List ℕ) (ps₀ ps : List Pair) (n′ m′ c : ℕ) : Type 0 where
   pub within : c ≤ k
-  pub waits : Waits t k c n′ w ps
+  pub lists : Lists t k c n′ w ps
   pub weighed : m′ ≡ m + sum (alive t w) c
   pub few : n′ ≤ n + sum (alive t w) c
+  pub more : n ≤ n′
+  pub front : (i : ℕ) → i < n → pairAt ps i ≡ pairAt ps₀ i
   pub rest : SameFrom ps₀ (room (t .groups)) ps
 
 module _ {t : MergeTables} {k n : ℕ} {w : List ℕ} {ps₀ : List Pair} (h : Asked t k 0 n w ps₀) where
   pub offering-start : (m : ℕ) → Offering t k n m w ps₀ ps₀ n m 0
   offering-start m =
       let z = sum-zero (alive t w) 0 (λ k l. absurd (omega arith)) in
-      record { within = omega arith; waits = h .waits; weighed = omega arith; few = omega arith; rest = λ i _. refl }
+      record { within = omega arith; lists = lists-of (h .waits); weighed = omega arith; few = omega arith; more = omega arith; front = λ i _. refl; rest = λ i _. refl }
 
   module _ {m n′ m′ c : ℕ} {ps : List Pair} (o : Offering t k n m w ps₀ ps n′ m′ c) where
-    pub offering-asks : Asked t k c n′ w ps
-    offering-asks = record { weighable = h .weighable; waits = o .waits }
-
     below : c < k → sum (alive t w) c + alive t w c ≤ sum (alive t w) k
     below l = omega (arith, sum-next (alive t w) c, sum-mono (alive t w) (c + 1) k (omega arith))
 
@@ -182,16 +198,30 @@ module _ {t : MergeTables} {k n : ℕ} {w : List ℕ} {ps₀ : List Pair} (h : A
         let s = sum-next (alive t w) c in
         record {
           within = omega arith;
-          waits = p .waits;
+          lists = p .lists;
           weighed = omega (arith, p .weighed, o .weighed);
           few = omega (arith, p .few, o .few);
+          more = omega (arith, p .more, o .more);
+          front = λ i j. p .front i (omega (arith, o .more)) ∙ o .front i j;
           rest = λ i j. p .rest i j ∙ o .rest i j;
         }
 
-    pub offering-done : k ≤ c → OfferedAll t k n m n′ m′ w ps₀ ps
-    offering-done l =
+    -- what raising them asks
+    pub offering-few : (r : ℕ) → n + sum (alive t w) k ≤ r → n′ ≤ r
+    offering-few r x = omega (arith, o .few, sum-mono (alive t w) c k (o .within))
+
+    pub offering-ordered : HeapOrdered ps n
+    offering-ordered i a b = carry (o .front ((i - 1) / 2) (omega arith)) (o .front i b) (h .waits .ordered i a b)
+
+    pub offering-done : {ps′ : List Pair} → k ≤ c → n + sum (alive t w) k ≤ room (t .groups) → Heaped ps n′ ps′ → OfferedAll t k n m n′ m′ w ps₀ ps′
+    offering-done l fits s =
         let e : c ≡ k = omega (arith, o .within) in
-        record { waits = rw e at (o .waits); weighed = rw e at (o .weighed); few = rw e at (o .few); rest = o .rest }
+        record {
+          waits = waits-of (rw e at (o .lists)) s;
+          weighed = rw e at (o .weighed);
+          few = rw e at (o .few);
+          rest = λ i j. s .rest i (omega (arith, offering-few (room (t .groups)) fits)) ∙ o .rest i j;
+        }
 
 -- all below k are weighed with each other
 pub waits-next : (t : MergeTables) (w : List ℕ) (ps : List Pair) (k n : ℕ) → Waits t k k n w ps → Waits t (k + 1) 0 n w ps

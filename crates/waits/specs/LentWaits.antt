@@ -8,7 +8,7 @@ use Rattle.laws.specs.Pick.{pick}
 use Rattle.laws.specs.Bag.{sum}
 use Rattle.shapes.specs.Group.{Group, gain}
 use Rattle.pairs.specs.declared.Pair.{Pair}
-use Rattle.pairs.specs.LentQueue.{HeapOrdered, Has, SameFrom}
+use Rattle.pairs.specs.LentQueue.{pairAt, HeapOrdered, Has, SameFrom}
 use Rattle.slots.specs.declared.tables.MergeTables.{MergeTables}
 use Rattle.slots.specs.Lent.{groupIn, Sound}
 
@@ -53,6 +53,11 @@ pub record Waits (t : MergeTables) (k c n : ℕ) (w : List ℕ) (ps : List Pair)
   pub all : (a b : ℕ) → Reached k c a b → 0 < placeOf t w a → 0 < placeOf t w b → 0 < gain (groupOf t w a) (groupOf t w b) → Has ps n (pairOf t w a b)
   pub fair : (q : Pair) → Has ps n q → Fair t k c w q
 
+-- the same of pairs in no order
+pub record Lists (t : MergeTables) (k c n : ℕ) (w : List ℕ) (ps : List Pair) : Type 0 where
+  pub all : (a b : ℕ) → Reached k c a b → 0 < placeOf t w a → 0 < placeOf t w b → 0 < gain (groupOf t w a) (groupOf t w b) → Has ps n (pairOf t w a b)
+  pub fair : (q : Pair) → Has ps n q → Fair t k c w q
+
 -- number k can be weighed with those below it
 pub record Weighable (t : MergeTables) (k : ℕ) (w : List ℕ) : Type 0 where
   pub sound : Sound t w
@@ -68,15 +73,18 @@ pub record Considered (t : MergeTables) (c k v : ℕ) (p : Pair) (w : List ℕ) 
   pub dead : placeOf t w c ≡ 0 → p .gain ≡ 0
   pub gain-is : 0 < placeOf t w c → p .gain ≡ gain (groupOf t w c) (groupOf t w k)
 
--- what weighing number k with number c asks and does: n pairs wait and m were weighed before it, n′ and m′ after it
+-- what weighing number k with those from c on asks
 pub record Asked (t : MergeTables) (k c n : ℕ) (w : List ℕ) (ps : List Pair) : Type 0 where
   pub weighable : Weighable t k w
   pub waits : Waits t k c n w ps
 
+-- what weighing it with number c does: n pairs wait and m were weighed before it, n′ and m′ after it; a new pair stands behind the n
 pub record Offered (t : MergeTables) (k c n m n′ m′ : ℕ) (w : List ℕ) (ps ps′ : List Pair) : Type 0 where
-  pub waits : Waits t k (c + 1) n′ w ps′
+  pub lists : Lists t k (c + 1) n′ w ps′
   pub weighed : m′ ≡ m + alive t w c
   pub few : n′ ≤ n + alive t w c
+  pub more : n ≤ n′
+  pub front : (i : ℕ) → i < n → pairAt ps′ i ≡ pairAt ps i
   pub rest : SameFrom ps (room (t .groups)) ps′
 
 -- and with each number below it

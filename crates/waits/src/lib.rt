@@ -1,12 +1,13 @@
 // The pairs that wait: each pair of living groups that was weighed and gains, in a lent slice of records. What weighs is covered by the prover; what
 // holds the slice takes no decision of its own, and is walked (docs/PROVING.md).
 use pairs::Pair;
-use pairs::push;
+use pairs::append;
+use pairs::raise_all;
 use slots::MergeTables;
 ghost use Prim.Native.Nat.{_+_, _≤_, _<_};
 ghost use lib.ListN.{length};
 ghost use Rattle.laws.specs.Bag.{sum};
-ghost use Rattle.waits.specs.LentWaits.{room, alive, Weighable, Considered, Asked, Offered, OfferedAll, Opening, Opened};
+ghost use Rattle.waits.specs.LentWaits.{room, alive, Lists, Weighable, Considered, Asked, Offered, OfferedAll, Opening, Opened};
 
 // How many pairs wait, and how many were weighed.
 pub struct Tally {
@@ -52,9 +53,10 @@ fn consider(work: &[u32], t: MergeTables, c: usize, k: usize) -> Found
     }
 }
 
-// Weighs numbers c and k, if c lives; where they gain, they wait.
+// Weighs numbers c and k, if c lives; where they gain, they wait, behind the others and in no order yet.
 fn offer(pairs: &mut [Pair], work: &[u32], t: MergeTables, c: usize, k: usize, at: Tally) -> Tally
-    requires { ⌜ Asked t k c (at .waiting) (now work) (now pairs) ⌝ }
+    requires { ⌜ Weighable t k (now work) ⌝ }
+    requires { ⌜ Lists t k c (at .waiting) (now work) (now pairs) ⌝ }
     requires { ⌜ c < k ⌝ }
     requires { ⌜ at .waiting + alive t (now work) c ≤ room (t .groups) ⌝ }
     requires { ⌜ at .weighed + alive t (now work) c ≤ room (t .groups) ⌝ }
@@ -70,11 +72,12 @@ fn offer(pairs: &mut [Pair], work: &[u32], t: MergeTables, c: usize, k: usize, a
             weighed,
         };
     }
-    let waiting = push(pairs, at.waiting, pair);
+    let waiting = append(pairs, at.waiting, pair);
     Tally { waiting, weighed }
 }
 
-// Weighs number k with each living number below it.
+// Weighs number k with each living number below it. What gains is brought into heap order when all are weighed: where a pair goes is not foretold, and
+// each wrong guess would wait for the weighing before it.
 pub fn offer_all(pairs: &mut [Pair], work: &[u32], t: MergeTables, k: usize, at: Tally) -> Tally
     requires { ⌜ Asked t k 0 (at .waiting) (now work) (now pairs) ⌝ }
     requires { ⌜ at .waiting + sum (alive t (now work)) k ≤ room (t .groups) ⌝ }
@@ -88,6 +91,7 @@ pub fn offer_all(pairs: &mut [Pair], work: &[u32], t: MergeTables, k: usize, at:
         now = offer(pairs, work, t, c, k, now);
         c += 1;
     }
+    raise_all(pairs, at.waiting, now.waiting);
     now
 }
 

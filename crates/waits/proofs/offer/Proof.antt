@@ -36,8 +36,8 @@ use denote.Triple.Statement.{Triple}
 use denote.Triple.Table.{entered, cited}
 use denote.Triple.Walked.{needs, Stays, stay-slice, stay-none-slice, stay-none, walkOf, goes-slice, goes-none-slice, goes-none, Walks, ends-at, walked, walk-meets}
 use denote.Exit.{yes}
-use Rattle.waits.specs.LentWaits.{room, alive, Asked, Offered}
-use Rattle.waits.proofs.WaitLaws.{not-zero, offer-none, offer-one, offer-push}
+use Rattle.waits.specs.LentWaits.{room, alive, Lists, Weighable, Offered}
+use Rattle.waits.proofs.WaitLaws.{not-zero, offer-none, offer-one, offer-append}
 use Rattle.pairs.specs.declared.Pair.{Pair}
 use Rattle.pairs.proofs.Pair as T
 use Rattle.pairs.proofs.Pair.Laws as T′
@@ -52,13 +52,13 @@ use Rattle.waits.proofs.Found as F
 use Rattle.waits.proofs.Found.Laws as F′
 use Rattle.pairs.proofs.Slices.{ref, Has, Sees}
 use Rattle.pairs.proofs.Clauses.{needs-more}
-use Rattle.waits.proofs.Calls.{mach, mach-tables, mach-tally, mach-found, Consider-of, Push-of, consider-seen, push-call, After-consider-seen, After-push-call}
+use Rattle.waits.proofs.Calls.{mach, mach-tables, mach-tally, mach-found, Consider-of, Append-of, append-call, consider-seen, After-append-call, After-consider-seen}
 use Rattle.waits.proofs.consider.Symbol as consider-def
 use Rattle.waits.proofs.consider.Symbol.{name as #waits·consider}
 use Rattle.waits.proofs.consider.Met as consider-thm
-use Rattle.pairs.proofs.push.Symbol as push-def
-use Rattle.pairs.proofs.push.Symbol.{name as #pairs·push}
-use Rattle.pairs.proofs.push.Met as push-thm
+use Rattle.pairs.proofs.append.Symbol as append-def
+use Rattle.pairs.proofs.append.Symbol.{name as #pairs·append}
+use Rattle.pairs.proofs.append.Met as append-thm
 use Rattle.waits.proofs.offer.Key.{name as #waits·offer}
 use Rattle.waits.proofs.offer as offer
 use Rattle.waits.proofs.offer.Statement as stated
@@ -105,7 +105,7 @@ module _ {M : Type 1} (𝓤 : URA M) (H : Heap 𝓤) (A : Atoms 𝓤) (W : Given
       qed W (Slice pairs′ ∷ Slice₂ work ∷ []) ∵ suffices ! _ (ends-at 𝓤 H A offer.ended stayed (offer.clauses 𝓤 H A mem run) W bound (mach-tally r) r (pairs′, (tt, (tt, (tt, (tt, (tt, tt)))))) (long, (tt, (tt, (tt, (tt, (tt, tt))))))) $
       split ! $ move ! (2 ∷ []) $ split ! $ nothing ! $ move ! (2 ∷ 0 ∷ []) $ join ! $ move ! (3 ∷ 0 ∷ []) $ join ! $ owned ! Y.the-row (Is Y.the-row) (LL.makes Y.the-type Y′.the-plain 𝓤 H A) r _ g $ nothing ! $ owned ! Y.the-row (Is Y.the-row) (LL.makes Y.the-type Y′.the-plain 𝓤 H A) at _ g-at $ fjoin ! $ owned ! usize (Is usize) (uint-makes 𝓤 H A W w64) k _ (refl, g-k) $ fjoin ! $ owned ! usize (Is usize) (uint-makes 𝓤 H A W w64) c _ (refl, g-c) $ fjoin ! $ owned ! L.the-row (Is L.the-row) (LL.makes L.the-type L′.the-plain 𝓤 H A) tb _ g-tb $ fjoin ! $ move ! (3 ∷ 0 ∷ []) $ fjoin ! $ move ! (3 ∷ 0 ∷ []) $ fjoin ! $ join ! $ move ! (1 ∷ 0 ∷ []) $ join ! $ frame ! $ use0 W (raw (fact 𝓤 (Offered tb k c (at .waiting) (at .weighed) (r .waiting) (r .weighed) work pairs pairs′))) (factI 𝓤 (Offered tb k c (at .waiting) (at .weighed) (r .waiting) (r .weighed) work pairs pairs′) (emp 𝓤) e) $ done !
 
-  module _ (𝓣 : AllCalls 𝓤 H) (known-consider : Triple 𝓤 (𝓣 .C #waits·consider) (Consider-of 𝓤 H A mem run)) (known-push : Triple 𝓤 (𝓣 .C #pairs·push) (Push-of 𝓤 H A mem run)) (sized : Room T.the-row ν) (sized₂ : Room u32 ν₂) (asked : Asked tb k c (at .waiting) work pairs) (below : c < k) (more-wait : at .waiting + alive tb work c ≤ room (tb .groups)) (more-weighed : at .weighed + alive tb work c ≤ room (tb .groups)) (enough : room (tb .groups) ≤ length pairs) where
+  module _ (𝓣 : AllCalls 𝓤 H) (known-consider : Triple 𝓤 (𝓣 .C #waits·consider) (Consider-of 𝓤 H A mem run)) (known-append : Triple 𝓤 (𝓣 .C #pairs·append) (Append-of 𝓤 H A mem run)) (sized : Room T.the-row ν) (sized₂ : Room u32 ν₂) (weighable : Weighable tb k work) (lists : Lists tb k c (at .waiting) work pairs) (below : c < k) (more-wait : at .waiting + alive tb work c ≤ room (tb .groups)) (more-weighed : at .weighed + alive tb work c ≤ room (tb .groups)) (enough : room (tb .groups) ≤ length pairs) where
     abbrev C : Calls 𝓤 H
     C = 𝓣 .C
 
@@ -128,7 +128,7 @@ module _ {M : Type 1} (𝓤 : URA M) (H : Heap 𝓤) (A : Atoms 𝓤) (W : Given
       body : Sq W Start (runs C Λ En code-mir.t-1 (atRet En Post))
       body =
           move ! (1 ∷ []) $
-          use1 W (later (raw (C #waits·consider (σ₂ ∷ mach-tables tb ∷ vint w64 c ∷ vint w64 k ∷ []) (λ w. mean 𝓤 H A (After-consider-seen 𝓤 H A W mem run C fm known-consider κ₂ θ₂ γ₂ β₂ ι₂ ν₂ work tb c k w))))) (consider-seen 𝓤 H A W mem run C fm known-consider κ₂ θ₂ γ₂ β₂ ι₂ ν₂ work tb c k g-tb g-c g-k ((asked .weighable, below))) $ await ! tt $
+          use1 W (later (raw (C #waits·consider (σ₂ ∷ mach-tables tb ∷ vint w64 c ∷ vint w64 k ∷ []) (λ w. mean 𝓤 H A (After-consider-seen 𝓤 H A W mem run C fm known-consider κ₂ θ₂ γ₂ β₂ ι₂ ν₂ work tb c k w))))) (consider-seen 𝓤 H A W mem run C fm known-consider κ₂ θ₂ γ₂ β₂ ι₂ ν₂ work tb c k g-tb g-c g-k ((weighable, below))) $ await ! tt $
           calls ! fm (After-consider-seen 𝓤 H A W mem run C fm known-consider κ₂ θ₂ γ₂ β₂ ι₂ ν₂ work tb c k) (and-then ! (load ! (from ! (stop !)) (look ! 24 refl)) (and-then ! (load ! (from ! (stop !)) (look ! 22 refl)) (and-then ! (load ! (from ! (stop !)) (look ! 20 refl)) (and-then ! (load ! (from ! (stop !)) (look ! 18 refl)) (no-more !))))) (λ r-found. await ! tt $ pick ! (λ found. pick ! (λ x-found. learn ! (λ e-found. split ! $ move ! (1 ∷ []) $ facts ! F.the-row (Is F.the-row) (shows 𝓤 H A F.the-row) found (r-found ∷ []) (λ g-found.
           land ! (from ! (stop !)) (init ! 14 refl (LL.lawful F.the-type F′.the-laws 𝓤 H A W .typed found _ g-found .0)) $
           rewrite ! 14 (λ (u : Val). ‵ (fat fullShare (F′.mir) l₇ 0 u)) (spelt-F found r-found g-found) refl $
@@ -142,22 +142,22 @@ module _ {M : Type 1} (𝓤 : URA M) (H : Heap 𝓤) (A : Atoms 𝓤) (W : Given
           forget ! 28 refl $ forget ! 26 refl $ forget ! 24 refl $ forget ! 22 refl $ forget ! 20 refl $ forget ! 18 refl $ forget ! 16 refl $ forget ! 14 refl $ forget ! 12 refl $ forget ! 10 refl $ forget ! 6 refl $
           move ! (28 ∷ 29 ∷ []) $ free1 ! $ move ! (26 ∷ 27 ∷ []) $ free1 ! $ move ! (24 ∷ 25 ∷ []) $ free1 ! $ move ! (22 ∷ 23 ∷ []) $ free1 ! $ move ! (20 ∷ 21 ∷ []) $ free1 ! $ move ! (18 ∷ 19 ∷ []) $ free1 ! $ move ! (16 ∷ 17 ∷ []) $ free1 ! $ move ! (14 ∷ 15 ∷ []) $ free1 ! $ move ! (12 ∷ 13 ∷ []) $ free1 ! $ move ! (10 ∷ 11 ∷ []) $ free1 ! $ move ! (8 ∷ 9 ∷ []) $ free1 ! $ move ! (6 ∷ 7 ∷ []) $ free1 ! $ move ! (4 ∷ 5 ∷ []) $ free1 ! $ move ! (2 ∷ 3 ∷ []) $ free1 ! $ free0 ! $
           move ! (1 ∷ 0 ∷ []) $
-          by ! (exits pairs refl (record { waiting = at .waiting; weighed = at .weighed + (found .weighed) }) (LL.owes Y.the-type Y′.the-laws (record { waiting = at .waiting; weighed = at .weighed + (found .weighed) }) ((refl, (LL.owed Y.the-type Y′.the-laws at _ g-at .0 .1)), ((refl, (small (at .weighed + (found .weighed)) (omega (arith, e-found .1 .weighed)))), tt))) (offer-none asked below (e-found .1) (at .weighed) (eqb→eq _ _ h))))
+          by ! (exits pairs refl (record { waiting = at .waiting; weighed = at .weighed + (found .weighed) }) (LL.owes Y.the-type Y′.the-laws (record { waiting = at .waiting; weighed = at .weighed + (found .weighed) }) ((refl, (LL.owed Y.the-type Y′.the-laws at _ g-at .0 .1)), ((refl, (small (at .weighed + (found .weighed)) (omega (arith, e-found .1 .weighed)))), tt))) (offer-none lists below (e-found .1) (at .weighed) (eqb→eq _ _ h))))
           (λ h.
           skips ! $
           exec ! C Λ En code-mir.t-6 (atRet En Post) $
           assigns ! (addr ! (from ! (fld ! refl (hop ! (look-in ! 26 (sub ! 0 refl (whole !))) (stop !))))) (from ! (stop !)) (init ! 4 refl (tt, tt)) $
           assigns ! (agg ! (and-then ! (load ! (from ! (stop !)) (look ! 4 refl)) (and-then ! (load ! (from ! (fld ! refl (stop !))) (look-in ! 26 (sub ! 1 refl (whole !)))) (no-more !)))) (from ! (stop !)) (init ! 2 refl (tt, (tt, (record { fits = sized .0 }, tt)))) $
           move ! (1 ∷ []) $
-          use1 W (later (raw (C #pairs·push (σ ∷ vint w64 (at .waiting) ∷ mach (found .pair) ∷ []) (λ w. mean 𝓤 H A (After-push-call 𝓤 H A W mem run C fm known-push κ θ γ β ι ν pairs (at .waiting) (found .pair) w))))) (push-call 𝓤 H A W mem run C fm known-push κ θ γ β ι ν pairs (at .waiting) (found .pair) refl sized (LL.owed Y.the-type Y′.the-laws at _ g-at .0 .1) (LL.owed F.the-type F′.the-laws found _ (at-F found r-found g-found) .1 .0) ((omega (arith, offer-one asked below (e-found .1) (not-zero _ h)), asked .waits .ordered))) $ await ! tt $
-          calls ! fm (After-push-call 𝓤 H A W mem run C fm known-push κ θ γ β ι ν pairs (at .waiting) (found .pair)) (and-then ! (load ! (from ! (stop !)) (look ! 2 refl)) (and-then ! (load ! (from ! (fld ! refl (stop !))) (look-in ! 16 (sub ! 0 refl (whole !)))) (and-then ! (load ! (from ! (stop !)) (look ! 10 refl)) (no-more !)))) (λ r-waiting. await ! tt $ pick ! (λ waiting. pick ! (λ x-waiting. learn ! (λ e-waiting. split ! $ move ! (1 ∷ []) $ facts ! usize (Is usize) (shows 𝓤 H A usize) waiting (r-waiting ∷ []) (λ g-waiting.
+          use1 W (later (raw (C #pairs·append (σ ∷ vint w64 (at .waiting) ∷ mach (found .pair) ∷ []) (λ w. mean 𝓤 H A (After-append-call 𝓤 H A W mem run C fm known-append κ θ γ β ι ν pairs (at .waiting) (found .pair) w))))) (append-call 𝓤 H A W mem run C fm known-append κ θ γ β ι ν pairs (at .waiting) (found .pair) refl sized (LL.owed Y.the-type Y′.the-laws at _ g-at .0 .1) (LL.owed F.the-type F′.the-laws found _ (at-F found r-found g-found) .1 .0) (omega (arith, offer-one lists below (e-found .1) (not-zero _ h)))) $ await ! tt $
+          calls ! fm (After-append-call 𝓤 H A W mem run C fm known-append κ θ γ β ι ν pairs (at .waiting) (found .pair)) (and-then ! (load ! (from ! (stop !)) (look ! 2 refl)) (and-then ! (load ! (from ! (fld ! refl (stop !))) (look-in ! 16 (sub ! 0 refl (whole !)))) (and-then ! (load ! (from ! (stop !)) (look ! 10 refl)) (no-more !)))) (λ r-waiting. await ! tt $ pick ! (λ waiting. pick ! (λ x-waiting. learn ! (λ e-waiting. split ! $ move ! (1 ∷ []) $ facts ! usize (Is usize) (shows 𝓤 H A usize) waiting (r-waiting ∷ []) (λ g-waiting.
           land ! (from ! (stop !)) (init ! 8 refl (uint-lawful 𝓤 H A W w64 .typed waiting _ g-waiting .0)) $
           rewrite ! 8 (λ (u : Val). ‵ (fat fullShare (tyInt w64) l₁₀ 0 u)) (ap only (g-waiting .0)) refl $
           assigns ! (agg ! (and-then ! (load ! (from ! (stop !)) (look ! 8 refl)) (and-then ! (load ! (from ! (stop !)) (look ! 12 refl)) (no-more !)))) (from ! (stop !)) (init ! 28 refl (LL.lawful Y.the-type Y′.the-laws 𝓤 H A W .typed (record { waiting = waiting; weighed = at .weighed + (found .weighed) }) _ (LL.owes Y.the-type Y′.the-laws (record { waiting = waiting; weighed = at .weighed + (found .weighed) }) ((refl, (g-waiting .1)), ((refl, (small (at .weighed + (found .weighed)) (omega (arith, e-found .1 .weighed)))), tt))) .0)) $
           returns ! (look ! 28 refl) $
           forget ! 28 refl $ forget ! 26 refl $ forget ! 24 refl $ forget ! 22 refl $ forget ! 20 refl $ forget ! 18 refl $ forget ! 16 refl $ forget ! 14 refl $ forget ! 12 refl $ forget ! 10 refl $ forget ! 8 refl $ forget ! 6 refl $ forget ! 4 refl $ forget ! 2 refl $
           move ! (28 ∷ 29 ∷ []) $ free1 ! $ move ! (26 ∷ 27 ∷ []) $ free1 ! $ move ! (24 ∷ 25 ∷ []) $ free1 ! $ move ! (22 ∷ 23 ∷ []) $ free1 ! $ move ! (20 ∷ 21 ∷ []) $ free1 ! $ move ! (18 ∷ 19 ∷ []) $ free1 ! $ move ! (16 ∷ 17 ∷ []) $ free1 ! $ move ! (14 ∷ 15 ∷ []) $ free1 ! $ move ! (12 ∷ 13 ∷ []) $ free1 ! $ move ! (10 ∷ 11 ∷ []) $ free1 ! $ move ! (8 ∷ 9 ∷ []) $ free1 ! $ move ! (6 ∷ 7 ∷ []) $ free1 ! $ move ! (4 ∷ 5 ∷ []) $ free1 ! $ move ! (2 ∷ 3 ∷ []) $ free1 ! $ free0 ! $
-          by ! (exits x-waiting (e-waiting .0) (record { waiting = waiting; weighed = at .weighed + (found .weighed) }) (LL.owes Y.the-type Y′.the-laws (record { waiting = waiting; weighed = at .weighed + (found .weighed) }) ((refl, (g-waiting .1)), ((refl, (small (at .weighed + (found .weighed)) (omega (arith, e-found .1 .weighed)))), tt))) (offer-push asked below (e-found .1) (not-zero _ h) (at .weighed) _ _ more-wait (e-waiting .1 .0) (e-waiting .1 .1))))))))))))))
+          by ! (exits x-waiting (e-waiting .0) (record { waiting = waiting; weighed = at .weighed + (found .weighed) }) (LL.owes Y.the-type Y′.the-laws (record { waiting = waiting; weighed = at .weighed + (found .weighed) }) ((refl, (g-waiting .1)), ((refl, (small (at .weighed + (found .weighed)) (omega (arith, e-found .1 .weighed)))), tt))) (offer-append lists below (e-found .1) (not-zero _ h) (at .weighed) _ _ more-wait enough (e-waiting .1 .0) (e-waiting .1 .1))))))))))))))
 
     walk : ent 𝓤 (onEntry 𝓤 H A offer.signature (κ, (κ₂, tt)) (θ, (θ₂, tt)) (bound .0 .3) (bound .0 .4)) (WpFn 𝓤 H C Λ code.function (σ ∷ σ₂ ∷ mach-tables tb ∷ vint w64 c ∷ vint w64 k ∷ mach-tally at ∷ []) Post)
     walk =
@@ -203,16 +203,16 @@ module _ {M : Type 1} (𝓤 : URA M) (H : Heap 𝓤) (A : Atoms 𝓤) (W : Given
   abbrev Entry : SProp 𝓤
   Entry = onEntry 𝓤 H A offer.signature (κ, (κ₂, tt)) (θ, (θ₂, tt)) (bound .0 .3) (bound .0 .4)
 
-  starts : (𝓣 : AllCalls 𝓤 H) → Triple 𝓤 (𝓣 .C #waits·consider) (Consider-of 𝓤 H A mem run) → Triple 𝓤 (𝓣 .C #pairs·push) (Push-of 𝓤 H A mem run) → Room T.the-row ν → Room u32 ν₂ → ent 𝓤 (sep 𝓤 Entry (sep 𝓤 (fact 𝓤 (Asked tb k c (at .waiting) work pairs)) (sep 𝓤 (fact 𝓤 (c < k)) (sep 𝓤 (fact 𝓤 (at .waiting + alive tb work c ≤ room (tb .groups))) (sep 𝓤 (fact 𝓤 (at .weighed + alive tb work c ≤ room (tb .groups))) (fact 𝓤 (room (tb .groups) ≤ length pairs))))))) (WpFn 𝓤 H (𝓣 .C) (𝓣 .Λ) code.function (σ ∷ σ₂ ∷ mach-tables tb ∷ vint w64 c ∷ vint w64 k ∷ mach-tally at ∷ []) Post)
-  starts 𝓣 k-consider k-push sized sized₂ = needs-more 𝓤 (Asked tb k c (at .waiting) work pairs) Entry (sep 𝓤 (fact 𝓤 (c < k)) (sep 𝓤 (fact 𝓤 (at .waiting + alive tb work c ≤ room (tb .groups))) (sep 𝓤 (fact 𝓤 (at .weighed + alive tb work c ≤ room (tb .groups))) (fact 𝓤 (room (tb .groups) ≤ length pairs))))) (λ l₀. needs-more 𝓤 (c < k) Entry (sep 𝓤 (fact 𝓤 (at .waiting + alive tb work c ≤ room (tb .groups))) (sep 𝓤 (fact 𝓤 (at .weighed + alive tb work c ≤ room (tb .groups))) (fact 𝓤 (room (tb .groups) ≤ length pairs)))) (λ l₁. needs-more 𝓤 (at .waiting + alive tb work c ≤ room (tb .groups)) Entry (sep 𝓤 (fact 𝓤 (at .weighed + alive tb work c ≤ room (tb .groups))) (fact 𝓤 (room (tb .groups) ≤ length pairs))) (λ l₂. needs-more 𝓤 (at .weighed + alive tb work c ≤ room (tb .groups)) Entry (fact 𝓤 (room (tb .groups) ≤ length pairs)) (λ l₃. needs 𝓤 (room (tb .groups) ≤ length pairs) Entry (λ l₄. walk 𝓣 k-consider k-push sized sized₂ l₀ l₁ l₂ l₃ l₄)))))
+  starts : (𝓣 : AllCalls 𝓤 H) → Triple 𝓤 (𝓣 .C #waits·consider) (Consider-of 𝓤 H A mem run) → Triple 𝓤 (𝓣 .C #pairs·append) (Append-of 𝓤 H A mem run) → Room T.the-row ν → Room u32 ν₂ → ent 𝓤 (sep 𝓤 Entry (sep 𝓤 (fact 𝓤 (Weighable tb k work)) (sep 𝓤 (fact 𝓤 (Lists tb k c (at .waiting) work pairs)) (sep 𝓤 (fact 𝓤 (c < k)) (sep 𝓤 (fact 𝓤 (at .waiting + alive tb work c ≤ room (tb .groups))) (sep 𝓤 (fact 𝓤 (at .weighed + alive tb work c ≤ room (tb .groups))) (fact 𝓤 (room (tb .groups) ≤ length pairs)))))))) (WpFn 𝓤 H (𝓣 .C) (𝓣 .Λ) code.function (σ ∷ σ₂ ∷ mach-tables tb ∷ vint w64 c ∷ vint w64 k ∷ mach-tally at ∷ []) Post)
+  starts 𝓣 k-consider k-append sized sized₂ = needs-more 𝓤 (Weighable tb k work) Entry (sep 𝓤 (fact 𝓤 (Lists tb k c (at .waiting) work pairs)) (sep 𝓤 (fact 𝓤 (c < k)) (sep 𝓤 (fact 𝓤 (at .waiting + alive tb work c ≤ room (tb .groups))) (sep 𝓤 (fact 𝓤 (at .weighed + alive tb work c ≤ room (tb .groups))) (fact 𝓤 (room (tb .groups) ≤ length pairs)))))) (λ l₀. needs-more 𝓤 (Lists tb k c (at .waiting) work pairs) Entry (sep 𝓤 (fact 𝓤 (c < k)) (sep 𝓤 (fact 𝓤 (at .waiting + alive tb work c ≤ room (tb .groups))) (sep 𝓤 (fact 𝓤 (at .weighed + alive tb work c ≤ room (tb .groups))) (fact 𝓤 (room (tb .groups) ≤ length pairs))))) (λ l₁. needs-more 𝓤 (c < k) Entry (sep 𝓤 (fact 𝓤 (at .waiting + alive tb work c ≤ room (tb .groups))) (sep 𝓤 (fact 𝓤 (at .weighed + alive tb work c ≤ room (tb .groups))) (fact 𝓤 (room (tb .groups) ≤ length pairs)))) (λ l₂. needs-more 𝓤 (at .waiting + alive tb work c ≤ room (tb .groups)) Entry (sep 𝓤 (fact 𝓤 (at .weighed + alive tb work c ≤ room (tb .groups))) (fact 𝓤 (room (tb .groups) ≤ length pairs))) (λ l₃. needs-more 𝓤 (at .weighed + alive tb work c ≤ room (tb .groups)) Entry (fact 𝓤 (room (tb .groups) ≤ length pairs)) (λ l₄. needs 𝓤 (room (tb .groups) ≤ length pairs) Entry (λ l₅. walk 𝓣 k-consider k-append sized sized₂ l₀ l₁ l₂ l₃ l₄ l₅))))))
 
 module _ {M : Type 1} (𝓤 : URA M) (H : Heap 𝓤) (A : Atoms 𝓤) (W : Given 𝓤 H A) (mem : Memory → SProp 𝓤) (run : Routine → Fun 𝓤) (𝓣 : AllCalls 𝓤 H) where
-  offer-walks : Triple 𝓤 (𝓣 .C #waits·consider) (Consider-of 𝓤 H A mem run) → Triple 𝓤 (𝓣 .C #pairs·push) (Push-of 𝓤 H A mem run) → Walks 𝓤 H A offer.ended stayed (WpFn 𝓤 H (𝓣 .C) (𝓣 .Λ) code.function) (offer.clauses 𝓤 H A mem run)
-  offer-walks k-consider k-push = walked 𝓤 H A offer.ended stayed (offer.clauses 𝓤 H A mem run) (WpFn 𝓤 H (𝓣 .C) (𝓣 .Λ) code.function) (λ κs. (slice-vals, (slice-vals, (LL.vals L.the-type L′.the-laws, (uint-vals w64, (uint-vals w64, (LL.vals Y.the-type Y′.the-laws, tt))))))) (λ κs. (mut-slice-tells (named 0) (κs .0) T.the-row, (shr-slice-tells (named 1) (κs .1 .0) u32, (LL.tells L.the-type L′.the-laws, (uint-tells w64, (uint-tells w64, (LL.tells Y.the-type Y′.the-laws, tt)))))))
-      (λ κs qs bounds a g are. starts 𝓤 H A W mem run (κs .0) (qs .0) (a .0 .name) (a .0 .ptr .0) (a .0 .ptr .1) (a .0 .now) (κs .1 .0) (qs .1 .0) (a .1 .0 .name) (a .1 .0 .ptr .0) (a .1 .0 .ptr .1) (a .1 .0 .now) (a .1 .1 .0) (a .1 .1 .1 .0) (a .1 .1 .1 .1 .0) (a .1 .1 .1 .1 .1 .0) (are .1 .1 .0) (are .1 .1 .1 .0 .1) (are .1 .1 .1 .1 .0 .1) (are .1 .1 .1 .1 .1 .0) 𝓣 k-consider k-push (are .0 .0 .1) (are .1 .0 .0 .1))
+  offer-walks : Triple 𝓤 (𝓣 .C #waits·consider) (Consider-of 𝓤 H A mem run) → Triple 𝓤 (𝓣 .C #pairs·append) (Append-of 𝓤 H A mem run) → Walks 𝓤 H A offer.ended stayed (WpFn 𝓤 H (𝓣 .C) (𝓣 .Λ) code.function) (offer.clauses 𝓤 H A mem run)
+  offer-walks k-consider k-append = walked 𝓤 H A offer.ended stayed (offer.clauses 𝓤 H A mem run) (WpFn 𝓤 H (𝓣 .C) (𝓣 .Λ) code.function) (λ κs. (slice-vals, (slice-vals, (LL.vals L.the-type L′.the-laws, (uint-vals w64, (uint-vals w64, (LL.vals Y.the-type Y′.the-laws, tt))))))) (λ κs. (mut-slice-tells (named 0) (κs .0) T.the-row, (shr-slice-tells (named 1) (κs .1 .0) u32, (LL.tells L.the-type L′.the-laws, (uint-tells w64, (uint-tells w64, (LL.tells Y.the-type Y′.the-laws, tt)))))))
+      (λ κs qs bounds a g are. starts 𝓤 H A W mem run (κs .0) (qs .0) (a .0 .name) (a .0 .ptr .0) (a .0 .ptr .1) (a .0 .now) (κs .1 .0) (qs .1 .0) (a .1 .0 .name) (a .1 .0 .ptr .0) (a .1 .0 .ptr .1) (a .1 .0 .now) (a .1 .1 .0) (a .1 .1 .1 .0) (a .1 .1 .1 .1 .0) (a .1 .1 .1 .1 .1 .0) (are .1 .1 .0) (are .1 .1 .1 .0 .1) (are .1 .1 .1 .1 .0 .1) (are .1 .1 .1 .1 .1 .0) 𝓣 k-consider k-append (are .0 .0 .1) (are .1 .0 .0 .1))
 
-  offer-meets : Triple 𝓤 (𝓣 .C #waits·consider) (Consider-of 𝓤 H A mem run) → Triple 𝓤 (𝓣 .C #pairs·push) (Push-of 𝓤 H A mem run) → Meets 𝓤 H A offer.signature (WpFn 𝓤 H (𝓣 .C) (𝓣 .Λ) code.function) (offer.spec 𝓤 H A mem run)
-  offer-meets k-consider k-push = walk-meets 𝓤 H A offer.ended stayed W (goes-slice 𝓤 H A W 2 0 tt (plain (λ _. T.the-row)), (goes-none-slice 𝓤 H A W 2 (1 ∷ []) tt (plain (λ _. u32)) yes, (goes-none 𝓤 H A W 2 (λ _. L.the-row) yes (λ κs x f. refl), (goes-none 𝓤 H A W 2 (λ _. usize) yes (λ κs x f. refl), (goes-none 𝓤 H A W 2 (λ _. usize) yes (λ κs x f. refl), (goes-none 𝓤 H A W 2 (λ _. Y.the-row) yes (λ κs x f. refl), tt)))))) (offer.clauses 𝓤 H A mem run) (WpFn 𝓤 H (𝓣 .C) (𝓣 .Λ) code.function) (WpFn-mono 𝓤 H (W .laws) 𝓣 code.function) (offer-walks k-consider k-push)
+  offer-meets : Triple 𝓤 (𝓣 .C #waits·consider) (Consider-of 𝓤 H A mem run) → Triple 𝓤 (𝓣 .C #pairs·append) (Append-of 𝓤 H A mem run) → Meets 𝓤 H A offer.signature (WpFn 𝓤 H (𝓣 .C) (𝓣 .Λ) code.function) (offer.spec 𝓤 H A mem run)
+  offer-meets k-consider k-append = walk-meets 𝓤 H A offer.ended stayed W (goes-slice 𝓤 H A W 2 0 tt (plain (λ _. T.the-row)), (goes-none-slice 𝓤 H A W 2 (1 ∷ []) tt (plain (λ _. u32)) yes, (goes-none 𝓤 H A W 2 (λ _. L.the-row) yes (λ κs x f. refl), (goes-none 𝓤 H A W 2 (λ _. usize) yes (λ κs x f. refl), (goes-none 𝓤 H A W 2 (λ _. usize) yes (λ κs x f. refl), (goes-none 𝓤 H A W 2 (λ _. Y.the-row) yes (λ κs x f. refl), tt)))))) (offer.clauses 𝓤 H A mem run) (WpFn 𝓤 H (𝓣 .C) (𝓣 .Λ) code.function) (WpFn-mono 𝓤 H (W .laws) 𝓣 code.function) (offer-walks k-consider k-append)
 
 pub offer-spec : {M : Type 1} → stated.statement M
 unfolding code.routine tablesOf
@@ -221,4 +221,4 @@ offer-spec 𝓤 H 𝓜 𝓖 𝓡 =
     (tables 𝓤 H 𝓜 𝓡 code.env .C) (tables 𝓤 H 𝓜 𝓡 code.env .Λ) #waits·offer code.function (code.unfolded 𝓤 H 𝓜 𝓡)
     (offer-meets 𝓤 H (𝓖 .A) (givenOf 𝓤 H 𝓜 𝓖) (𝓜 .mem) (𝓡 .run) (tablesOf 𝓤 H 𝓜 (tables 𝓤 H 𝓜 𝓡 code.env))
     (cited 𝓤 H (Consider-of 𝓤 H (𝓖 .A) (𝓜 .mem) (𝓡 .run)) 𝓜 𝓡 code.env #waits·consider consider-def.routine code.calls-waits·consider (consider-thm.met 𝓤 H 𝓜 𝓖 𝓡))
-    (cited 𝓤 H (Push-of 𝓤 H (𝓖 .A) (𝓜 .mem) (𝓡 .run)) 𝓜 𝓡 code.env #pairs·push push-def.routine code.calls-pairs·push (push-thm.met 𝓤 H 𝓜 𝓖 𝓡)))
+    (cited 𝓤 H (Append-of 𝓤 H (𝓖 .A) (𝓜 .mem) (𝓡 .run)) 𝓜 𝓡 code.env #pairs·append append-def.routine code.calls-pairs·append (append-thm.met 𝓤 H 𝓜 𝓖 𝓡)))
