@@ -2,7 +2,8 @@
 #
 #   make run      the proved build on the example that ships: its table, and the store's rows
 #   make install  the library and the program below PREFIX (/usr/local), or below DESTDIR/PREFIX
-#   make dist     a tar of the library for who links it without proving it, into target/dist
+#   make dist     a tar of the library for who links it without proving it, into target/dist;
+#                 MACHINE=aarch64 makes that for Arm
 #   make test     everything that is tested; .ci/run is the same, and fails where the source is not there to compare with
 #   make check    the proofs alone, what changed since they last passed
 #   make bench    the times of the library beside the source's; docs/BENCH.md
@@ -12,13 +13,14 @@
 
 PREFIX = /usr/local
 DESTDIR =
+MACHINE = x86_64
 ifdef IVS_LIB
 override IVS_LIB := $(abspath $(IVS_LIB))
 export IVS_LIB
 endif
-# The archive for this machine: on Arm, where Rattle's own is for another, the one that tools/native makes of it.
-OWN = $(firstword $(wildcard target/native/libivs.a) target/staticlib/libivs.a)
+OWN = target/staticlib/libivs.a
 ARCHIVE = $(if $(IVS_LIB),$(IVS_LIB)/lib/libivs.a,$(OWN))
+CRATES = $(patsubst %/,%,$(dir $(wildcard crates/*/src)))
 
 .PHONY: run install dist whole library program test bench check fmt
 
@@ -37,12 +39,12 @@ install: program
 	./tools/install "$(DESTDIR)$(PREFIX)" "$(ARCHIVE)" host/target/release/fenikezo
 
 dist: whole
-	./tools/dist target/dist "$(OWN)"
+	./tools/dist target/dist "$(if $(filter x86_64,$(MACHINE)),$(OWN),target/staticlib/$(MACHINE)/libivs.a)"
 
 # The page of `dist` speaks of all crates, so all are proved.
 whole:
-	rt check
-	@./tools/staticlib
+	rt all check
+	@./tools/staticlib ivs_c $(MACHINE)
 
 test:
 	./tests/run
@@ -51,8 +53,8 @@ bench:
 	$(MAKE) -C host --no-print-directory bench
 
 check:
-	rt check
+	rt all check
 
 fmt:
-	rt fmt
+	@for crate in $(CRATES); do (cd $$crate && rt fmt) || exit 1; done
 	cd host && cargo fmt

@@ -1,6 +1,6 @@
 /* Packs a job file through the library, from C. In the repository's folder:
  *
- *     rt staticlib ivs
+ *     tools/staticlib
  *     cc -Iinclude examples/pack.c target/staticlib/libivs.a -o pack
  *     ./pack 1 examples/two-sets.job
  *

@@ -1,4 +1,4 @@
-/* Fenikezo: item variation stores. Link with libivs.a (`make install`), which is for x86-64, and made on Arm for Arm.
+/* Fenikezo: item variation stores. Link with libivs.a (`make install`), which is for x86-64; `make dist` has one for Arm, too.
  * docs/RULES.md has the rules, by labels (J1, R6), which are given below.
  *
  * A slice passes as a pointer and a length. A pointer must not be null, also where the length is 0, and must be aligned

@@ -37,26 +37,15 @@ fn main() {
             }
         }
     }
-    // Rattle's own archive is for x86-64; on Arm one for that is made of the same module.
-    let folder = if env::consts::ARCH == "x86_64" {
-        run(
-            Command::new("rt").args(["staticlib", "merging_bench"]),
-            &root,
-        );
-        "staticlib"
-    } else {
-        run(Command::new("rt").args(["check", "merging_bench"]), &root);
-        run(
-            Command::new(root.join("tools/native")).arg("merging_bench"),
-            &root,
-        );
-        "native"
-    };
-    // A copy, since Rattle's target folder is cleared by its verdict.
-    let out = PathBuf::from(env::var_os("OUT_DIR").expect("cargo sets it"));
     let archive = "libmerging_bench.a";
-    let written = root.join("target").join(folder).join(archive);
-    fs::copy(written, out.join(archive)).expect("Rattle has written the archive");
+    run(
+        Command::new(root.join("tools/staticlib")).arg("merging_bench"),
+        &root,
+    );
+    // A copy, since the next run of tools/staticlib writes another.
+    let out = PathBuf::from(env::var_os("OUT_DIR").expect("cargo sets it"));
+    let written = root.join("target/staticlib").join(archive);
+    fs::copy(written, out.join(archive)).expect("the archive is written");
     println!("cargo:rustc-link-search=native={}", out.display());
     println!("cargo:rustc-link-lib=static=merging_bench");
     println!("cargo:rustc-link-arg=-Wl,--wrap=memset");

@@ -14,7 +14,7 @@ use Rattle.laws.specs.Bytes.{bytes_of, over}
 use Rattle.laws.proofs.Cases.{Tri, tri, Which, which}
 use Rattle.laws.proofs.Cases.Which.{holds, fails}
 use Rattle.laws.proofs.Cases.Tri.{below, same, above}
-use Rattle.laws.proofs.EveryLaws.{all-imp, all_map, all_get_d, two-get_or}
+use Rattle.laws.proofs.EveryLaws.{all-imp, all_map, all-get_or, two-get_or}
 use Rattle.laws.proofs.ListLaws.{get_or-map-in}
 use Rattle.laws.proofs.BoundedLaws.{length-tabulate}
 use Rattle.laws.proofs.BytesLaws.{bytes-length, take-over, over-at}
@@ -73,7 +73,7 @@ module _ (axes mode : ℕ) (job : List ℕ) (records : ℕ) (s : Said) (e : reco
   well = well-said axes mode job records s some bytes e
 
   region-whole : (q : ℕ) → q < length s.regions → length (region_bytes (get_or s.regions q [])) ≡ 6 * axes
-  region-whole q h = omega (arith, region-long (get_or s.regions q []), (all_get_d (Coordinates axes) s.regions q [] well.coordinates-are h).0)
+  region-whole q h = omega (arith, region-long (get_or s.regions q []), (all-get_or (Coordinates axes) s.regions q [] well.coordinates-are h).0)
 
   coords-whole : All (λ (c : List ℕ). length c ≡ 6 * axes) (coords_in_use s)
   unfolding coords_in_use
@@ -87,12 +87,12 @@ module _ (axes mode : ℕ) (job : List ℕ) (records : ℕ) (s : Said) (e : reco
   coords-once x y h k f = go (tri x y)
     where
       use-low : (i : ℕ) → i < length (coords_in_use s) → get_or s.used i 0 < length s.regions
-      use-low i l = all_get_d (λ q. q < length s.regions) s.used i 0 well.counted.used_low (omega (arith, coords-long s))
+      use-low i l = all-get_or (λ q. q < length s.regions) s.used i 0 well.counted.used_low (omega (arith, coords-long s))
 
       at : (i : ℕ) → i < length (coords_in_use s) → back_of (get_or (coords_in_use s) i []) ≡ get_or s.regions (get_or s.used i 0) []
       at i l =
           ap back_of (get_or-map-in (λ (q : ℕ). region_bytes (get_or s.regions q [])) s.used i 0 [] (omega (arith, coords-long s)))
-          ∙ region-back (get_or s.regions (get_or s.used i 0) []) (all_get_d (Coordinates axes) s.regions (get_or s.used i 0) [] well.coordinates-are (use-low i l)).1
+          ∙ region-back (get_or s.regions (get_or s.used i 0) []) (all-get_or (Coordinates axes) s.regions (get_or s.used i 0) [] well.coordinates-are (use-low i l)).1
 
       equal : get_or s.regions (get_or s.used x 0) [] ≡ get_or s.regions (get_or s.used y 0) []
       equal = sym (at x h) ∙ ap back_of f ∙ at y k

@@ -15,7 +15,6 @@ use Rattle.store.specs.Placing.{Final, kept_of, made_of, store_of}
 use Rattle.readback.proofs.Parsing.{Fit, made-parsed}
 use Rattle.encoder.specs.Packed.{Packed}
 use Rattle.finishing.specs.Late.{store_for}
-use Rattle.limits.specs.Limits.{most_axes, max_regions}
 
 pub record ListBack (axes regions : ℕ) (coords : List (List ℕ)) (k : Packed) : Type 0 where
   -- V1: neither header nor list is refused

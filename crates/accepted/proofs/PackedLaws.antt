@@ -13,13 +13,13 @@ use Rattle.laws.specs.Pick.{pick}
 use Rattle.laws.specs.Every.{All, EachTwo}
 use Rattle.laws.specs.Bag.{weigh}
 use Rattle.laws.specs.Bounded.{up_to}
-use Rattle.laws.specs.Signed.{value, zero_word}
+use Rattle.laws.specs.Signed.{value}
 use Rattle.laws.specs.Sorting.{sorted, keep}
 use Rattle.laws.specs.Joining.{join_all}
 use Rattle.laws.proofs.Cases.{Which, which, lt-or-ge}
 use Rattle.laws.proofs.Cases.Which.{holds, fails}
-use Rattle.laws.proofs.EveryLaws.{all, all-imp, all-and, all_map, all-unmap, all_get_d, two-imp}
-use Rattle.laws.proofs.BoundedLaws.{get_d_tabulate}
+use Rattle.laws.proofs.EveryLaws.{all, all-imp, all-and, all_map, all-unmap, all-get_or, two-imp}
+use Rattle.laws.proofs.BoundedLaws.{get_or-tabulate}
 use Rattle.laws.proofs.SortLaws.{sorted_all}
 use Rattle.laws.proofs.SortMap.{keep_all, keep_two, keep-passes, length-sorted}
 use Rattle.laws.proofs.Pigeon.{few-below}
@@ -93,7 +93,7 @@ shape_at : (regions : ℕ) (s : Set) (r : ℕ) → r < regions → get_or (shape
 unfolding shape_of
 shape_at regions s r h =
     let e : 0 + r ≡ r = omega arith in
-    get_d_tabulate 0 regions (λ k. cost_of (width_of (value (word_of s k)))) 0 r h ∙ ap (λ (k : ℕ). cost_of (width_of (value (word_of s k)))) e
+    get_or-tabulate 0 regions (λ k. cost_of (width_of (value (word_of s k)))) 0 r h ∙ ap (λ (k : ℕ). cost_of (width_of (value (word_of s k)))) e
 
 shape-past : (regions : ℕ) (s : Set) (r : ℕ) → regions ≤ r → get_or (shape_of regions s) r 0 ≡ 0
 shape-past regions s r h =
@@ -148,7 +148,7 @@ unfolding join_of
 join-of-widths xs [] h = none-widths
 join-of-widths xs (i ∷ l) h = join-widths (get_or xs i nil).shape (join_of xs l)
     (⊎_elim
-    (λ (b : i < length xs). all_get_d (λ (g : Group). Widths g.shape) xs i nil h b)
+    (λ (b : i < length xs). all-get_or (λ (g : Group). Widths g.shape) xs i nil h b)
     (λ b. subst (λ (g : Group). Widths g.shape) (sym (get_or-eq_default xs nil b)) none-widths)
     (lt-or-ge i (length xs)))
     (join-of-widths xs l h)
@@ -213,14 +213,14 @@ module _ (regions : ℕ) (jobs : List Set) (proper : All (Proper regions) jobs) 
   belong g x = belongs regions groups g (get_or sets x [])
 
   proper-at : (x : ℕ) → x < length sets → Proper regions (get_or sets x [])
-  proper-at x h = all_get_d (Proper regions) sets x [] (distinct-all (Proper regions) [] jobs tt proper) h
+  proper-at x h = all-get_or (Proper regions) sets x [] (distinct-all (Proper regions) [] jobs tt proper) h
 
   low-at : (x : ℕ) → x < length sets → Words (get_or sets x [])
-  low-at x h = all_get_d (λ (s : Set). Words s) sets x [] (distinct-all (λ (s : Set). Words s) [] jobs tt low) h
+  low-at x h = all-get_or (λ (s : Set). Words s) sets x [] (distinct-all (λ (s : Set). Words s) [] jobs tt low) h
 
   -- the group of a set's shape
   shape_has : (x : ℕ) → x < length sets → Has (shape_of regions (get_or sets x [])) groups
-  shape_has x h = all_get_d (λ (s : Set). Has (shape_of regions s) groups) sets x []
+  shape_has x h = all-get_or (λ (s : Set). Has (shape_of regions s) groups) sets x []
       (all-unmap (λ (s : Shape). Has s groups) (shape_of regions) sets (groups-has regions jobs)) h
 
   num-is : (x : ℕ) (h : x < length sets) → num x ≡ (shape_has x h).place
@@ -369,8 +369,8 @@ own-good regions jobs proper low =
       covers = (
         all-imp (λ x h. (
           h,
-          covers_of regions (get_or jobs x []) (cover_of regions jobs) (all_get_d (Proper regions) jobs x [] proper h) (all_get_d (λ (s : Set). Words s) jobs x [] low h)
-              (all_get_d (λ (s : Set). (r : ℕ) → get_or (shape_of regions s) r 0 ≤ get_or (cover_of regions jobs) r 0) jobs x [] (covers-each regions none jobs) h),
+          covers_of regions (get_or jobs x []) (cover_of regions jobs) (all-get_or (Proper regions) jobs x [] proper h) (all-get_or (λ (s : Set). Words s) jobs x [] low h)
+              (all-get_or (λ (s : Set). (r : ℕ) → get_or (shape_of regions s) r 0 ≤ get_or (cover_of regions jobs) r 0) jobs x [] (covers-each regions none jobs) h),
         )) (up_to n) (up-all n),
         tt,
       );

@@ -9,7 +9,6 @@ use lib.Seq.{drop_at, drop-set-lt}
 use Rattle.laws.specs.Pick.{pick}
 use Rattle.laws.specs.Every.{All}
 use Rattle.laws.specs.Bytes.{over}
-use Rattle.laws.specs.Bounded.{up_to}
 use Rattle.laws.specs.Sorting.{sorted}
 use Rattle.laws.proofs.Cases.{Which, which}
 use Rattle.laws.proofs.Cases.Which.{holds, fails}

@@ -1,10 +1,10 @@
 -- Mode 1 in the lent memory: set n has the id n, id x has the word x, and there is one subtable; of at most 65,535 sets. Assumes nothing.
 use mathlib.Core.Path.{◌≡◌, refl, sym, ap, ◌∙◌}
 use mathlib.Core.List.{List, [], ◌∷◌}
-use Prim.Native.Nat.{ℕ, ◌+◌, ◌*◌, ◌≤◌, ◌<◌}
+use Prim.Native.Nat.{ℕ, ◌≤◌, ◌<◌}
 use native.Mathlib.Omega.{arith}
 use lib.ListN.{length, get_or}
-use Rattle.laws.specs.Every.{All, EachTwo}
+use Rattle.laws.specs.Every.{EachTwo}
 use Rattle.laws.specs.Bounded.{up_to}
 use Rattle.laws.proofs.UpLaws.{up-long, up_at, up-differ}
 use Rattle.shapes.specs.Shape.{Shape}

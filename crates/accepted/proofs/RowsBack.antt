@@ -24,7 +24,6 @@ use Rattle.readback.proofs.Parsing.{Sound, Fit}
 use Rattle.readback.proofs.StoreBack.{run_sound, store-none, store-value, store-back}
 use Rattle.encoder.specs.Packed.{Packed}
 use Rattle.finishing.specs.Late.{store_for}
-use Rattle.limits.specs.Limits.{most_axes, max_regions}
 use Rattle.accepted.proofs.PackedLaws.{WellPacked, word_same}
 use Rattle.accepted.proofs.RunSound.{Spot, id-spot, ids-once}
 

@@ -16,7 +16,7 @@ use Rattle.laws.specs.Bounded.{tabulate}
 use Rattle.laws.specs.Joining.{join_all}
 use Rattle.laws.proofs.Cases.{lt-or-ge}
 use Rattle.laws.proofs.ListLaws.{map-append}
-use Rattle.laws.proofs.EveryLaws.{all-imp, all_append, all_get_d, two-imp}
+use Rattle.laws.proofs.EveryLaws.{all-imp, all_append, all-get_or, two-imp}
 use Rattle.shapes.specs.Shape.{Shape}
 use Rattle.shapes.specs.Group.{max_items}
 use Rattle.rows.specs.Row.{Set, Widths, Covers}
@@ -185,7 +185,7 @@ fit-sound coords set gs g f =
       widths = f.widths;
       named = f.named;
       items = omega (arith, length-take max_items (drop (max_items * k) g.ids));
-      covers = λ i h. all_get_d (λ x. Covers g.shape (set x)) part i 0 held h;
+      covers = λ i h. all-get_or (λ x. Covers g.shape (set x)) part i 0 held h;
     })
 
 module _ (regions : ℕ) (k : Packed) (good : WellPacked regions k) where

@@ -16,7 +16,7 @@ use Rattle.readback.proofs.Parsing.{made-parsed}
 use Rattle.sets.specs.Set.{Set}
 use Rattle.said.specs.Job.{Said}
 use Rattle.said.proofs.SoundLaws.{Bytes}
-use Rattle.encoder.specs.Packed.{Packed, shared, own}
+use Rattle.encoder.specs.Packed.{shared, own}
 use Rattle.finishing.specs.declared.answers.Report.{Report}
 use Rattle.finishing.specs.Late.{store_for}
 use Rattle.limits.specs.Limits.{max_shapes}

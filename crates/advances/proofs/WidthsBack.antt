@@ -4,18 +4,16 @@ use mathlib.Core.Bool.{true}
 use mathlib.Core.List.{List, [], ◌++◌}
 use mathlib.Core.Logic.{inl, inr, ⊎_elim}
 use mathlib.Core.Option.{some}
-use Prim.Native.Nat.{ℕ, ◌+◌, ◌*◌, ◌/◌, ◌%◌, ◌≤◌, ◌<◌}
+use Prim.Native.Nat.{ℕ, ◌+◌, ◌*◌, ◌/◌, ◌%◌, ◌<◌}
 use native.Mathlib.Nat.{mul_comm}
 use native.Mathlib.Omega.{arith}
 use lib.ListN.{length, get_or, take, drop}
 use borrow.Author.Tests.{lt-ltb, ne_eqb}
-use Rattle.laws.specs.Bounded.{tabulate}
 use Rattle.laws.specs.Every.{All}
 use Rattle.laws.specs.LentRange.{seg}
-use Rattle.laws.proofs.BoundedLaws.{length-tabulate, get_d_tabulate}
+use Rattle.laws.proofs.BoundedLaws.{length-tabulate, get_or-tabulate}
 use Rattle.laws.proofs.EveryLaws.{all-intro}
-use Rattle.reader.specs.declared.reader.Reading.{Reading}
-use Rattle.reader.specs.declared.reader.Reading.TheVariants.{Written, NoColumn}
+use Rattle.reader.specs.declared.reader.Reading.TheVariants.{Written}
 use Rattle.reader.specs.Store.{list_at, read_store, value_of, region_count}
 use Rattle.stores.specs.Stores.{Parsed, parse, is_whole_ok}
 use Rattle.stores.proofs.WholeLaws.{parse-is, whole-ok}
@@ -35,7 +33,7 @@ use Rattle.call.specs.Build.{answer_of, after}
 use Rattle.accepted.proofs.Accepted.{accepted}
 use Rattle.accepted.proofs.WholeBack.{made_in, made-axes, store-parsed}
 use Rattle.refusing.specs.Counts.{end_records}
-use Rattle.demands.specs.SetsRead.{listed, named_by, InStore, SetRead}
+use Rattle.demands.specs.SetsRead.{listed, InStore, SetRead}
 use Rattle.advances.specs.WidthsRead.{store_in, GlyphRead, store_left, set_words, TableRead, WidthsRead}
 use Rattle.demands.proofs.BytesBack.{bytes_back}
 use Rattle.demands.proofs.PlainRows.{plain}
@@ -132,7 +130,7 @@ module _ (c : Lending) (r : Report) (bytes : Bytes c.job) (e : answer_of c ≡ b
   words_long = length-tabulate 0 (end_records c.job) at
 
   word_at : (n : ℕ) → n < end_records c.job → get_or (set_words c) n 0 ≡ at n
-  word_at n h = get_d_tabulate 0 (end_records c.job) at 0 n h ∙ ap at (omega arith)
+  word_at n h = get_or-tabulate 0 (end_records c.job) at 0 n h ∙ ap at (omega arith)
 
   words-low : All (λ w. w < 4294967296) (set_words c)
   words-low = all-intro (λ w. w < 4294967296) (set_words c) 0 (λ n h.

@@ -1,19 +1,18 @@
 -- Mode 1 without sets: three words stand for the one group, which has no rows. Assumes nothing.
-use mathlib.Core.Path.{◌≡◌, refl, sym, ap, subst, ◌∙◌}
-use mathlib.Core.List.{List, [], ◌∷◌, map}
-use Prim.Native.Nat.{ℕ, ◌+◌, ◌*◌, ◌≤◌, ◌<◌}
+use mathlib.Core.Path.{◌≡◌, refl, sym, ap, subst}
+use mathlib.Core.List.{List, [], ◌∷◌}
+use Prim.Native.Nat.{ℕ, ◌+◌, ◌*◌, ◌≤◌}
 use native.Mathlib.Omega.{arith}
-use lib.ListN.{length, get_or}
+use lib.ListN.{length}
 use Rattle.laws.specs.Bag.{sum}
 use Rattle.laws.specs.Bounded.{tabulate}
 use Rattle.laws.specs.LentRange.{seg}
-use Rattle.sets.specs.Lent.{Held}
 use Rattle.groups.specs.Cover.{cover_from}
 use Rattle.rule.specs.Told.{words}
 use Rattle.store.specs.Lent.{coords_in, final_at, finals_at}
 use Rattle.encoder.specs.declared.places.Places.{Places}
 use Rattle.encoder.specs.Packed.{Packed, own, one_cost}
-use Rattle.encoder.specs.Lent.{relabel, group_at, origins_in, FinalIn, PackedAt}
+use Rattle.encoder.specs.Lent.{relabel, origins_in, FinalIn, PackedAt}
 use Rattle.encoder.specs.LentPlaces.{scratch_at}
 use Rattle.finishing.specs.declared.answers.Built.{Built}
 use Rattle.finishing.specs.Buffers.{Buffers}

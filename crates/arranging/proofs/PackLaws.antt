@@ -9,7 +9,7 @@ use lib.ListN.{length, get_or}
 use Rattle.laws.specs.LentRange.{Only}
 use Rattle.laws.proofs.Cases.{same_or_not}
 use Rattle.laws.proofs.ListLaws.{none-long}
-use Rattle.laws.proofs.EveryLaws.{all_get_d}
+use Rattle.laws.proofs.EveryLaws.{all-get_or}
 use Rattle.laws.proofs.UpLaws.{up_at}
 use Rattle.laws.proofs.RangeLaws.{get_or-seg}
 use Rattle.shapes.specs.Group.{Group}
@@ -49,7 +49,7 @@ shared-merges n all = merges-most (groups_of n all)
 
 shared-ids : (n : ℕ) (all : List Set) (x : ℕ) → x < length all → get_or (shared n all).ids x 0 < length (shared n all).sets
 unfolding shared
-shared-ids n all x h = all_get_d (λ (y : ℕ). y < length (distinct all)) (shared_ids all) x 0 (ids-below all) (omega (arith, ids-length all))
+shared-ids n all x h = all-get_or (λ (y : ℕ). y < length (distinct all)) (shared_ids all) x 0 (ids-below all) (omega (arith, ids-length all))
 
 own-ids : (n : ℕ) (all : List Set) (x : ℕ) → x < length all → get_or (own n all).ids x 0 < length (own n all).sets
 unfolding own

@@ -12,7 +12,7 @@ use Rattle.laws.specs.Bounded.{tabulate}
 use Rattle.laws.specs.LentRange.{seg}
 use Rattle.laws.specs.Joining.{join_all}
 use Rattle.laws.proofs.BytesLaws.{be-drop, bytes_low}
-use Rattle.laws.proofs.EveryLaws.{all, all_map, all_append, all_get_d}
+use Rattle.laws.proofs.EveryLaws.{all, all_map, all_append, all-get_or}
 use Rattle.laws.proofs.Products.{row_fits}
 use Rattle.laws.proofs.RangeLaws.{seg-add, seg-cons, seg-none}
 use Rattle.store.specs.Lent.{chain, coords_at, coords_in}
@@ -92,7 +92,7 @@ coords-are job bytes axes n room w starts used below from =
     let z : 0 + i ≡ i = omega arith in
     ap (λ (j : ℕ). coords_at job axes (get_or w (starts + j) 0)) z
     ∙ ap (coords_at job axes) (from i h)
-    ∙ coords-at-are job bytes axes n (get_or used i 0) room (all_get_d (λ q. q < n) used i 0 below h))
+    ∙ coords-at-are job bytes axes n (get_or used i 0) room (all-get_or (λ q. q < n) used i 0 below h))
 
 -- ---- bytes
 

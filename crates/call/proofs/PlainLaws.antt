@@ -1,15 +1,14 @@
 -- The plain profile is as none: the answer, and all that is left. Assumes nothing.
 use mathlib.Core.Path.{◌≡◌, refl, ap, ◌∙◌}
-use mathlib.Core.Bool.{false, ◌&&◌}
+use mathlib.Core.Bool.{false}
 use Prim.Native.Nat.{ℕ}
-use lib.Dec.{leb}
 use Rattle.panel.specs.declared.Profile.TheVariants.{Plain}
 use Rattle.panel.proofs.PanelledLaws.{panelled-plain}
 use Rattle.narrow.specs.Columns.{is_too_wide}
 use Rattle.finishing.specs.Buffers.{lengths}
 use Rattle.said.specs.Job.{Outcome, refused, fine}
 use Rattle.call.specs.Lending.{Lending}
-use Rattle.call.specs.Build.{answer_from, left_from, outcome_of, answer_of, after}
+use Rattle.call.specs.Build.{outcome_of, answer_of, after}
 use Rattle.call.specs.Profiled.{is_wide, wide_of, answer_with, left_with, answer_by, after_by}
 
 plain-narrow : (mode : ℕ) (o : Outcome) → wide_of Plain mode o ≡ false

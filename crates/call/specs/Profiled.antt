@@ -1,5 +1,5 @@
 -- A build by a profile: what the profile refuses by R70 to R72, and else the build as it is without one (RULES T7). Assumes nothing.
-use Rattle.std.specs.Prelude.{Bool, false, ◌&&◌, List, ℕ, leb}
+use Rattle.std.specs.Prelude.{Bool, false, ◌&&◌, ℕ, leb}
 use Rattle.laws.specs.Pick.{pick}
 use Rattle.groups.specs.Groups.{max_shapes}
 use Rattle.said.specs.Refusals.{wide_subtable}

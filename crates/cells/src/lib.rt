@@ -1,4 +1,6 @@
 // The cells of a row that are not zero, found with no look at the zeros between them: a store may name one row very often, and most of a row may be zero.
+#![tactic(auto)]
+
 mod ahead;
 mod next;
 

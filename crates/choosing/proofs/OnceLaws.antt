@@ -1,8 +1,8 @@
 -- Sorted words moved up over repeats. Assumes nothing.
-use mathlib.Core.Path.{◌≡◌, refl, sym, ap, ◌∙◌}
+use mathlib.Core.Path.{◌≡◌, refl, sym, ◌∙◌}
 use mathlib.Core.Bool.{Bool, true, false, not, ◌||◌}
 use mathlib.Core.List.{List, [], ◌∷◌}
-use mathlib.Core.Logic.{◌⊎◌, inl, inr, ⊎_elim}
+use mathlib.Core.Logic.{⊎_elim}
 use Prim.Native.Nat.{ℕ, ◌+◌, ◌-◌, ◌≤◌, ◌<◌}
 use native.Mathlib.Omega.{arith}
 use lib.Dec.{eqb}
@@ -10,9 +10,9 @@ use lib.ListN.{length, get_or, set}
 use lib.Seq.{get_or-set_same, get_or-set_other}
 use borrow.Author.Tests.{eqb-true, eqb-false, not-true, not-false}
 use Rattle.laws.specs.LentRange.{Only}
-use Rattle.laws.proofs.Cases.{or_cases, lt-or-ge, same_or_not}
+use Rattle.laws.proofs.Cases.{or_cases, lt-or-ge}
 use Rattle.laws.proofs.RangeLaws.{only-refl, only-trans, only_set}
-use Rattle.choosing.specs.Lent.{InOrder, Rising, Within, is_new, Once}
+use Rattle.choosing.specs.Lent.{InOrder, Within, is_new, Once}
 
 pub new_is : (w : List ℕ) (k i : ℕ) → is_new w k i ≡ true → 0 < k → get_or w (k - 1) 0 ≡ get_or w i 0 → ⊥
 unfolding is_new

@@ -1,6 +1,8 @@
 // The rows that are still used: a list of words (outer x 65,536 + inner), put into lent words in order, each once, and grouped by
 // subtable. Of n words lent in the list, in work: the words from 0 on, their new places from n on, and from 2n on where each
 // subtable's rows begin, with the end behind the last.
+#![tactic(auto)]
+
 mod finding;
 mod grouping;
 mod once;
@@ -15,7 +17,7 @@ use crate::once::distinct;
 use crate::sorting::sort;
 
 // How many rows are used, and of how many subtables.
-#[derive(Drop)]
+#[derive(Clone, Copy)]
 pub struct Chosen {
     pub rows: usize,
     pub tables: usize,

@@ -4,13 +4,11 @@ use mathlib.Core.Bool.{Bool, true, false, ◌&&◌}
 use mathlib.Core.List.{List, [], map}
 use Prim.Native.Nat.{ℕ, ◌+◌, ◌*◌, ◌≤◌, ◌<◌}
 use native.Mathlib.Omega.{arith}
-use lib.Dec.{leb}
 use lib.ListN.{length, get_or}
 use borrow.Author.Tests.{le-leb, lt-leb}
 use Rattle.groups.specs.Groups.{max_shapes}
 use Rattle.groups.specs.Cover.{cover_from}
 use Rattle.rows.specs.Columns.{of_width, columns_of}
-use Rattle.store.specs.Placing.{Final}
 use Rattle.store.specs.Lent.{Handed, finals_at}
 use Rattle.limits.specs.Limits.{max_regions}
 use Rattle.panel.specs.declared.Profile.{Profile}

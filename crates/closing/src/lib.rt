@@ -1,4 +1,6 @@
 // The last part of a build and of a forecast, once merging is over.
+#![tactic(auto)]
+
 mod closing;
 mod foretelling;
 

@@ -1,4 +1,6 @@
 // Where two sets part: their values compared densely, from region 0 up, by a walk along both.
+#![tactic(auto)]
+
 ghost use Rattle.std.specs.Prelude.{◌≡◌, ◌+◌, ◌*◌, ◌<◌, ◌≤◌, length};
 ghost use Rattle.sets.specs.Set.{word_of};
 ghost use Rattle.sets.specs.Order.{parting, PartsAt};
@@ -12,7 +14,7 @@ use sets::Parting;
 const ZERO: u32 = 0x8000_0000;
 
 // The two words to compare next, their region, and how many entries of each set they take.
-#[derive(Drop)]
+#[derive(Clone, Copy)]
 struct Step {
     region: u32,
     v: u32,

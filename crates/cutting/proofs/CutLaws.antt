@@ -1,7 +1,7 @@
 -- The numbers of a subtable that is left, and the bytes of all. Assumes nothing.
 use mathlib.Core.Path.{◌≡◌, refl, sym, ap, ap₂, ◌∙◌}
 use mathlib.Core.List.{List, [], ◌∷◌}
-use Prim.Native.Nat.{ℕ, ◌+◌, ◌-◌, ◌*◌, ◌/◌, ◌%◌, ◌^◌, ◌≤◌, ◌<◌}
+use Prim.Native.Nat.{ℕ, ◌+◌, ◌-◌, ◌*◌, ◌/◌, ◌≤◌, ◌<◌}
 use native.Mathlib.Omega.{arith}
 use lib.ListN.{length, get_or}
 use Rattle.laws.specs.Bag.{sum}
@@ -9,11 +9,10 @@ use Rattle.laws.specs.Bytes.{be}
 use Rattle.laws.specs.LentRange.{Only}
 use Rattle.laws.proofs.BagLaws.{sum-next}
 use Rattle.laws.proofs.Products.{product}
-use Rattle.reader.specs.Store.{region_count, column_start, item_count, word_at, column_count, Word}
+use Rattle.reader.specs.Store.{region_count, column_start, Word}
 use Rattle.reader.proofs.StoreLaws.{SubtableFits, subtable-fits}
-use Rattle.stores.specs.Stores.{offset_at}
 use Rattle.stores.proofs.PartLaws.{be-two}
-use Rattle.cutting.specs.LentCut.{start_of, rows_of, table_of, TableFit, StoreFit, CutIs, cut_size}
+use Rattle.cutting.specs.LentCut.{start_of, rows_of, table_of, TableFit, CutIs, cut_size}
 
 module _ {s : List ℕ} {n : ℕ} {w : List ℕ} {g : ℕ} (f : TableFit s n w g) where
   abbrev at : ℕ

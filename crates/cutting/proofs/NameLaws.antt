@@ -1,10 +1,10 @@
 -- The regions that are named: marks, and numbers. Assumes nothing.
-use mathlib.Core.Path.{◌≡◌, refl, sym, ap, ap₂, ◌∙◌}
-use mathlib.Core.Bool.{Bool, true, false, not, ◌||◌, or-true, or-false}
+use mathlib.Core.Path.{◌≡◌, refl, sym, ap, ◌∙◌}
+use mathlib.Core.Bool.{Bool, true, false, ◌||◌, or-true, or-false}
 use mathlib.Core.List.{List, [], ◌∷◌, ◌++◌}
 use mathlib.Core.Logic.{⊎_elim}
 use mathlib.Core.Option.{Option, none, some}
-use Prim.Native.Nat.{ℕ, zero, suc, ◌+◌, ◌-◌, ◌*◌, ◌≤◌, ◌<◌}
+use Prim.Native.Nat.{ℕ, suc, ◌+◌, ◌*◌, ◌≤◌, ◌<◌}
 use native.Mathlib.Omega.{arith}
 use lib.Dec.{eqb}
 use lib.ListN.{length, get_or, set, length-set}
@@ -14,13 +14,13 @@ use Rattle.laws.specs.Bounded.{tabulate}
 use Rattle.laws.specs.LentRange.{Only}
 use Rattle.laws.specs.Bytes.{be}
 use Rattle.laws.specs.Sorting.{keep, rank}
-use Rattle.laws.proofs.Cases.{lt-or-ge, same_or_not, or_cases, true-false, Which, which}
+use Rattle.laws.proofs.Cases.{lt-or-ge, same_or_not, true-false, Which, which}
 use Rattle.laws.proofs.Cases.Which.{holds, fails}
 use Rattle.laws.proofs.BoundedLaws.{tabulate-snoc}
-use Rattle.laws.proofs.EveryLaws.{all_get_d}
+use Rattle.laws.proofs.EveryLaws.{all-get_or}
 use Rattle.laws.proofs.RangeLaws.{only-refl, only-trans, only_set}
 use Rattle.laws.proofs.RankLaws.{rank-in, rank-out, rank_most}
-use Rattle.reader.specs.Store.{words, region_count, column_count, regions_at}
+use Rattle.reader.specs.Store.{region_count, column_count, regions_at}
 use Rattle.reader.proofs.StoreLaws.{words-length, words-at, ok-below}
 use Rattle.stores.specs.Stores.{Table, table_at}
 use Rattle.stores.specs.Dropping.{has, named}
@@ -41,7 +41,7 @@ has-place (y ∷ l) x h = go (which (eqb y x)) (λ r. has-place l x r)
     go (fails e) rec = let q = rec (rw e at h) in (suc q.0, omega (arith, q.1), q.2)
 
 pub has-at : (l : List ℕ) (j : ℕ) → j < length l → has l (get_or l j 0) ≡ true
-has-at l j h = all_get_d (λ x. has l x ≡ true) l j 0 (has_all l) h
+has-at l j h = all-get_or (λ x. has l x ≡ true) l j 0 (has_all l) h
 
 named-append : (ts : List (Option Table)) (t : Table) (r : ℕ) → named (ts ++ (some t ∷ [])) r ≡ named ts r || has t.columns r
 unfolding named

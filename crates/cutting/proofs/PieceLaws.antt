@@ -12,7 +12,7 @@ use Rattle.laws.specs.Bounded.{tabulate, up_to}
 use Rattle.laws.specs.LentRange.{seg}
 use Rattle.laws.specs.Sorting.{keep}
 use Rattle.laws.specs.Joining.{join_all}
-use Rattle.laws.proofs.RangeLaws.{seg-cons, seg-none, length-seg}
+use Rattle.laws.proofs.RangeLaws.{seg-cons, seg-none}
 use Rattle.rows.specs.Lent.{Put}
 use Rattle.rows.proofs.OverLaws.{set-over}
 use Rattle.rows.proofs.PutLaws.{Putting, put-start, put-more, put-done}

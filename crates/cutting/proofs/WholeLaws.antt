@@ -1,11 +1,10 @@
 -- The whole store written: header, offsets, region list, subtables. Assumes nothing.
 use mathlib.Core.Path.{◌≡◌, refl, sym, ap, ap₂, ◌∙◌}
-use mathlib.Core.Bool.{Bool, true, false, not}
-use mathlib.Core.List.{List, [], ◌∷◌, ◌++◌, map}
-use Prim.Native.Nat.{ℕ, zero, suc, ◌+◌, ◌-◌, ◌*◌, ◌≤◌, ◌<◌}
+use mathlib.Core.Bool.{true}
+use mathlib.Core.List.{List, [], ◌++◌, map}
+use Prim.Native.Nat.{ℕ, zero, suc, ◌+◌, ◌*◌, ◌≤◌, ◌<◌}
 use native.Mathlib.Nat.{mul_comm}
 use native.Mathlib.Omega.{arith}
-use lib.Dec.{eqb}
 use lib.ListN.{length, get_or, length-append, length-map}
 use borrow.Author.Tests.{eq-eqb, ne_eqb}
 use Rattle.laws.specs.Bag.{sum}
@@ -23,11 +22,11 @@ use Rattle.laws.proofs.JoinLaws.{join-long, join-snoc}
 use Rattle.laws.proofs.BoundedLaws.{tabulate-snoc}
 use Rattle.laws.proofs.Products.{row_fits}
 use Rattle.laws.proofs.RangeLaws.{length-seg}
-use Rattle.reader.specs.Store.{list_at, axis_count, region_count, is_header_ok, Word}
+use Rattle.reader.specs.Store.{list_at, axis_count, region_count, is_header_ok}
 use Rattle.reader.proofs.StoreLaws.{header-fits}
 use Rattle.rows.specs.Lent.{Put}
 use Rattle.rows.proofs.PutLaws.{Putting, put-start, put-more, put_last, put-join, put-long}
-use Rattle.cutting.specs.LentCut.{StoreFit, StoreNamed, cut_bytes, cut_size, marked, header_put, spots_put, regions_put, list_put, tables_put, store_put}
+use Rattle.cutting.specs.LentCut.{StoreFit, cut_bytes, cut_size, marked, header_put, spots_put, regions_put, list_put, tables_put, store_put}
 use Rattle.cutting.proofs.PieceLaws.{pieces, rest, pieces-start, pieces-over, pieces_more, pieces_room, pieces-done, pieces-long, some, left, some-start, some-room, some_in, some_out, some-done}
 use Rattle.cutting.proofs.TableLaws.{cut-long}
 

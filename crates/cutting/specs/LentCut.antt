@@ -1,6 +1,6 @@
 -- What the clauses of `src/` say of lent words and bytes. Of n words in the list, work has the chosen rows in order from 0 on, from 2n on where
 -- the rows of each subtable left begin, and from 3n + 1 on a word for each region. Assumes nothing.
-use Rattle.std.specs.Prelude.{◌≡◌, Bool, true, false, not, ◌||◌, List, [], ◌∷◌, ◌++◌, map, ℕ, zero, suc, ◌+◌, ◌-◌, ◌*◌, ◌/◌, ◌%◌, ◌≤◌, ◌<◌, eqb, length, get_or}
+use Rattle.std.specs.Prelude.{◌≡◌, Bool, true, not, List, [], ◌∷◌, ◌++◌, map, ℕ, ◌+◌, ◌-◌, ◌*◌, ◌/◌, ◌%◌, ◌≤◌, ◌<◌, eqb, length, get_or}
 use Rattle.std.proofs.Math.Option.{Option, some}
 use Rattle.laws.specs.Pick.{pick}
 use Rattle.laws.specs.Bag.{sum}
@@ -9,7 +9,7 @@ use Rattle.laws.specs.Bounded.{tabulate, up_to}
 use Rattle.laws.specs.Sorting.{keep, rank}
 use Rattle.laws.specs.Bytes.{be, bytes_of}
 use Rattle.laws.specs.Joining.{join_all}
-use Rattle.reader.specs.Store.{list_at, axis_count, region_count, is_header_ok, column_start, item_count, word_at, column_count, is_subtable_ok}
+use Rattle.reader.specs.Store.{list_at, axis_count, region_count, is_header_ok, item_count, word_at, column_count, is_subtable_ok}
 use Rattle.rows.specs.Lent.{head_bytes}
 use Rattle.stores.specs.Stores.{Table, offset_at, rows_at, row_long, table_at}
 use Rattle.stores.specs.Dropping.{named}

@@ -8,7 +8,7 @@ use laws::wide;
 use reader::{be, column_at};
 
 // Where it stands, its word count, how many columns it has, the first of its chosen rows and how many there are.
-#[derive(Drop)]
+#[derive(Clone, Copy)]
 pub struct Cut {
     pub at: usize,
     pub word: usize,

@@ -1,5 +1,7 @@
 // A store with only the rows that are chosen (crate choosing): how many bytes its subtables take, which regions they name and by which
 // numbers, and its bytes.
+#![tactic(auto)]
+
 mod cut;
 mod naming;
 mod table;

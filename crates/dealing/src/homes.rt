@@ -7,7 +7,7 @@ use laws::wide;
 // Where the tables lie, of n starting groups: their slots by number from `from` on; what each number was joined into from `into` on; a
 // number's slot plus 1 from `place` on; the place of a slot in the final order from `spot` on; and the final group of a starting slot
 // from `home` on.
-#[derive(Drop)]
+#[derive(Clone, Copy)]
 pub struct HomeTables {
     pub groups: usize,
     pub from: usize,

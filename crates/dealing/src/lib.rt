@@ -1,5 +1,7 @@
 // From the living groups in their order to their rows: the final group of each starting slot, and each group's sets dealt to it in the
 // order of the sets.
+#![tactic(auto)]
+
 mod homes;
 mod line;
 

@@ -1,27 +1,20 @@
 -- What a call leaves in everything lent: buffers after a refusal (L1), work and pair records after every answer (L2). Assumes nothing.
-use mathlib.Core.Path.{◌≡◌, refl, sym, ap, ◌∙◌}
-use mathlib.Core.List.{List, [], ◌∷◌}
-use mathlib.Core.Logic.{◌⊎◌, inl, inr, ⊎_elim}
-use Prim.Native.Nat.{ℕ, ◌/◌, ◌≤◌, ◌<◌}
+use mathlib.Core.Path.{◌≡◌, sym, ◌∙◌}
+use mathlib.Core.Logic.{⊎_elim}
+use Prim.Native.Nat.{ℕ, ◌≤◌, ◌<◌}
 use native.Mathlib.Omega.{arith}
 use lib.ListN.{length, replicate}
-use lib.Dec.{eqb}
 use borrow.Author.Tests.{eq-eqb, ne_eqb}
-use Rattle.laws.specs.Pick.{pick}
-use Rattle.pairs.specs.declared.Pair.{Pair}
 use Rattle.said.specs.Records.{record_count}
-use Rattle.said.specs.Refusals.{early_refusal}
-use Rattle.said.specs.Job.{Said, Outcome, refused, fine, outcome}
+use Rattle.said.specs.Job.{Said, refused, fine}
 use Rattle.job.specs.Check.{work_left}
 use Rattle.finishing.specs.declared.answers.Report.{Report}
-use Rattle.finishing.specs.declared.answers.Built.{Built}
 use Rattle.finishing.specs.declared.answers.Built.TheVariants.{Refused, Done}
-use Rattle.finishing.specs.Buffers.{Lengths, lengths}
-use Rattle.finishing.specs.Late.{late_no, buffers_left}
+use Rattle.finishing.specs.Late.{buffers_left}
 use Rattle.call.specs.Lending.{Lending, no_pair}
-use Rattle.call.specs.Build.{coords_in_use, packed_of, left_from, pairs_left, outcome_of, answer_of, after}
+use Rattle.call.specs.Build.{left_from, pairs_left, outcome_of, answer_of, after}
 use Rattle.refusing.proofs.WalkEnds.{walk_no}
-use Rattle.demands.proofs.OutcomeRows.{early, outcome-by, outcome-walked, early-few, walked-only, job_only, late-many, late, Answers, answers}
+use Rattle.demands.proofs.OutcomeRows.{early, outcome-by, outcome-walked, early-few, walked-only, job_only, late, Answers, answers}
 use Rattle.demands.proofs.OutcomeRows.Answers.{by-job, by-late, done}
 
 -- ---- output, ids, map, log and origins

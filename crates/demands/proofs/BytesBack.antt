@@ -1,9 +1,9 @@
 -- D2 from the job's bytes to the store's (specs/SetsRead.antt): what the job says (`told`) meets what is read back
 -- (Demand2). Assumes nothing.
 use mathlib.Core.Path.{◌≡◌, refl, sym, ap, ◌∙◌}
-use mathlib.Core.List.{List, [], map}
+use mathlib.Core.List.{List, []}
 use mathlib.Core.Logic.{inl, inr, ⊎_elim}
-use Prim.Native.Nat.{ℕ, ◌+◌, ◌*◌, ◌%◌, ◌^◌, ◌<◌}
+use Prim.Native.Nat.{ℕ, ◌+◌, ◌%◌, ◌^◌, ◌<◌}
 use native.Mathlib.Omega.{arith}
 use lib.IntN.{pos}
 use lib.ListN.{length, get_or, take}
@@ -28,7 +28,7 @@ use Rattle.call.specs.Build.{region_bytes, coords_in_use, answer_of, after}
 use Rattle.demands.specs.SetsRead.{listed, named_by, value_at, InStore, SetRead, SetsRead}
 use Rattle.accepted.proofs.Accepted.{coords-long}
 use Rattle.demands.proofs.Demand2.{demand2}
-use Rattle.demands.specs.Demand2.{SetBack, RegionBack, InList, Demand2}
+use Rattle.demands.specs.Demand2.{SetBack}
 
 -- ---- a record's value
 

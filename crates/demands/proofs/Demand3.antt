@@ -1,9 +1,8 @@
 -- D3 (specs/Demand3.antt), of the merges that a done build makes and logs; and what mode 1 answers for them. Assumes
 -- nothing.
 use mathlib.Core.Path.{◌≡◌, refl, sym, ap, subst, ◌∙◌}
-use mathlib.Core.Option.{some}
 use mathlib.Core.List.{List, [], map, ◌∷◌}
-use Prim.Native.Nat.{ℕ, zero, suc, ◌+◌, ◌-◌, ◌*◌, ◌/◌, ◌≤◌, ◌<◌}
+use Prim.Native.Nat.{ℕ, ◌+◌, ◌<◌}
 use native.Mathlib.Omega.{arith}
 use lib.ListN.{length, get_or}
 use Rattle.laws.specs.Every.{All}
@@ -30,7 +29,7 @@ use Rattle.finishing.specs.declared.answers.Report.{Report}
 use Rattle.finishing.specs.declared.answers.Built.TheVariants.{Done}
 use Rattle.finishing.specs.Late.{store_for, origin_words, report_of}
 use Rattle.call.specs.Lending.{Lending}
-use Rattle.call.specs.Build.{coords_in_use, packed_of, outcome_of, answer_of, after}
+use Rattle.call.specs.Build.{coords_in_use, packed_of, answer_of}
 use Rattle.accepted.proofs.Accepted.{Accepted, accepted, packed_in, log_is, store-front, log-front, shared-is, sets-are, packed-is, origins-is, origins-front}
 use Rattle.demands.proofs.JoinSteps.{joins}
 use Rattle.demands.specs.Demand3.{homes_of, MadeOf, Ruled, groups_said, Demand3, NoMerging}

@@ -1,9 +1,9 @@
 -- Rows 1 to 4 of the refusal table, each exactly where it says, at place 0, in the order T1. Assumes nothing.
-use mathlib.Core.Path.{◌≡◌, refl, sym, ap, ◌∙◌}
+use mathlib.Core.Path.{◌≡◌, refl, sym, ◌∙◌}
 use mathlib.Core.Bool.{Bool, true, false, ◌&&◌}
 use mathlib.Core.List.{List, [], ◌∷◌}
 use mathlib.Core.Logic.{◌⊎◌, inl, inr, ⊎_elim}
-use Prim.Native.Nat.{ℕ, ◌/◌, ◌%◌, ◌≤◌, ◌<◌}
+use Prim.Native.Nat.{ℕ, ◌≤◌, ◌<◌}
 use native.Mathlib.Omega.{arith}
 use lib.ListN.{length}
 use lib.Dec.{eqb, ltb, leb}
@@ -11,8 +11,6 @@ use borrow.Author.Tests.{ltb-true, ltb-false, leb-true, leb-false, eqb-true, eqb
 use Rattle.laws.proofs.Cases.{and-true}
 use Rattle.said.specs.Records.{whole_records_in, record_count, spare_bytes, most_records}
 use Rattle.said.specs.Refusals.{first_failed, job_work, pair_records, early_refusal}
-use Rattle.said.specs.Job.{outcome, refused}
-use Rattle.finishing.specs.declared.answers.Built.{Built}
 use Rattle.finishing.specs.declared.answers.Built.TheVariants.{Refused}
 use Rattle.call.specs.Lending.{Lending}
 use Rattle.call.specs.Build.{answer_of}

@@ -1,7 +1,7 @@
 -- Row 8 of the refusal table, exactly where it says; its place is the record count. And a job is taken exactly when each of its records is fine and it
 -- is finished. Assumes nothing.
 use mathlib.Core.Path.{◌≡◌, refl, sym, ap, ap₂, ◌∙◌}
-use Prim.Native.Nat.{ℕ, ◌/◌}
+use Prim.Native.Nat.{ℕ}
 use native.Mathlib.Omega.{arith}
 use lib.ListN.{length}
 use Rattle.said.specs.Records.{record_count}

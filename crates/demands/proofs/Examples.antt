@@ -2,7 +2,7 @@
 -- it answers and leaves in everything lent, by the definitions. Assumes nothing.
 use mathlib.Core.Path.{◌≡◌, refl}
 use mathlib.Core.List.{List, [], ◌∷◌, ◌++◌, map}
-use Prim.Native.Nat.{ℕ, suc, ◌-◌, ◌/◌}
+use Prim.Native.Nat.{ℕ, suc, ◌-◌}
 use lib.IntN.{ℤ, pos, negsuc}
 use lib.ListN.{length, replicate}
 use Rattle.laws.specs.Bag.{weigh}
@@ -43,8 +43,8 @@ use Rattle.finishing.specs.declared.answers.Built.TheVariants.{Done}
 use Rattle.pairs.specs.declared.Pair.{Pair}
 use Rattle.finishing.specs.Buffers.{Buffers, buffers, lengths}
 use Rattle.finishing.specs.Late.{store_for, regions_kept, origin_words, late_no, report_of, late_answer, written, buffers_left}
-use Rattle.call.specs.Lending.{Lending, lending}
-use Rattle.call.specs.Build.{region_bytes, coords_in_use, packed_of, answer_from, left_from, outcome_of, answer_of, after}
+use Rattle.call.specs.Lending.{lending}
+use Rattle.call.specs.Build.{region_bytes, coords_in_use, packed_of, answer_from, left_from, answer_of, after}
 
 -- ---- jobs of one axis, with R0 and R1: in each set a region number and a value for each value record
 

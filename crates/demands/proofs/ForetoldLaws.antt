@@ -22,7 +22,7 @@ use Rattle.call.proofs.AnswerLaws.{too_many}
 use Rattle.accepted.proofs.Accepted as accepted
 use Rattle.accepted.proofs.ForetoldLaws.{forecast-long}
 use Rattle.refusing.specs.Counts.{end_records}
-use Rattle.demands.specs.Rooms.{shape_count, distinct_ids, store_bytes, OriginsFit, OutFit}
+use Rattle.demands.specs.Rooms.{shape_count, store_bytes, OriginsFit, OutFit}
 use Rattle.demands.specs.Foretold.{Exact, building, AsMuch, RoomFor, Foretold}
 use Rattle.demands.proofs.OutcomeRows.{answer-refused, answer-late}
 use Rattle.demands.proofs.LateRows.{ids-most, ends_of, store-too-big, is-done}

@@ -6,10 +6,9 @@ use Prim.Native.Nat.{ℕ, zero, suc, ◌+◌, ◌-◌, ◌≤◌, ◌<◌}
 use native.Mathlib.Omega.{arith}
 use lib.ListN.{length, get_or, length-append}
 use lib.Seq.{get_or-append_seam}
-use Rattle.laws.specs.Every.{All}
-use Rattle.laws.proofs.EveryLaws.{all-imp, members}
+use Rattle.laws.proofs.EveryLaws.{members}
 use Rattle.shapes.specs.Group.{Group}
-use Rattle.rule.specs.Model.{Living, Pair, Entry, State, gain_of, choice, entry, merge, follow, step, run, start, merged, total}
+use Rattle.rule.specs.Model.{Pair, Entry, State, gain_of, choice, entry, merge, follow, step, run, start, merged, total}
 use Rattle.rule.proofs.PairLaws.{pairs-all, each-pairs, chosen-has}
 use Rattle.rule.proofs.Theorems.{Merge, each-merge, run-merges, run-count, stops}
 use Rattle.demands.specs.Demand3.{blank, Joins}

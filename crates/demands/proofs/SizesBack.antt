@@ -1,8 +1,6 @@
 -- D3's size after merging is that of the groups that are written (specs/Sized.antt): the rule's (Demand3) is that of
 -- the sets (`sizes`). Assumes nothing.
 use mathlib.Core.Path.{◌≡◌, refl, ap}
-use mathlib.Core.List.{List}
-use Prim.Native.Nat.{ℕ}
 use native.Mathlib.Omega.{arith}
 use lib.ListN.{length}
 use Rattle.laws.specs.Bag.{weigh}
@@ -15,7 +13,7 @@ use Rattle.sizes.proofs.Counted.{sizes}
 use Rattle.finishing.specs.declared.answers.Report.{Report}
 use Rattle.finishing.specs.declared.answers.Built.TheVariants.{Done}
 use Rattle.call.specs.Lending.{Lending}
-use Rattle.call.specs.Build.{packed_of, answer_of}
+use Rattle.call.specs.Build.{answer_of}
 use Rattle.demands.specs.Sized.{Sized}
 use Rattle.accepted.proofs.Accepted.{shared-is}
 use Rattle.demands.proofs.Demand3.{demand3}

@@ -2,12 +2,12 @@
 -- Assumes nothing.
 use Rattle.std.specs.Prelude.{◌≡◌, ℕ, suc, ◌+◌, ◌-◌, ◌*◌, ◌/◌, ◌≤◌, ◌<◌, eqb, length, get_or, take}
 use Rattle.std.proofs.Math.Option.{some}
-use mathlib.Core.List.{List, [], ◌∷◌, map, Memᴰ}
+use mathlib.Core.List.{List, [], map, Memᴰ}
 use Rattle.laws.specs.Pick.{pick}
 use Rattle.laws.specs.Every.{All, EachTwo}
 use Rattle.laws.specs.Bag.{weigh}
 use Rattle.laws.specs.Sorting.{sorted}
-use Rattle.shapes.specs.Shape.{Shape, join}
+use Rattle.shapes.specs.Shape.{join}
 use Rattle.shapes.specs.Group.{Group}
 use Rattle.sets.specs.Ids.{distinct}
 use Rattle.groups.specs.Groups.{groups_of}

@@ -1,6 +1,6 @@
 -- R1 to R4 in plain numbers, in the order T1. Each record says what holds where the numbers up to its own
 -- are not given. Assumes nothing.
-use Rattle.std.specs.Prelude.{List, ◌≡◌, ℕ, ◌/◌, ◌%◌, ◌≤◌, ◌<◌, length}
+use Rattle.std.specs.Prelude.{List, ◌≡◌, ℕ, ◌≤◌, ◌<◌, length}
 use Rattle.said.specs.Refusals.{job_work, pair_records}
 use Rattle.call.specs.Lending.{Lending}
 use Rattle.said.specs.Records.{spare_bytes, whole_records_in}

@@ -1,6 +1,6 @@
 -- A job's sets in the memory that a done build leaves, from the bytes of the one to the bytes of the other: D2 with
 -- nothing in between. Assumes nothing.
-use Rattle.std.specs.Prelude.{◌≡◌, List, ◌⊎◌, ℕ, ◌+◌, ◌*◌, ◌<◌, ℤ, pos, length, get_or, take, drop}
+use Rattle.std.specs.Prelude.{◌≡◌, List, ◌⊎◌, ℕ, ◌+◌, ◌*◌, ◌<◌, ℤ, pos, get_or, take, drop}
 use Rattle.laws.specs.Bytes.{be}
 use Rattle.laws.specs.Signed.{signed}
 use Rattle.reader.specs.declared.reader.Reading.TheVariants.{Written, NoColumn}

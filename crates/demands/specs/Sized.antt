@@ -1,5 +1,5 @@
 -- The modelled size after merging, of a done build in mode 0: what the groups that are written cost, each by its own number of rows. Assumes nothing.
-use Rattle.std.specs.Prelude.{◌≡◌, List, ℕ, length}
+use Rattle.std.specs.Prelude.{◌≡◌, length}
 use Rattle.laws.specs.Bag.{weigh}
 use Rattle.said.specs.Job.{Said, fine}
 use Rattle.sizes.specs.Sizes.{cost_of, Sizes}

@@ -6,9 +6,8 @@ use Prim.Native.Nat.{ℕ, ◌+◌, ◌-◌, ◌*◌, ◌≤◌, ◌<◌}
 use native.Mathlib.Omega.{arith}
 use lib.Dec.{eqb}
 use lib.ListN.{length, get_or}
-use Rattle.laws.specs.LentRange.{Apart, Only, seg}
-use Rattle.laws.specs.Sorting.{sorted, keep}
-use Rattle.laws.specs.Every.{All}
+use Rattle.laws.specs.LentRange.{seg}
+use Rattle.laws.specs.Sorting.{keep}
 use Rattle.laws.proofs.Products.{row_fits}
 use Rattle.laws.proofs.RangeLaws.{apart-part, only-trans, only-join, only-widen, only-weaken, seg-ext, length-seg, get_or-seg, all-seg}
 use Rattle.laws.proofs.BagLaws.{sum_same}

@@ -8,7 +8,7 @@ use Rattle.laws.specs.Every.{All}
 use Rattle.laws.specs.Bounded.{tabulate}
 use Rattle.laws.specs.Signed.{value}
 use Rattle.laws.proofs.Cases.{lt-or-ge}
-use Rattle.laws.proofs.BoundedLaws.{length-tabulate, get_d_tabulate}
+use Rattle.laws.proofs.BoundedLaws.{length-tabulate, get_or-tabulate}
 use Rattle.shapes.specs.declared.width.ColumnBits.{ColumnBits}
 use Rattle.shapes.specs.declared.width.ColumnBits.TheVariants.{None, One, Two, Four}
 use Rattle.shapes.specs.Width.{width_of, cost_of}
@@ -30,7 +30,7 @@ width-cost Four = record { most = omega arith; not_three = λ e. omega arith }
 shape-costs : (regions : ℕ) (s : Set) (k : ℕ) → IsCost (get_or (shape_of regions s) k 0)
 unfolding shape_of
 shape-costs regions s k = ⊎_elim
-    (λ (p : k < regions). rw (get_d_tabulate 0 regions (λ k. cost_of (width_of (value (word_of s k)))) 0 k p) (width-cost (width_of (value (word_of s (0 + k))))))
+    (λ (p : k < regions). rw (get_or-tabulate 0 regions (λ k. cost_of (width_of (value (word_of s k)))) 0 k p) (width-cost (width_of (value (word_of s (0 + k))))))
     (λ (p : regions ≤ k).
     rw (get_or-eq_default (tabulate 0 regions (λ k. cost_of (width_of (value (word_of s k))))) 0 {n = k} (omega (arith, length-tabulate 0 regions (λ k. cost_of (width_of (value (word_of s k)))))))
     (record { most = omega arith; not_three = λ e. omega arith }))

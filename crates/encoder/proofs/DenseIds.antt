@@ -14,7 +14,7 @@ use Rattle.laws.specs.Bounded.{tabulate, up_to}
 use Rattle.laws.specs.Sorting.{sorted, keep}
 use Rattle.laws.proofs.Cases.{same_or_not}
 use Rattle.laws.proofs.ListLaws.{map-append}
-use Rattle.laws.proofs.EveryLaws.{all-imp, all_map, all_get_d}
+use Rattle.laws.proofs.EveryLaws.{all-imp, all_map, all-get_or}
 use Rattle.laws.proofs.SortLaws.{sorted_all, keep_append, keep-yes, keep-not, keep_same}
 use Rattle.laws.proofs.SortMap.{sorted-map, sorted-same, keep-map, keep-keep, keep_all, keep-sorted}
 use Rattle.laws.proofs.UpLaws.{up-all, up-snoc}
@@ -99,7 +99,7 @@ module _ (all : List Set) where
 
   module _ (asc : All (Ascending 0) all) where
     at : (x : ℕ) → x < length all → Ascending 0 (get_or all x [])
-    at x h = all_get_d (Ascending 0) all x [] asc h
+    at x h = all-get_or (Ascending 0) all x [] asc h
 
     late-trans : (x y z : ℕ) → x < length all → y < length all → z < length all
         → no_later all x y ≡ true → no_later all y z ≡ true → no_later all x z ≡ true

@@ -2,7 +2,7 @@
 use mathlib.Core.Path.{◌≡◌, refl, sym, ap, subst, ◌∙◌}
 use mathlib.Core.List.{List, [], ◌∷◌}
 use mathlib.Core.Logic.{⊎_elim}
-use Prim.Native.Nat.{ℕ, ◌+◌, ◌*◌, ◌≤◌, ◌<◌, min}
+use Prim.Native.Nat.{ℕ, ◌+◌, ◌≤◌, ◌<◌}
 use native.Mathlib.Omega.{arith}
 use lib.ListN.{length, get_or}
 use Rattle.laws.specs.Every.{All, EachTwo}
@@ -19,7 +19,7 @@ use Rattle.laws.proofs.UpLaws.{up-all}
 use Rattle.shapes.specs.Group.{Group}
 use Rattle.sets.specs.Set.{Set}
 use Rattle.sets.specs.Ids.{place, shared_ids, distinct}
-use Rattle.sets.specs.Lent.{set_of, sets_in, is_first_of_like, at_most, Held, IdsFit, Identified}
+use Rattle.sets.specs.Lent.{set_of, sets_in, is_first_of_like, at_most, IdsFit, Identified}
 use Rattle.sets.proofs.IdLaws.{distinct-most}
 use Rattle.sets.proofs.HeldLaws.{Kept, kept-only, kept_trans, set_same, sets_same, most-same, first-same, held_kept, sets-length}
 use Rattle.grouping.specs.declared.Added.{Added}
@@ -28,7 +28,6 @@ use Rattle.groups.specs.Groups.{shape_of, groups_of}
 use Rattle.grouping.specs.LentGroups as tab
 use Rattle.groups.proofs.GroupLaws.{Long, groups-long, groups-unlike, groups-few}
 use Rattle.encoder.specs.declared.places.Places.{Places}
-use Rattle.encoder.specs.declared.encoded.Gathering.{Gathering}
 use Rattle.encoder.specs.declared.encoded.Gathering.TheVariants as gathering
 use Rattle.encoder.specs.LentPlaces.{Laid}
 use Rattle.encoder.specs.Lent.{Fit}

@@ -14,7 +14,7 @@ use Rattle.laws.specs.Every.{All, EachTwo}
 use Rattle.laws.specs.Sorting.{insert, sorted}
 use Rattle.laws.proofs.Cases.{same_or_not, Which, which}
 use Rattle.laws.proofs.Cases.Which.{holds, fails}
-use Rattle.laws.proofs.EveryLaws.{all-imp, all-and, all_map, all_get_d, two-get_or}
+use Rattle.laws.proofs.EveryLaws.{all-imp, all-and, all_map, all-get_or, two-get_or}
 use Rattle.laws.proofs.Products.{row_fits}
 use Rattle.laws.proofs.SortLaws.{insert_all, sorted_all}
 use Rattle.laws.proofs.SortMap.{sorted-map, sorted-same, length-sorted}
@@ -195,7 +195,7 @@ module _ {t : MergeTables} {j m b a : ℕ} {w w' : List ℕ} (o : Optimized t j 
   line-long = length-map (sorted is_ahead living) (slot_of t w') ∙ length-sorted is_ahead living
 
   pub line-below : (p : ℕ) → p < length living → get_or (map (slot_of t w') (sorted is_ahead living)) p 0 < t.groups
-  line-below p h = all_get_d (λ x. x < t.groups) (map (slot_of t w') (sorted is_ahead living)) p 0
+  line-below p h = all-get_or (λ x. x < t.groups) (map (slot_of t w') (sorted is_ahead living)) p 0
       (all_map (λ x. x < t.groups) (slot_of t w') (sorted is_ahead living) (sorted_all is_ahead (λ g. slot_of t w' g < t.groups) living slots-below))
       (omega (arith, line-long))
 

@@ -1,19 +1,19 @@
 -- Which group a shape has, whether a number is among others, and where an element of a sorted list stands. Assumes nothing.
-use mathlib.Core.Path.{◌≡◌, refl, sym, ap, ap₂, subst, ◌∙◌}
+use mathlib.Core.Path.{◌≡◌, refl, sym, ap, ap₂, ◌∙◌}
 use mathlib.Core.Logic.{⊎_elim}
-use mathlib.Core.Bool.{Bool, true, false, ◌&&◌, ◌||◌}
+use mathlib.Core.Bool.{Bool, true, false, ◌||◌}
 use mathlib.Core.List.Memᴰ
 use mathlib.Core.List.{List, [], ◌∷◌, Memᴰ}
-use Prim.Native.Nat.{ℕ, zero, suc, ◌+◌, ◌≤◌, ◌<◌}
+use Prim.Native.Nat.{ℕ, zero, suc, ◌<◌}
 use native.Mathlib.Omega.{arith}
 use lib.Dec.{eqb}
 use borrow.Author.Tests.{eq-eqb, ne_eqb, eqb-true}
 use lib.ListN.{length, get_or}
 use Rattle.laws.specs.Pick.{pick}
-use Rattle.laws.specs.Every.{All, EachTwo}
+use Rattle.laws.specs.Every.{EachTwo}
 use Rattle.laws.specs.Sorting.{insert, sorted}
 use Rattle.laws.proofs.Cases.{Which, holds, fails, which, and-true, same_or_not}
-use Rattle.laws.proofs.EveryLaws.{all_get_d}
+use Rattle.laws.proofs.EveryLaws.{all-get_or}
 use Rattle.shapes.specs.Shape.{Shape}
 use Rattle.shapes.specs.Group.{Group}
 use Rattle.rule.specs.Model.{Living}
@@ -49,7 +49,7 @@ number_at [] i d s u l e = absurd (omega arith)
 number_at (g ∷ gs) zero d s u l e = rw (ap (same_shape s) (sym e) ∙ same_self s)
 number_at (g ∷ gs) (suc i) d s u l e =
     let k : i < length gs = omega arith in
-    let x = all_get_d (λ h. g.shape ≡ h.shape → ⊥) gs i d u.0 k in
+    let x = all-get_or (λ h. g.shape ≡ h.shape → ⊥) gs i d u.0 k in
     rw (same_false s g.shape (λ z. x (sym z ∙ e))) (ap suc (number_at gs i d s u.1 k e))
 
 -- ---- numbers

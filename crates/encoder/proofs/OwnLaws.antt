@@ -32,7 +32,6 @@ use Rattle.shaping.specs.Lent.{CoverFit, CoverAt}
 use Rattle.groups.proofs.GroupLaws.{shape-length}
 use Rattle.grouping.proofs.GroupSteps.{shape-narrow}
 use Rattle.rule.specs.Told.{words}
-use Rattle.store.specs.Placing.{Final}
 use Rattle.store.specs.Lent.{final_at, finals_at}
 use Rattle.store.proofs.GroupLaws.{part-seg}
 use Rattle.encoder.specs.declared.places.Places.{Places}

@@ -1,32 +1,29 @@
 -- The groups of a job's sets are what merging asks for. Assumes nothing.
 use mathlib.Core.Path.{◌≡◌, refl, sym, ap, subst, ◌∙◌}
-use mathlib.Core.List.{List, [], ◌∷◌}
+use mathlib.Core.List.{List}
 use Prim.Native.Nat.{ℕ, ◌+◌, ◌-◌, ◌*◌, ◌≤◌, ◌<◌}
 use native.Mathlib.Omega.{arith}
 use lib.ListN.{length, get_or}
 use lib.Seq.{ext_get_or}
 use Rattle.laws.specs.Bag.{weigh}
 use Rattle.laws.specs.Bounded.{tabulate}
-use Rattle.laws.specs.Every.{All, EachTwo}
+use Rattle.laws.specs.Every.{All}
 use Rattle.laws.specs.LentRange.{Apart}
 use Rattle.laws.proofs.Products.{product}
-use Rattle.laws.proofs.EveryLaws.{all-imp, all-and, all_get_d, two-get_or}
+use Rattle.laws.proofs.EveryLaws.{all-and, all-get_or, two-get_or}
 use Rattle.laws.proofs.Pigeon.{onto}
 use Rattle.shapes.specs.Shape.{Shape}
 use Rattle.shapes.specs.Group.{Group}
 use Rattle.shapes.specs.Lent.{Narrow}
 use Rattle.planes.specs.Plane.{IsCost, plane_words}
 use Rattle.planes.proofs.FillLaws.{words-three, long-is}
-use Rattle.sets.specs.Set.{Set}
 use Rattle.sets.specs.Lent.{sets_in}
 use Rattle.sets.proofs.IdLaws.{distinct-most}
 use Rattle.sets.proofs.HeldLaws.{sets-length}
-use Rattle.table.specs.declared.Shapes.{Shapes}
 use Rattle.groups.specs.Groups.{Before, groups_of}
 use Rattle.table.specs.LentTable as tab
 use Rattle.groups.proofs.GroupLaws.{before-unlike, groups-some, groups-long, groups-unlike, groups-count}
 use Rattle.grouping.proofs.AddSteps.{none, groups-length, shape_at}
-use Rattle.slots.specs.declared.tables.MergeTables.{MergeTables}
 use Rattle.slots.specs.Lent as merge
 use Rattle.merging.specs.LentOptimized.{Ready, Optimized}
 use Rattle.rule.proofs.Theorems.{Proper}
@@ -123,7 +120,7 @@ module _ {p : Places} {groups ids : ℕ} {w : List ℕ} (f : JoinFit p groups id
   slot-narrow s h =
       let i = slot-of s h in
       let n = groups-length (shapes_at p) groups w in
-      let g = all_get_d (λ (x : Group). Narrow x.shape) (tab.groups_in (shapes_at p) groups w) i.0 none f.grouped.table.narrow (omega (arith, i.1)) in
+      let g = all-get_or (λ (x : Group). Narrow x.shape) (tab.groups_in (shapes_at p) groups w) i.0 none f.grouped.table.narrow (omega (arith, i.1)) in
       subst Narrow (shape_at (shapes_at p) groups w i.0 i.1 ∙ ap (λ (x : ℕ). tab.shape_in (shapes_at p) x w) i.2) g
 
   slot-costs : (s : ℕ) → s < groups → (k : ℕ) → IsCost (get_or (tab.shape_in (shapes_at p) s w) k 0)
@@ -131,7 +128,7 @@ module _ {p : Places} {groups ids : ℕ} {w : List ℕ} (f : JoinFit p groups id
       let i = slot-of s h in
       let n = groups-length (shapes_at p) groups w in
       let all = subst (All (λ (x : Group). (k : ℕ) → IsCost (get_or x.shape k 0))) (sym f.grouped.groups) (groups-costs p.regions (sets_in 0 p.sets w)) in
-      let g = all_get_d (λ (x : Group). (k : ℕ) → IsCost (get_or x.shape k 0)) (tab.groups_in (shapes_at p) groups w) i.0 none all (omega (arith, i.1)) in
+      let g = all-get_or (λ (x : Group). (k : ℕ) → IsCost (get_or x.shape k 0)) (tab.groups_in (shapes_at p) groups w) i.0 none all (omega (arith, i.1)) in
       subst (λ (x : Shape). (k : ℕ) → IsCost (get_or x k 0)) (shape_at (shapes_at p) groups w i.0 i.1 ∙ ap (λ (x : ℕ). tab.shape_in (shapes_at p) x w) i.2) g
 
   pub merge-laid : merge.Laid (tables_of p groups) (length w)

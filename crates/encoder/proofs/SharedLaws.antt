@@ -1,7 +1,7 @@
 -- From merged groups to final ones: what `arrange` asks holds after a merge, and what it leaves is what the definitions say. Assumes nothing.
 use mathlib.Core.Path.{◌≡◌, refl, sym, ap, ap₂, subst, ◌∙◌}
 use mathlib.Core.Logic.{⊎_elim}
-use mathlib.Core.Bool.{Bool, true, false, ◌&&◌}
+use mathlib.Core.Bool.{Bool, ◌&&◌}
 use mathlib.Core.List.{List, [], ◌∷◌, map, Memᴰ}
 use Prim.Native.Nat.{ℕ, ◌+◌, ◌-◌, ◌*◌, ◌≤◌, ◌<◌}
 use native.Mathlib.Omega.{arith}
@@ -9,16 +9,16 @@ use borrow.Author.Tests.{eq-eqb, ne_eqb}
 use lib.Dec.{eqb}
 use lib.ListN.{length, get_or, length-map}
 use lib.Seq.{ext_get_or}
-use Rattle.laws.specs.Every.{All, EachTwo}
+use Rattle.laws.specs.Every.{All}
 use Rattle.laws.specs.Bounded.{up_to, tabulate}
 use Rattle.laws.specs.LentRange.{Apart, Only, seg}
 use Rattle.laws.specs.Sorting.{sorted, keep}
 use Rattle.laws.proofs.Cases.{same_or_not}
 use Rattle.laws.proofs.Products.{row_fits}
 use Rattle.laws.proofs.ListLaws.{get_or-map-in}
-use Rattle.laws.proofs.EveryLaws.{all-imp, all_get_d, all-intro}
-use Rattle.laws.proofs.BoundedLaws.{length-tabulate, get_d_tabulate, tabulate-same}
-use Rattle.laws.proofs.RangeLaws.{apart-part, only-trans, only-weaken, only-seg, seg-ext, get_or-seg, length-seg}
+use Rattle.laws.proofs.EveryLaws.{all-imp, all-get_or, all-intro}
+use Rattle.laws.proofs.BoundedLaws.{length-tabulate, get_or-tabulate, tabulate-same}
+use Rattle.laws.proofs.RangeLaws.{apart-part, only-trans, only-weaken, seg-ext, get_or-seg, length-seg}
 use Rattle.laws.proofs.SortLaws.{sorted_all, keep_same}
 use Rattle.laws.proofs.SortMap.{length-sorted, keep_all, keep-keep}
 use Rattle.laws.proofs.SortMap as mapping
@@ -26,18 +26,17 @@ use Rattle.laws.proofs.UpLaws.{up-all}
 use Rattle.shapes.specs.Group.{Group}
 use Rattle.sets.specs.Set.{Set, Ascending}
 use Rattle.sets.specs.Ids.{place, shared_ids, distinct}
-use Rattle.sets.specs.Lent.{set_of, sets_in, is_first_of_like, at_most, Held}
+use Rattle.sets.specs.Lent.{set_of, sets_in, is_first_of_like, at_most}
 use Rattle.sets.proofs.IdLaws.{distinct-most}
 use Rattle.sets.proofs.HeldLaws.{Kept, kept-only, set_same, held_kept, sets-length, sets-at}
 use Rattle.groups.specs.Groups.{shape_of, groups_of}
 use Rattle.table.specs.LentTable as tab
 use Rattle.groups.proofs.GroupLaws.{groups-unlike}
-use Rattle.grouping.proofs.AddSteps.{none, groups-length, shape_at}
+use Rattle.grouping.proofs.AddSteps.{none, shape_at}
 use Rattle.slots.specs.declared.tables.MergeTables.{MergeTables}
 use Rattle.rule.specs.Model.{Living, start, merged, total}
 use Rattle.slots.specs.Lent as merge
 use Rattle.rule.specs.Told.{words}
-use Rattle.merging.specs.LentHeld.{written}
 use Rattle.merging.specs.LentOptimized.{Optimized}
 use Rattle.rule.proofs.Bridge.{has}
 use Rattle.merging.proofs.Unique.{final}
@@ -45,15 +44,14 @@ use Rattle.merging.proofs.Demand.{demand}
 use Rattle.store.specs.Placing.{Final}
 use Rattle.store.specs.Lent.{final_at, finals_at}
 use Rattle.encoder.specs.declared.places.Places.{Places}
-use Rattle.encoder.specs.declared.encoded.Encoded.{Encoded}
 use Rattle.encoder.specs.Packed.{no_later, dense, belongs, final_of, is_ahead, finals_of, is_among, home_of, origins_of, shared}
 use Rattle.encoder.specs.LentPlaces.{Laid}
-use Rattle.encoder.specs.Lent.{relabel, group_at, origins_in, FinalIn, PackedAt}
+use Rattle.encoder.specs.Lent.{relabel, group_at, origins_in, FinalIn}
 use Rattle.encoder.specs.LentArranged.{shapes_at, tables_of, living_at, living_line, LineFit, heir_slot, ArrangeFit, Arranged, JoinFit, JoinedGroups}
 use Rattle.encoder.proofs.DenseIds.{set-of-id, dealt-ids}
 use Rattle.encoder.proofs.LivingLaws.{slot_of, living-few, living-shapes, living-line, living-fit, line-long, line-below, line-apart}
-use Rattle.encoder.proofs.NumberLaws.{number_at, among, among-mem, not-among, home_found, At, mem-at, at_mem, mem-sorted}
-use Rattle.encoder.proofs.ReadyLaws.{shape_same, groups-fit, starting-are, groups-count-is, slot-below, slot_apart, slot-of, slots_end, merge-laid, proper}
+use Rattle.encoder.proofs.NumberLaws.{number_at, among, not-among, home_found, mem-at, at_mem, mem-sorted}
+use Rattle.encoder.proofs.ReadyLaws.{groups-fit, starting-are, groups-count-is, slot-below, slot_apart, slot-of, slots_end, merge-laid, proper}
 
 abbrev nobody : Living
 nobody = record { num = 0; group = none; origins = [] }
@@ -186,7 +184,7 @@ module _ {p : Places} {groups ids : ℕ} {w : List ℕ} (f : JoinFit p groups id
   line-number : (q : ℕ) → q < p.sets → get_or w (p.line + q) 0 < p.sets
   line-number q h =
       let n : length (seg p.line p.sets w) ≡ p.sets = length-seg p.line p.sets w (omega (arith, lies)) in
-      let l = all_get_d (λ (x : ℕ). x < p.sets) (seg p.line p.sets w) q 0 f.line_low (omega arith) in
+      let l = all-get_or (λ (x : ℕ). x < p.sets) (seg p.line p.sets w) q 0 f.line_low (omega arith) in
       subst (λ (z : ℕ). z < p.sets) (get_or-seg p.line p.sets w q h) l
 
   kinds-low : (x : ℕ) → x < p.sets → get_or w' (p.kinds + x) 0 ≡ get_or w (p.kinds + x) 0
@@ -404,7 +402,7 @@ module _ {p : Places} {groups ids : ℕ} {w : List ℕ} (f : JoinFit p groups id
     unfolding finals_at
     final-at q h =
         let e : 0 + q ≡ q = omega arith in
-        get_d_tabulate 0 count (λ g. final_at p.regions w'' (p.finals + 3 * g)) nothing q h ∙ ap (λ (z : ℕ). final_at p.regions w'' (p.finals + 3 * z)) e
+        get_or-tabulate 0 count (λ g. final_at p.regions w'' (p.finals + 3 * g)) nothing q h ∙ ap (λ (z : ℕ). final_at p.regions w'' (p.finals + 3 * z)) e
 
     -- a group by the ids of its rows
     named : Final → Final

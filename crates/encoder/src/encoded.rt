@@ -1,7 +1,7 @@
 // What a build has made of its sets.
 
 // Distinct ids, final groups, N, merges, pairs weighed, and the modelled size before and after merging.
-#[derive(Drop)]
+#[derive(Clone, Copy)]
 pub struct Encoded {
     pub distinct: usize,
     pub count: usize,
@@ -13,7 +13,7 @@ pub struct Encoded {
 }
 
 // Too many shapes, or how many groups there are of how many distinct sets.
-#[derive(Drop)]
+#[derive(Clone, Copy)]
 pub enum Gathering {
     Full,
     Groups(usize, usize),

@@ -1,4 +1,6 @@
 // From a job's sets to its final groups: ids, groups by shape, merging, the groups' order, and each group's sets in the order of rows.
+#![tactic(auto)]
+
 mod arranging;
 mod encoded;
 mod owning;

@@ -34,7 +34,7 @@ use Rattle.finishing.specs.declared.measuring.Packing.{Packing}
 use Rattle.finishing.specs.declared.answers.Built.TheVariants.{Refused, Done}
 use Rattle.finishing.specs.Buffers.{Buffers, Lengths, lengths}
 use Rattle.finishing.specs.Late.{store_for, regions_kept, origin_words, late_no, report_of, late_answer, written, buffers_left}
-use Rattle.finishing.specs.Lent.{FinishFit, Finished, MeasuredAs, RoomFor, WordsFit, WordsWritten, origins_told, report_in, short_no, store_in}
+use Rattle.finishing.specs.Lent.{FinishFit, Finished, MeasuredAs, RoomFor, WordsFit, WordsWritten, report_in, short_no, store_in}
 use Rattle.finishing.proofs.LoopLaws.{told-long, room_for}
 use Rattle.finishing.proofs.WordsLaws.{groups-to, handed, small}
 use Rattle.finishing.proofs.StoreLaws.{set_same, runs-count, kept-relabel, store-relabel}

@@ -1,19 +1,15 @@
 -- What is packed stands before the tables of a word a region: the words up to there have all of it. Assumes nothing.
-use mathlib.Core.Path.{◌≡◌, refl, sym, ap, subst, ◌∙◌}
+use mathlib.Core.Path.{◌≡◌, refl, sym, ap, ◌∙◌}
 use mathlib.Core.List.{List, [], ◌∷◌}
-use Prim.Native.Nat.{ℕ, zero, suc, ◌+◌, ◌-◌, ◌*◌, ◌≤◌, ◌<◌}
+use Prim.Native.Nat.{ℕ, zero, suc, ◌+◌, ◌*◌, ◌≤◌, ◌<◌}
 use native.Mathlib.Omega.{arith}
 use lib.ListN.{length, get_or, take}
 use lib.Seq.{get_or-take, length-take-le}
-use Rattle.laws.specs.Bag.{sum}
-use Rattle.laws.specs.Bounded.{tabulate}
-use Rattle.laws.specs.Every.{All}
 use Rattle.laws.specs.LentRange.{Only, seg}
 use Rattle.laws.proofs.BagLaws.{sum_same}
 use Rattle.laws.proofs.BoundedLaws.{tabulate-same}
 use Rattle.sets.specs.Lent.{Held, count_of, entries, entries_at, set_of}
 use Rattle.rows.proofs.InWork.{seg-take, take-only}
-use Rattle.store.specs.Placing.{Final}
 use Rattle.store.specs.Lent.{coords_at, coords_in, final_at, finals_at}
 use Rattle.encoder.specs.declared.places.Places.{Places}
 use Rattle.encoder.specs.declared.encoded.Encoded.{Encoded}

@@ -1,7 +1,7 @@
 // What a build answers.
 
 // Store bytes, subtables, regions kept, distinct ids, N, merges, pairs weighed, the modelled size before and after merging, the forecast.
-#[derive(Drop)]
+#[derive(Clone, Copy)]
 pub struct Report {
     pub bytes: usize,
     pub subtables: usize,
@@ -16,7 +16,7 @@ pub struct Report {
 }
 
 // A refusal's number and place, or done.
-#[derive(Drop)]
+#[derive(Clone, Copy)]
 pub enum Built {
     Refused(usize, usize),
     Done(Report),

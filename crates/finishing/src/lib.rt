@@ -1,4 +1,6 @@
 // The end of a build: what it answers, refusals 11 to 14, 60 and 61, and the writing of store, ids, map, log and origins; and the answer alone, for a forecast.
+#![tactic(auto)]
+
 mod answers;
 mod finishing;
 mod measuring;

@@ -17,7 +17,7 @@ use store::Finals;
 
 // Sets that are packed in work: for how many axes, from where on stands where in the job each region's coordinates start, where the tables
 // stand, and what was made of the sets.
-#[derive(Drop)]
+#[derive(Clone, Copy)]
 pub struct Packing {
     pub axes: usize,
     pub starts: usize,

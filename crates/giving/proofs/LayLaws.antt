@@ -1,26 +1,23 @@
 -- Entries laid out by listed region, and looked at again: the two loops over them. Assumes nothing.
 use mathlib.Core.Path.{◌≡◌, refl, sym, ap, ◌∙◌}
-use mathlib.Core.Bool.{Bool, true, false}
+use mathlib.Core.Bool.{true, false}
 use mathlib.Core.List.{List, [], ◌∷◌}
 use mathlib.Core.Logic.{◌⊎◌, inl, inr, ⊎_elim}
 use Prim.Native.Nat.{ℕ, zero, suc, ◌+◌, ◌-◌, ◌*◌, ◌≤◌, ◌<◌}
 use native.Mathlib.Omega.{arith}
-use lib.Dec.{eqb}
 use lib.ListN.{length, get_or, set}
 use lib.Seq.{get_or-set_same, get_or-set_other}
-use borrow.Author.Tests.{eq-eqb, ne_eqb, eqb-true, eqb-false}
+use borrow.Author.Tests.{eq-eqb, ne_eqb}
 use borrow.Author.Count.{below_more}
-use Rattle.laws.specs.Pick.{pick}
 use Rattle.laws.specs.LentRange.{Only}
 use Rattle.laws.specs.Signed.{zero_word}
-use Rattle.laws.proofs.Cases.{same_or_not, lt-or-ge, true-false, Which, which}
-use Rattle.laws.proofs.Cases.Which.{holds, fails}
+use Rattle.laws.proofs.Cases.{same_or_not, true-false}
 use Rattle.laws.proofs.RangeLaws.{only-refl, only-trans, only_set}
 use Rattle.sets.specs.Set.{Set}
 use Rattle.sets.specs.Lent.{entries}
 use Rattle.sets.proofs.SetLaws.{entries-cons, entries_none}
 use Rattle.giving.specs.declared.entries.Aims.{Aims}
-use Rattle.giving.specs.Lent.{aim_at, aim, Clean, EntriesFit, Lost, Laid, Unmet, Met}
+use Rattle.giving.specs.Lent.{aim_at, aim, Clean, EntriesFit, Lost, Laid, Met}
 
 -- as two reads find it
 pub aim-of : (w : List ℕ) (t : Aims) (x k q : ℕ) → k ≡ get_or w x 0 → q ≡ get_or w (t.to + k) 0 → q ≡ aim_at w t x

@@ -1,11 +1,11 @@
 -- The cells of a row that are not zero, each compared with the word of its column's region: the loop over them, and one cell. Assumes nothing.
 use mathlib.Core.Path.{◌≡◌, refl, sym, ap, ◌∙◌}
-use mathlib.Core.Bool.{Bool, true, false}
+use mathlib.Core.Bool.{true, false}
 use mathlib.Core.List.{List, [], ◌∷◌}
 use mathlib.Core.Logic.{⊎_elim}
 use Prim.Native.Nat.{ℕ, suc, ◌+◌, ◌-◌, ◌*◌, ◌^◌, ◌≤◌, ◌<◌}
 use native.Mathlib.Omega.{arith}
-use lib.IntN.{ℤ, pos, negsuc}
+use lib.IntN.{pos, negsuc}
 use lib.ListN.{length, get_or, set}
 use lib.Seq.{get_or-set_same, get_or-set_other}
 use borrow.Author.Tests.{lt-ltb, le-ltb}
@@ -16,12 +16,12 @@ use Rattle.laws.specs.Signed.{signed, value, word, zero_word}
 use Rattle.laws.proofs.Cases.{lt-or-ge, true-false}
 use Rattle.laws.proofs.RangeLaws.{only-refl, only-trans, only_set}
 use Rattle.laws.proofs.SignedLaws.{value-below, value-above, word_value}
-use Rattle.reader.specs.Store.{words, are_columns_ok, column_start, column_width}
+use Rattle.reader.specs.Store.{words, column_start, column_width}
 use Rattle.reader.proofs.StoreLaws.{words-length, words-at, ok-below, ok-once}
 use Rattle.reader.proofs.ColumnLaws.{at-fits}
 use Rattle.cells.specs.Lent.{Ahead, CellsFit, NextCell}
 use Rattle.giving.specs.declared.entries.Aims.{Aims}
-use Rattle.giving.specs.Lent.{column_of, cell_at, ColumnsFit, Nonzero, Differs, Passed}
+use Rattle.giving.specs.Lent.{column_of, cell_at, ColumnsFit, Nonzero, Passed}
 
 -- ---- one cell
 

@@ -5,7 +5,7 @@ use mathlib.Core.List.{List, [], ◌∷◌}
 use mathlib.Core.Logic.{◌⊎◌, inl, inr, ⊎_elim}
 use Prim.Native.Nat.{ℕ, zero, suc, ◌+◌, ◌-◌, ◌*◌, ◌^◌, ◌≤◌, ◌<◌}
 use native.Mathlib.Omega.{arith}
-use lib.IntN.{ℤ, pos}
+use lib.IntN.{pos}
 use lib.ListN.{length, get_or}
 use borrow.Author.Tests.{not-true, not-false, lt-ltb}
 use Rattle.laws.specs.LentRange.{Only}
@@ -18,13 +18,13 @@ use Rattle.laws.proofs.RangeLaws.{only-trans}
 use Rattle.sets.specs.Lent.{entries}
 use Rattle.reader.specs.declared.column.Column.{Column}
 use Rattle.reader.specs.declared.column.Column.TheVariants.{At, Missing}
-use Rattle.reader.specs.Store.{words, find, absent, are_columns_ok, column_start, column_width, column_count, item_count, word_at, regions_at, is_subtable_ok, cell, in_column, value_of}
-use Rattle.reader.proofs.StoreLaws.{SubtableFits, subtable-fits, words-length, words-at, find-below, find_at, absent-at, absent-intro, ok-once}
+use Rattle.reader.specs.Store.{find, absent, are_columns_ok, column_start, column_width, column_count, item_count, word_at, regions_at, is_subtable_ok, cell, value_of}
+use Rattle.reader.proofs.StoreLaws.{SubtableFits, subtable-fits, words-length, words-at, find-below, find_at, absent-at, ok-once}
 use Rattle.stores.proofs.PartLaws.{be-two}
 use Rattle.stores.proofs.WholeLaws.{subtable-named}
 use Rattle.cells.specs.Lent.{cell_of}
 use Rattle.giving.specs.declared.entries.Aims.{Aims}
-use Rattle.giving.specs.Lent.{aim_at, aim, Clean, EntriesFit, Lost, Laid, Unmet, Met, column_of, cell_at, ColumnsFit, Nonzero, Differs, Passed, row_value, Given, RowFit, RowJudged}
+use Rattle.giving.specs.Lent.{aim_at, aim, EntriesFit, Laid, Met, column_of, cell_at, ColumnsFit, Nonzero, Passed, row_value, Given, RowFit, RowJudged}
 use Rattle.giving.proofs.LayLaws.{Aiming, aim-cases, aim_kept, fits_kept}
 use Rattle.giving.proofs.PassLaws.{ahead-kept, value-once, column-low, column-once}
 

@@ -1,26 +1,25 @@
 -- Sets one after the other, each with the row that its word names. Assumes nothing.
-use mathlib.Core.Path.{◌≡◌, refl, sym, ap, subst, ◌∙◌}
+use mathlib.Core.Path.{◌≡◌, refl, sym, ap, ◌∙◌}
 use mathlib.Core.Bool.{Bool, true, false}
 use mathlib.Core.List.{List, [], ◌∷◌}
 use mathlib.Core.Logic.{◌⊎◌, ⊎_elim}
 use mathlib.Core.Option.{Option, none, some}
-use Prim.Native.Nat.{ℕ, zero, suc, ◌+◌, ◌-◌, ◌*◌, ◌/◌, ◌%◌, ◌≤◌, ◌<◌}
+use Prim.Native.Nat.{ℕ, zero, suc, ◌+◌, ◌-◌, ◌*◌, ◌≤◌, ◌<◌}
 use native.Mathlib.Omega.{arith}
 use lib.ListN.{length, get_or}
 use borrow.Author.Count.{below_more}
-use Rattle.laws.specs.Bytes.{be}
 use Rattle.laws.specs.LentRange.{Only}
 use Rattle.laws.specs.Signed.{value}
 use Rattle.laws.proofs.Cases.{true-false, same_or_not}
 use Rattle.laws.proofs.RangeLaws.{only-refl, only-trans}
 use Rattle.sets.specs.Lent.{entries}
-use Rattle.reader.specs.Store.{is_header_ok, region_count, item_count, is_subtable_ok}
-use Rattle.reader.proofs.StoreLaws.{HeaderFits, header-fits, SubtableFits, subtable-fits}
+use Rattle.reader.specs.Store.{region_count, item_count, is_subtable_ok}
+use Rattle.reader.proofs.StoreLaws.{HeaderFits, header-fits, subtable-fits}
 use Rattle.stores.specs.Stores.{Parsed, table_count, offset_at, parse, parses}
 use Rattle.stores.proofs.WholeLaws.{Slot, Whole, parse-is}
 use Rattle.stores.proofs.WholeLaws.Slot.{null, good}
 use Rattle.giving.specs.declared.entries.Aims.{Aims}
-use Rattle.giving.specs.Lent.{aim_at, aim, Clean, EntriesFit, Given, RowFit, RowJudged, outer_of, inner_of, start_in, count_in, SetGiven, SetsFit, SetJudged, FirstFailing}
+use Rattle.giving.specs.Lent.{aim_at, aim, Clean, Given, RowFit, RowJudged, outer_of, inner_of, start_in, count_in, SetGiven, SetsFit, SetJudged, FirstFailing}
 use Rattle.giving.proofs.LayLaws.{aim-here, aim-else, aim-none, kept-below, aim_kept, fits_kept}
 use Rattle.giving.proofs.PassLaws.{ahead-kept}
 

@@ -9,7 +9,7 @@ pub const ZERO: u32 = 0x8000_0000;
 
 // Tables in work: from `to` on, by region index, the listed region of the same coordinates, or a number that is no listed region's; from `values` on a
 // word for each of so many listed regions; from `zeros` on, for each byte of the store, how many zeros there are from it on.
-#[derive(Drop)]
+#[derive(Clone, Copy)]
 pub struct Aims {
     pub to: usize,
     pub listed: usize,

@@ -1,17 +1,14 @@
 -- Laws of what writing a glyph map answers and leaves. Assumes nothing.
-use mathlib.Core.Path.{◌≡◌, refl, sym, ap, ◌∙◌}
-use mathlib.Core.List.{List, [], ◌∷◌, ◌++◌}
+use mathlib.Core.Path.{◌≡◌, sym, ap, ◌∙◌}
+use mathlib.Core.List.{List, ◌++◌}
 use Prim.Native.Nat.{ℕ, ◌+◌, ◌-◌, ◌*◌, ◌≤◌, ◌<◌}
 use native.Mathlib.Omega.{arith}
-use lib.Dec.{ltb}
 use lib.ListN.{length, take, length-append}
 use lib.Seq.{length-take-le}
 use borrow.Author.Tests.{lt-ltb, le-ltb}
 use Rattle.laws.specs.Bytes.{over}
-use Rattle.laws.proofs.Products.{product}
 use Rattle.rows.specs.Lent.{Put}
 use Rattle.rows.proofs.PutLaws.{put-join}
-use Rattle.glyphs.specs.declared.write.Glyphs.{Glyphs}
 use Rattle.glyphs.specs.declared.write.Glyphs.TheVariants.{Done, Refused}
 use Rattle.glyphs.specs.Packing.{together, inner_bit_count, entry_of, bytes_for_entry, map_bits, map_size, entry_format, count_of, head_for, head_length, entries_of, map_bytes}
 use Rattle.glyphs.specs.Answers.{too_many_glyphs, glyph_map_short, max_glyphs, glyphs_of, glyphs_left}

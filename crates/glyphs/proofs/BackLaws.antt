@@ -1,27 +1,25 @@
 -- What is written reads back: `glyph-back`, every glyph's word, and `empty-refused`. Assumes nothing.
-use mathlib.Core.Path.{◌≡◌, refl, sym, ap, ap₂, ◌∙◌, subst}
-use mathlib.Core.Bool.{Bool, true, false}
+use mathlib.Core.Path.{◌≡◌, refl, sym, ap, ◌∙◌, subst}
+use mathlib.Core.Bool.{true}
 use mathlib.Core.List.{List, [], ◌∷◌, ◌++◌, append_assoc}
 use mathlib.Core.Logic.{⊎_elim}
-use Prim.Native.Nat.{ℕ, zero, suc, ◌+◌, ◌-◌, ◌*◌, ◌/◌, ◌%◌, ◌^◌, ◌≤◌, ◌<◌}
+use Prim.Native.Nat.{ℕ, suc, ◌+◌, ◌-◌, ◌*◌, ◌/◌, ◌%◌, ◌^◌, ◌≤◌, ◌<◌}
 use native.Mathlib.Nat.{mod-eq_of_lt}
 use native.Mathlib.Omega.{arith}
 use lib.Count.{count_leading_zeros}
-use lib.Dec.{eqb, ltb, leb}
 use lib.Pow.{high, low}
 use lib.ListN.{length, get_or, take, drop, length-append}
 use lib.Seq.{split_at, length-take-le, get_or-take}
 use borrow.Author.Tests.{lt-ltb, le-ltb, le-leb, ne_eqb}
 use Rattle.laws.specs.Every.{All}
 use Rattle.laws.specs.Bytes.{be, bytes_of}
-use Rattle.laws.proofs.EveryLaws.{all_get_d}
+use Rattle.laws.proofs.EveryLaws.{all-get_or}
 use Rattle.laws.proofs.BytesLaws.{bytes-length, be-bytes}
 use Rattle.laws.proofs.Cases.{lt-or-ge}
-use Rattle.glyphs.specs.declared.read.Entry.{Entry}
 use Rattle.glyphs.specs.declared.read.Entry.TheVariants.{Word, Refused}
 use Rattle.glyphs.specs.Packing.{outer_of, inner_of, ored, inner_bit_count, entry_of, bytes_for_entry, map_bits, map_size, entry_format, kept_of, count_of, head_of, head_for, head_length, entries_of, map_bytes}
 use Rattle.glyphs.specs.Reading.{bad_glyph_map, format_in, form_in, entries_from, count_in, bits_in, size_in, is_map_ok, entry_of_glyph, place_of, word_of, read_map}
-use Rattle.glyphs.proofs.FormatLaws.{HoldsAll, format-holds, bits_range, size-range}
+use Rattle.glyphs.proofs.FormatLaws.{format-holds, bits_range, size-range}
 use Rattle.glyphs.proofs.KeptLaws.{count_most, count-some, count_same}
 use Rattle.glyphs.proofs.WriteLaws.{size-zero, size-one, head-zero, head-one, head-size, entries-long}
 use Rattle.glyphs.proofs.AnswerLaws.{map-long}
@@ -233,7 +231,7 @@ module _ (ws : List ℕ) (words : All (λ w. w < 4294967296) ws) (some : 0 < len
     glyph-back =
         let inside : j < length ws = omega (arith, within, count_most ws) in
         rw (sound s fits, entry_read, bits_is)
-        (word_back bits (get_or ws j 0) (all_get_d (λ w. w < 4294967296) ws j 0 words inside) ((format-holds ws words).inners j inside)
+        (word_back bits (get_or ws j 0) (all-get_or (λ w. w < 4294967296) ws j 0 words inside) ((format-holds ws words).inners j inside)
         ∙ ap Word (kept_back ws some g))
 
 -- no words give the empty map (G5), and reading it is refused (G9)

@@ -1,15 +1,15 @@
 -- The entry format of a list of words holds every one of them, and none with fewer inner bits or fewer bytes does. Assumes nothing.
-use mathlib.Core.Path.{◌≡◌, refl, sym, ap, ◌∙◌}
+use mathlib.Core.Path.{◌≡◌, refl, sym, ◌∙◌}
 use mathlib.Core.List.{List, [], ◌∷◌}
 use Prim.Native.Nat.{ℕ, zero, suc, ◌+◌, ◌*◌, ◌/◌, ◌%◌, ◌^◌, ◌≤◌, ◌<◌}
 use native.Mathlib.Nat.{pow-suc, mul-le-mul_right}
 use native.Mathlib.Omega.{arith}
 use lib.Pow.{pow-add, pow_pos}
-use lib.Bits.{bit_or, bit_and, or_lt, or_add_and, and_le_l, and_le_r, or_block, or_shr, or_mod}
+use lib.Bits.{bit_or, or_lt, or_add_and, and_le_l, and_le_r, or_block, or_shr, or_mod}
 use lib.ListN.{length, get_or}
 use Rattle.laws.specs.Every.{All}
-use Rattle.laws.proofs.EveryLaws.{all_get_d}
-use Rattle.glyphs.specs.Packing.{outer_of, inner_of, ored, together, inner_bit_count, entry_of, bytes_for_entry, map_bits, map_size}
+use Rattle.laws.proofs.EveryLaws.{all-get_or}
+use Rattle.glyphs.specs.Packing.{outer_of, inner_of, ored, together, inner_bit_count, entry_of, map_bits, map_size}
 use Rattle.glyphs.proofs.WidthLaws.{inner-hold, inner-some, inner-most, inner-least, entry-below, bytes-some, bytes_most, bytes-hold, bytes-least}
 
 -- both halves of a are at most those of b
@@ -60,7 +60,7 @@ unfolding entry_of
 entry-under bits a b u = omega (arith, u.inner, mul-le-mul_right (2 ^ bits) u.outer)
 
 pub together-below : (ws : List ℕ) → All (λ w. w < 4294967296) ws → together ws < 4294967296
-together-below ws a = ored-keeps (λ w. w < 4294967296) (λ a b p q. or_lt 32 a b p q) 0 ws (omega arith) (λ i h. all_get_d (λ w. w < 4294967296) ws i 0 a h)
+together-below ws a = ored-keeps (λ w. w < 4294967296) (λ a b p q. or_lt 32 a b p q) 0 ws (omega arith) (λ i h. all-get_or (λ w. w < 4294967296) ws i 0 a h)
 
 -- ---- a width that holds all words
 

@@ -1,6 +1,6 @@
 -- What lies in the output after a glyph map was written: its first bytes read back every glyph's word, and all behind them is as it was. Assumes
 -- nothing.
-use mathlib.Core.Path.{◌≡◌, refl, sym, ap, ◌∙◌}
+use mathlib.Core.Path.{◌≡◌, sym, ap, ◌∙◌}
 use mathlib.Core.List.{List}
 use Prim.Native.Nat.{ℕ, ◌+◌, ◌≤◌, ◌<◌}
 use native.Mathlib.Omega.{arith}
@@ -13,9 +13,7 @@ use Rattle.laws.specs.Every.{All}
 use Rattle.laws.specs.Bytes.{over}
 use Rattle.laws.proofs.Cases.{Which, which}
 use Rattle.laws.proofs.Cases.Which.{holds, fails}
-use Rattle.glyphs.specs.declared.read.Entry.{Entry}
 use Rattle.glyphs.specs.declared.read.Entry.TheVariants.{Word}
-use Rattle.glyphs.specs.declared.write.Glyphs.{Glyphs}
 use Rattle.glyphs.specs.declared.write.Glyphs.TheVariants as glyphs
 use Rattle.glyphs.specs.Packing.{map_bytes}
 use Rattle.glyphs.specs.Reading.{entry_of_glyph, read_map}

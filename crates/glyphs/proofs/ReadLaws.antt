@@ -1,17 +1,15 @@
 -- Laws of the reader of a glyph map: what a sound map says of its length. Assumes nothing.
-use mathlib.Core.Path.{◌≡◌, refl, sym, ap, ◌∙◌, subst}
-use mathlib.Core.Bool.{Bool, true, false, not, ◌&&◌}
-use mathlib.Core.List.{List, [], ◌∷◌, ◌++◌}
+use mathlib.Core.Path.{◌≡◌, subst}
+use mathlib.Core.Bool.{true, false}
+use mathlib.Core.List.{List}
 use Prim.Native.Nat.{ℕ, ◌+◌, ◌-◌, ◌*◌, ◌/◌, ◌%◌, ◌^◌, ◌≤◌, ◌<◌}
 use native.Mathlib.Omega.{arith}
-use lib.Dec.{eqb, ltb, leb}
 use lib.ListN.{length}
 use borrow.Author.Tests.{leb-true, ltb-true, eqb-false, not-true, lt-ltb, le-ltb, eq-eqb, ne_eqb}
 use Rattle.laws.specs.Bytes.{be}
 use Rattle.laws.proofs.Cases.{and-true}
-use Rattle.laws.proofs.Products.{product, row_fits}
+use Rattle.laws.proofs.Products.{row_fits}
 use Rattle.reader.specs.Store as store
-use Rattle.glyphs.specs.declared.read.Entry.{Entry}
 use Rattle.glyphs.specs.declared.read.Entry.TheVariants.{Word, Refused}
 use Rattle.glyphs.specs.Reading.{bad_glyph_map, format_in, form_in, entries_from, count_in, bits_in, size_in, is_map_ok, entry_of_glyph, place_of, word_of, read_map}
 

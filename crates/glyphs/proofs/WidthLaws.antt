@@ -1,24 +1,23 @@
 -- Laws of the widths of entries: the inner bits and the entry bytes hold what they were counted for, and none fewer do. Assumes nothing.
-use mathlib.Core.Path.{◌≡◌, refl, sym, ap, ◌∙◌}
-use mathlib.Core.Bool.{true, false}
-use mathlib.Core.List.{List, [], ◌∷◌}
+use mathlib.Core.Path.{◌≡◌, refl, ◌∙◌}
+use mathlib.Core.List.{List}
 use mathlib.Core.Logic.{⊎_elim}
-use Prim.Native.Nat.{ℕ, zero, suc, ◌+◌, ◌-◌, ◌*◌, ◌/◌, ◌%◌, ◌^◌, ◌≤◌, ◌<◌}
-use native.Mathlib.Nat.{pow-suc, mul-le-mul_right}
+use Prim.Native.Nat.{ℕ, suc, ◌+◌, ◌-◌, ◌*◌, ◌/◌, ◌%◌, ◌^◌, ◌≤◌, ◌<◌}
+use native.Mathlib.Nat.{pow-suc}
 use native.Mathlib.Numerals.{add-one}
 use native.Mathlib.Omega.{arith}
-use lib.Dec.{eqb, ltb}
-use lib.Pow.{pow_mono, pow_pos, shl_exact}
+use lib.Dec.{eqb}
+use lib.Pow.{pow_mono, shl_exact}
 use lib.Bits.{bit_or}
-use lib.Count.{count_leading_zeros, leading_length, leading_le}
+use lib.Count.{count_leading_zeros, leading_length}
 use lib.ListN.{length, get_or, drop, drop_of_length-le}
 use lib.Seq.{drop-cons}
-use borrow.Author.Tests.{eq-eqb, ne_eqb, eqb-true, eqb-false, lt-ltb, le-ltb, ltb-true, ltb-false}
+use borrow.Author.Tests.{eq-eqb, ne_eqb, eqb-true, eqb-false, lt-ltb, le-ltb}
 use Rattle.laws.proofs.Cases.{Which, which, lt-or-ge}
 use Rattle.laws.proofs.Cases.Which.{holds, fails}
 use Rattle.laws.proofs.Products.{product}
 use Rattle.laws.proofs.BytesLaws.{pow-top}
-use Rattle.glyphs.specs.Packing.{outer_of, inner_of, ored, bits_of, inner_bit_count, entry_of, bytes_for_entry}
+use Rattle.glyphs.specs.Packing.{inner_of, ored, bits_of, inner_bit_count, entry_of, bytes_for_entry}
 
 -- ---- all words ored, one more
 

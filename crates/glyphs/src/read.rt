@@ -8,7 +8,7 @@ use crate::width::power;
 use reader::be;
 
 // A glyph's word, outer x 65,536 + inner, or a refusal's number.
-#[derive(Drop)]
+#[derive(Clone, Copy)]
 pub enum Entry {
     Word(u32),
     Refused(u8),
@@ -22,7 +22,7 @@ impl Entry {
 // Where the entries of a map of this format start.
 fn start(format: usize) -> usize
     ensures value { result ≡ entries_from format }
-    ensures lower_bound { (4 ≤ result) × (result ≤ 6) }
+    ensures in_range { (4 ≤ result) × (result ≤ 6) }
 {
     if format == 0 {
         return 4;

@@ -18,7 +18,7 @@ pub fn together(words: &[u32]) -> u32
 // The bits that the inner numbers need together: what the leading zeros of all of them ored leave of 16.
 pub fn inner_bits(all: u32) -> usize
     ensures value { result ≡ inner_bit_count all }
-    ensures lower_bound { (1 ≤ result) × (result ≤ 16) }
+    ensures in_range { (1 ≤ result) × (result ≤ 16) }
 {
     let inner = (all % 65536) as u16;
     let bits = 16 - u16::leading_zeros(inner);
@@ -32,7 +32,7 @@ pub fn inner_bits(all: u32) -> usize
 pub fn power(bits: usize) -> usize
     requires { bits ≤ 16 }
     ensures value { result ≡ 2 ^ bits }
-    ensures lower_bound { (1 ≤ result) × (result ≤ 65536) }
+    ensures in_range { (1 ≤ result) × (result ≤ 65536) }
 {
     1usize << bits
 }
@@ -50,7 +50,7 @@ pub fn entry(bits: usize, word: u32) -> u32
 // The fewest bytes that hold an entry.
 pub fn bytes_for(entry: u32) -> usize
     ensures value { result ≡ bytes_for_entry entry }
-    ensures lower_bound { (1 ≤ result) × (result ≤ 4) }
+    ensures in_range { (1 ≤ result) × (result ≤ 4) }
 {
     if entry < 256 {
         return 1;

@@ -9,7 +9,7 @@ use crate::width::{bytes_for, entry, inner_bits, together};
 use rows::put;
 
 // The bytes written, or a refusal's number.
-#[derive(Drop)]
+#[derive(Clone, Copy)]
 pub enum Glyphs {
     Done(usize),
     Refused(u8),

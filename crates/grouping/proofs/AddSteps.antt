@@ -13,8 +13,8 @@ use Rattle.laws.proofs.Cases.{Tri, tri, same_or_not}
 use Rattle.laws.proofs.Cases.Tri.{below, same, above}
 use Rattle.laws.proofs.Products.{row_fits}
 use Rattle.laws.proofs.ListLaws.{length-insert, insert-front, insert-here, insert-back}
-use Rattle.laws.proofs.BoundedLaws.{length-tabulate, get_d_tabulate, tabulate-same}
-use Rattle.laws.proofs.EveryLaws.{all_get_d, all-intro, two-get_or}
+use Rattle.laws.proofs.BoundedLaws.{length-tabulate, get_or-tabulate, tabulate-same}
+use Rattle.laws.proofs.EveryLaws.{all-get_or, all-intro, two-get_or}
 use Rattle.laws.proofs.RangeLaws.{only-refl, only-trans, only_set, only-weaken, only-seg}
 use Rattle.shapes.specs.Shape.{Shape, cost_of_row}
 use Rattle.shapes.specs.Order.{order}
@@ -43,7 +43,7 @@ pub groups-at : (t : Shapes) (m : ℕ) (w : List ℕ) (i : ℕ) → i < m → ge
 unfolding groups_in
 groups-at t m w i h =
     let e : 0 + i ≡ i = omega arith in
-    get_d_tabulate 0 m (group_in t w) none i h ∙ ap (group_in t w) e
+    get_or-tabulate 0 m (group_in t w) none i h ∙ ap (group_in t w) e
 
 group-shape : (t : Shapes) (w : List ℕ) (i : ℕ) → (group_in t w i).shape ≡ shape_in t (slot_in t i w) w
 unfolding group_in
@@ -90,7 +90,7 @@ module _ {t : Shapes} {m kind : ℕ} {w : List ℕ} (a : AddFit t m kind w) wher
   slot-fits : (i : ℕ) → i < m → SlotFits t (slot_in t i w) w
   slot-fits i h = record {
     room = slot-room laid (slot_in t i w) (omega (arith, slot-below i h, fits));
-    narrow = rw (shape_at t m w i h) at (all_get_d (λ g. Narrow g.shape) (groups_in t m w) i none a.table.narrow (omega (arith, groups-length t m w)));
+    narrow = rw (shape_at t m w i h) at (all-get_or (λ g. Narrow g.shape) (groups_in t m w) i none a.table.narrow (omega (arith, groups-length t m w)));
   }
 
   long : All (Long t.regions) (groups_in t m w)

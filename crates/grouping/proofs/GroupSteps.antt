@@ -16,7 +16,7 @@ use Rattle.laws.proofs.Cases.{lt-or-ge}
 use Rattle.laws.proofs.Products.{row_fits}
 use Rattle.laws.proofs.ListLaws.{map-append}
 use Rattle.laws.proofs.BagLaws.{weigh-at}
-use Rattle.laws.proofs.BoundedLaws.{length-tabulate, get_d_tabulate}
+use Rattle.laws.proofs.BoundedLaws.{length-tabulate, get_or-tabulate}
 use Rattle.laws.proofs.RangeLaws.{only-refl, only-trans, only_set, only-weaken, only-seg}
 use Rattle.shapes.specs.Shape.{Shape, cost_of_row}
 use Rattle.shapes.specs.Width.{width_of, cost_of}
@@ -44,7 +44,7 @@ unfolding shape_of
 shape-narrow regions s h = record {
   few = omega (arith, shape-length regions s);
   narrow = λ k. ⊎_elim
-      (λ (p : k < regions). rw (get_d_tabulate 0 regions (λ k. cost_of (width_of (value (word_of s k)))) 0 k p) (cost-most (width_of (value (word_of s (0 + k))))))
+      (λ (p : k < regions). rw (get_or-tabulate 0 regions (λ k. cost_of (width_of (value (word_of s k)))) 0 k p) (cost-most (width_of (value (word_of s (0 + k))))))
       (λ (p : regions ≤ k).
       rw (get_or-eq_default (tabulate 0 regions (λ k. cost_of (width_of (value (word_of s k))))) 0 {n = k} (omega (arith, length-tabulate 0 regions (λ k. cost_of (width_of (value (word_of s k))))))) (omega arith))
       (lt-or-ge k regions);

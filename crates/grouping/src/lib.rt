@@ -1,4 +1,6 @@
 // Sets grouped by shape: each distinct set's shape is looked up in the table and counted there.
+#![tactic(auto)]
+
 ghost use Rattle.std.specs.Prelude.{◌≡◌, ◌+◌, ◌<◌, ◌≤◌, length, get_or};
 ghost use Rattle.grouping.specs.LentGroups.{AddFit, AddedIn, JoinFit, JoinedIn, NewFit, NewIn, SetFit, AddedSet, GroupFit, GroupedAt};
 
@@ -7,7 +9,7 @@ use shaping::shape_of;
 use table::{Found, Shapes, find_shape, insert_at, row_cost};
 
 // How many groups there are, or that there is no room for one more.
-#[derive(Drop)]
+#[derive(Clone, Copy)]
 pub enum Added {
     Groups(usize),
     Full,

@@ -10,7 +10,7 @@ use Rattle.laws.specs.Order.{flipped}
 use Rattle.laws.specs.Every.{All, EachTwo}
 use Rattle.laws.specs.Bag.{weigh}
 use Rattle.laws.specs.Signed.{value}
-use Rattle.laws.proofs.EveryLaws.{two-imp, all_get_d}
+use Rattle.laws.proofs.EveryLaws.{two-imp, all-get_or}
 use Rattle.laws.proofs.BoundedLaws.{length-tabulate}
 use Rattle.shapes.specs.Width.{width_of, cost_of}
 use Rattle.shapes.specs.Shape.{Shape}
@@ -155,8 +155,8 @@ module _ (n : ℕ) where
   with_at (g ∷ gs) zero d h l b = with-equal g gs g.shape (order-self g.shape)
   with_at (g ∷ gs) (suc i) d h l b =
       let j : i < length gs = omega arith in
-      let e = all_get_d (Before g) gs i d b.0 j in
-      let k = all_get_d (Long n) gs i d l.1 j in
+      let e = all-get_or (Before g) gs i d b.0 j in
+      let k = all-get_or (Long n) gs i d l.1 j in
       with-more g gs (get_or gs i d).shape (flip-more n g.shape (get_or gs i d).shape l.0 k e) ∙ ap (λ (x : List Group). g ∷ x) (with_at gs i d j l.1 b.1)
 
   -- it comes behind the first i and before the others

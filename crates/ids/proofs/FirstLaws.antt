@@ -19,7 +19,7 @@ use Rattle.laws.specs.LentRange.{seg}
 use Rattle.laws.specs.Sorting.{sorted, Sorts}
 use Rattle.laws.proofs.Cases.{Tri, tri, lt-or-ge}
 use Rattle.laws.proofs.Cases.Tri.{below, same, above}
-use Rattle.laws.proofs.EveryLaws.{all_get_d, two-get_or}
+use Rattle.laws.proofs.EveryLaws.{all-get_or, two-get_or}
 use Rattle.laws.proofs.BagLaws.{bag-place, bag-length}
 use Rattle.laws.proofs.SortLaws.{sorted-two, sorted_all, sorts}
 use Rattle.sets.specs.Set.{Set, Ascending, Proper}
@@ -87,7 +87,7 @@ module _ {w : List ℕ} {index n regions end : ℕ} (h : Held w index n regions 
     line-length = bag-length line c line-bag
 
     pub line_at : (i : ℕ) → i < length c → get_or (sorted (at_most w index) c) i 0 < n
-    line_at i l = all_get_d (λ x. x < n) line i 0 line-below (omega (arith, line-length))
+    line_at i l = all-get_or (λ x. x < n) line i 0 line-below (omega (arith, line-length))
 
     -- every number stands in the line
     pub line-has : (j : ℕ) → j < length c → (q : ℕ) × (q < length c) × (get_or (sorted (at_most w index) c) q 0 ≡ get_or c j 0)

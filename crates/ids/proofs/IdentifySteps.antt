@@ -13,7 +13,7 @@ use Rattle.laws.specs.LentRange.{Apart, seg}
 use Rattle.laws.specs.Sorting.{sorted, keep}
 use Rattle.laws.proofs.Cases.{same_or_not, lt-or-ge, Which, which}
 use Rattle.laws.proofs.Cases.Which.{holds, fails}
-use Rattle.laws.proofs.EveryLaws.{all-imp, all_get_d}
+use Rattle.laws.proofs.EveryLaws.{all-imp, all-get_or}
 use Rattle.laws.proofs.RangeLaws.{only-trans, only-weaken, only-seg, get_or-seg, length-seg, seg-add, seg_all, all-seg}
 use Rattle.laws.proofs.SortLaws.{sorted-same, sorted_all, keep_append, keep_same}
 use Rattle.laws.proofs.SortMap.{keep_all, keep_two, keep-passes, keep-keep, keep-sorted, keep_out}
@@ -171,7 +171,7 @@ module _ {w₀ : List ℕ} {index n at first ids : ℕ} (r : IdsFit w₀ index n
           let k = sorted_all (at_most w₀ index) (λ x. get_or w₁ (first + x) 0 ≡ x) some (all-imp (λ x e. kept-is first w₁ x e) some (keep-passes (is_kept first w₁) (up_to n))) in
           let g : p < length (sorted (at_most w₀ index) some) = omega (arith, line-length r.held some low rising, many) in
           let e : get_or w₂ (at + p) 0 ≡ get_or (sorted (at_most w₀ index) some) p 0 = sym (get_or-seg at m w₂ p h) ∙ ap (λ (l : List ℕ). get_or l p 0) line₀ in
-          rw e (all_get_d (λ x. get_or w₁ (first + x) 0 ≡ x) (sorted (at_most w₀ index) some) p 0 k g)
+          rw e (all-get_or (λ x. get_or w₁ (first + x) 0 ≡ x) (sorted (at_most w₀ index) some) p 0 k g)
 
       first-kept₂ : (x : ℕ) → x < n → (get_or w₁ (first + x) 0 ≡ x → ⊥) → get_or w₂ (first + x) 0 ≡ get_or w₁ (first + x) 0
       first-kept₂ x h d = s.others x h (not-kept first w₁ x d)

@@ -1,4 +1,6 @@
 // Ids: sets sorted once; of equal ones, which stand side by side, the first in the job gives its id to all.
+#![tactic(auto)]
+
 mod block;
 mod screening;
 

@@ -1,8 +1,8 @@
 -- What is told of a build that was asked: its numbers are small, its parts fit, and a look after it leaves all as it was. Assumes nothing.
 use mathlib.Core.Path.{◌≡◌, refl, sym, ap, ap₂, subst, ◌∙◌}
 use mathlib.Core.Bool.{Bool, true, false}
-use mathlib.Core.List.{List, [], ◌∷◌}
-use Prim.Native.Nat.{ℕ, ◌+◌, ◌≤◌, ◌<◌}
+use mathlib.Core.List.{List}
+use Prim.Native.Nat.{ℕ, ◌≤◌}
 use native.Mathlib.Omega.{arith}
 use lib.Dec.{eqb, ltb}
 use lib.ListN.{length, get_or, take, replicate, length-replicate}
@@ -10,14 +10,13 @@ use borrow.Author.Tests.{eqb-false}
 use Rattle.laws.specs.Pick.{pick}
 use Rattle.laws.proofs.Cases.{Which, which}
 use Rattle.laws.proofs.Cases.Which.{holds, fails}
-use Rattle.said.specs.Records.{record_start}
-use Rattle.said.specs.Refusals.{not_zero, first_failed, early_refusal}
-use Rattle.said.specs.Job.{Outcome, outcome}
+use Rattle.said.specs.Refusals.{first_failed, early_refusal}
+use Rattle.said.specs.Job.{outcome}
 use Rattle.stores.specs.Coordinates.{are_same_bytes}
 use Rattle.job.specs.Check.{work_left}
 use Rattle.pairs.specs.declared.Pair.{Pair}
 use Rattle.finding.specs.First.{first_at}
-use Rattle.finding.specs.Asked.{no_id, other_store, asked_refusal}
+use Rattle.finding.specs.Asked.{asked_refusal}
 use Rattle.finishing.specs.Buffers.{Buffers}
 use Rattle.finishing.specs.Late.{report_of}
 use Rattle.finishing.specs.declared.answers.Report.{Report}

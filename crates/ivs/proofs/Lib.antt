@@ -1,5 +1,3 @@
-pub mod Together
-pub mod Calls
 pub mod FewLaws
 pub mod AskedLaws
 pub mod PanelLaws

@@ -1,19 +1,17 @@
 -- What a host is told of a build by the panel's profile: one answer, and where it is done, or refused by a number that is not the profile's, the same as of
 -- a build without it: number, report and all that is left. Assumes nothing.
-use mathlib.Core.Path.{◌≡◌, refl, sym, ap, ap₂, ◌∙◌}
+use mathlib.Core.Path.{◌≡◌, refl, sym, ap, ◌∙◌}
 use mathlib.Core.List.{List}
-use Prim.Native.Nat.{ℕ, ◌≤◌, ◌<◌}
+use Prim.Native.Nat.{ℕ}
 use native.Mathlib.Omega.{arith}
 use Rattle.said.specs.Refusals.{long_value, bad_region, wide_subtable}
 use Rattle.panel.specs.declared.Profile.TheVariants.{Panel}
-use Rattle.finishing.specs.declared.answers.Report.{Report}
 use Rattle.finishing.specs.declared.answers.Built.{Built}
 use Rattle.finishing.specs.declared.answers.Built.TheVariants.{Refused, Done}
 use Rattle.call.specs.Lending.{Lending, Left}
 use Rattle.call.specs.Build.{answer_of, after}
 use Rattle.call.specs.Profiled.{answer_by, after_by}
 use Rattle.packer.proofs.Unique.{unique-by}
-use Rattle.demands.proofs.OutcomeRows.{numbers}
 use Rattle.demands.proofs.Buffers as plain
 use Rattle.profiled.proofs.Rows.{refused-alike, built_alike, untouched}
 use Rattle.reporting.specs.Answers.{number_of, report_words, filled}

@@ -6,8 +6,7 @@ use pairs::Pair;
 use reporting::tell;
 
 // The refusal number, 0 for a job that a build takes; the report has all numbers of a done build.
-#[unsafe(no_mangle)]
-pub extern "C" fn ivs_forecast(
+pub fn ivs_forecast(
     axes: u32,
     mode: u32,
     job: &[u8],

@@ -7,8 +7,7 @@ ghost use Rattle.numbers.specs.GlyphWords.{glyphs_word, entry_word};
 use glyphs::{Entry, Glyphs};
 
 // Writes the map of a word for each glyph. High half: 0 written, else the refusal number; low half: the bytes.
-#[unsafe(no_mangle)]
-pub extern "C" fn ivs_write_glyphs(words: &[u32], out: &mut [u8]) -> u64
+pub fn ivs_write_glyphs(words: &[u32], out: &mut [u8]) -> u64
     ensures value { result ≡ glyphs_word (glyphs_of words.now (length out.old)) }
     ensures out_after { out.new ≡ glyphs_left words.now out.old }
 {
@@ -19,8 +18,7 @@ pub extern "C" fn ivs_write_glyphs(words: &[u32], out: &mut [u8]) -> u64
 }
 
 // The word of a glyph. High half: 0 read, else the refusal number; low half: the word.
-#[unsafe(no_mangle)]
-pub extern "C" fn ivs_read_glyph(map: &[u8], glyph: u32) -> u64
+pub fn ivs_read_glyph(map: &[u8], glyph: u32) -> u64
     ensures { result ≡ entry_word (read_map map.now glyph) }
 {
     match glyphs::read_glyph(map, glyph) {

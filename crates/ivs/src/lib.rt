@@ -1,4 +1,6 @@
-// The library's entry points: what a host links (libivs.a). They turn answers into numbers, and do nothing else.
+// The library's entry points. They turn answers into numbers, and do nothing else. What a host links (libivs.a) is `ivs_c`, which exports them.
+#![tactic(auto)]
+
 mod foretelling;
 mod glyph_map;
 mod panel_build;
@@ -33,32 +35,28 @@ use pairs::Pair;
 use reporting::tell;
 
 // The words of work that a job of so many records needs, with so many regions at its head; 0 above the record limit.
-#[unsafe(no_mangle)]
-pub extern "C" fn ivs_work_words(records: usize, regions: usize) -> usize
+pub fn ivs_work_words(records: usize, regions: usize) -> usize
     ensures { result ≡ building_work records regions }
 {
     job::work_words(records, regions)
 }
 
 // The regions at a job's head.
-#[unsafe(no_mangle)]
-pub extern "C" fn ivs_head_regions(axes: u32, job: &[u8]) -> usize
+pub fn ivs_head_regions(axes: u32, job: &[u8]) -> usize
     ensures { result ≡ regions_at_head axes job.now }
 {
     job::head_regions(axes, job)
 }
 
 // The value of a region in a row of a store, as a number.
-#[unsafe(no_mangle)]
-pub extern "C" fn ivs_read(store: &[u8], outer: u32, inner: u32, region: u32) -> u64
+pub fn ivs_read(store: &[u8], outer: u32, inner: u32, region: u32) -> u64
     ensures { result ≡ read_word (read_store store.now outer inner region) }
 {
     numbers::as_word(reader::read(store, outer, inner, region))
 }
 
 // One build: the refusal number, 0 for done; the report has all numbers of the answer.
-#[unsafe(no_mangle)]
-pub extern "C" fn ivs_build(
+pub fn ivs_build(
     axes: u32,
     mode: u32,
     job: &[u8],

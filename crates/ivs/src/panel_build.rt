@@ -8,8 +8,7 @@ use pairs::Pair;
 use reporting::tell;
 
 // One build by the panel's profile: the refusal number, 0 for done; the report has all numbers of the answer.
-#[unsafe(no_mangle)]
-pub extern "C" fn ivs_build_panel(
+pub fn ivs_build_panel(
     axes: u32,
     mode: u32,
     job: &[u8],

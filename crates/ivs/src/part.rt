@@ -8,8 +8,7 @@ ghost use Rattle.part_words.specs.PartWords.{part_number, part_report};
 
 // Where set `first` of a job parts from set `second`: the refusal number, 0 where they were compared; the report has all
 // numbers of the answer.
-#[unsafe(no_mangle)]
-pub extern "C" fn ivs_part(
+pub fn ivs_part(
     axes: u32,
     job: &[u8],
     first: u32,

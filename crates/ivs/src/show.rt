@@ -8,8 +8,7 @@ use packer::Profile;
 use pairs::Pair;
 
 // The refusal number, 0 where there is a part: of the job where `what` is 0, else of the store. The report has where it starts and how long it is.
-#[unsafe(no_mangle)]
-pub extern "C" fn ivs_show(
+pub fn ivs_show(
     axes: u32,
     job: &[u8],
     store: &[u8],

@@ -4,16 +4,14 @@ ghost use Rattle.keeping.specs.Keeping.{keeping_work};
 ghost use Rattle.store_words.specs.Told.{KeepTold};
 
 // The words of work that a store of so many bytes and a list of so many entries need; 0 for more than any memory holds.
-#[unsafe(no_mangle)]
-pub extern "C" fn ivs_keep_words(bytes: usize, rows: usize) -> usize
+pub fn ivs_keep_words(bytes: usize, rows: usize) -> usize
     ensures { result ≡ keeping_work bytes rows }
 {
     keeping::keep_words(bytes, rows)
 }
 
 // The store with only the rows of a list, and each entry's new place: the refusal number, 0 for done; the report has all numbers of the answer.
-#[unsafe(no_mangle)]
-pub extern "C" fn ivs_keep(
+pub fn ivs_keep(
     store: &[u8],
     rows: &[u32],
     work: &mut [u32],

@@ -5,16 +5,14 @@ ghost use Rattle.verdict_words.specs.Told.{JudgeTold};
 
 // The words of work for a job of so many records and head regions and a store of so many bytes; 0 above the record limit, and for more bytes
 // than a slice has.
-#[unsafe(no_mangle)]
-pub extern "C" fn ivs_judge_words(records: usize, regions: usize, bytes: usize) -> usize
+pub fn ivs_judge_words(records: usize, regions: usize, bytes: usize) -> usize
     ensures { result ≡ judging_work records regions bytes }
 {
     judging::judge_words(records, regions, bytes)
 }
 
 // Whether a store gives every set of a job at the set's word: the refusal number, 0 where it was judged; the report has all numbers of the answer.
-#[unsafe(no_mangle)]
-pub extern "C" fn ivs_judge(
+pub fn ivs_judge(
     axes: u32,
     job: &[u8],
     store: &[u8],

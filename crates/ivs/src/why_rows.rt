@@ -7,8 +7,7 @@ use packer::Profile;
 use pairs::Pair;
 
 // The refusal number, 0 where there is a reason; the report has all numbers of the answer.
-#[unsafe(no_mangle)]
-pub extern "C" fn ivs_why(
+pub fn ivs_why(
     axes: u32,
     job: &[u8],
     store: &[u8],

@@ -9,8 +9,7 @@ use widths::Widths;
 
 // Writes the table of a store and a word for each glyph, of no words without a map. High half: 0 written, else the refusal number; low half:
 // the bytes.
-#[unsafe(no_mangle)]
-pub extern "C" fn ivs_write_widths(store: &[u8], words: &[u32], out: &mut [u8]) -> u64
+pub fn ivs_write_widths(store: &[u8], words: &[u32], out: &mut [u8]) -> u64
     ensures value { result ≡ widths_word (widths_of store.now words.now (length out.old)) }
     ensures out_after { out.new ≡ widths_left store.now words.now out.old }
 {
@@ -21,8 +20,7 @@ pub extern "C" fn ivs_write_widths(store: &[u8], words: &[u32], out: &mut [u8]) 
 }
 
 // The value of a region in a glyph's row of a table, as a number.
-#[unsafe(no_mangle)]
-pub extern "C" fn ivs_read_width(table: &[u8], glyph: u32, region: u32) -> u64
+pub fn ivs_read_width(table: &[u8], glyph: u32, region: u32) -> u64
     ensures { result ≡ read_word (width_reading table.now glyph region) }
 {
     numbers::as_word(widths::read_width(table, glyph, region))

@@ -1,7 +1,7 @@
 -- Laws of looking at a job. Assumes nothing.
 use mathlib.Core.Path.{◌≡◌, refl, sym, ap, ◌∙◌, subst}
-use mathlib.Core.List.{List, [], ◌∷◌}
-use Prim.Native.Nat.{ℕ, zero, suc, ◌+◌, ◌*◌, ◌/◌, ◌≤◌, min}
+use mathlib.Core.List.{List}
+use Prim.Native.Nat.{ℕ, zero, suc, ◌*◌, ◌≤◌}
 use native.Mathlib.Omega.{arith}
 use lib.ListN.{length, replicate}
 use borrow.Author.Tests.{eq-eqb, ne_eqb}
@@ -11,7 +11,7 @@ use Rattle.said.specs.Work.{regions_at_head}
 use Rattle.said.specs.Refusals.{early_refusal}
 use Rattle.said.proofs.WorkLaws.{work-records}
 use Rattle.said.specs.Job.{Outcome, in_axes, records_from, outcome_from, outcome}
-use Rattle.said.specs.Job.{refused, fine}
+use Rattle.said.specs.Job.{refused}
 use Rattle.job.specs.Lent.{JobRead}
 use Rattle.said.specs.LentOpen.{Open}
 use Rattle.job.specs.Check.{checked_of, work_left}

@@ -7,7 +7,7 @@ use native.Mathlib.Omega.{arith}
 use lib.ListN.{length, get_or}
 use lib.Seq.{ext_get_or}
 use Rattle.laws.specs.LentRange.{seg, Zeroed}
-use Rattle.laws.proofs.EveryLaws.{all_get_d}
+use Rattle.laws.proofs.EveryLaws.{all-get_or}
 use Rattle.laws.proofs.RangeLaws.{only-refl, only-trans, only-weaken, length-seg, get_or-seg}
 use Rattle.sets.specs.Set.{Ascending, Proper}
 use Rattle.sets.specs.Lent.{entries, sets_in}
@@ -125,8 +125,8 @@ module _ (axes mode : ℕ) (job : List ℕ) (records nr at : ℕ) (old mid new :
         room = omega (arith, length-new);
         rows = omega (arith, s.held.rows-low, s.start-in);
         body = λ x l. omega (arith, s.held.bodies x l, s.start-in);
-        ascending = λ x l. rw (s.held.rows_are x l) (all_get_d (Ascending 0) s.said.sets x [] s.held.good.sets-rising (omega (arith, s.held.sets-count)));
-        proper = λ x l. rw (s.held.rows_are x l, ← s.held.uses-count) (all_get_d (Proper (length s.said.used)) s.said.sets x [] s.held.good.sets-proper (omega (arith, s.held.sets-count)));
+        ascending = λ x l. rw (s.held.rows_are x l) (all-get_or (Ascending 0) s.said.sets x [] s.held.good.sets-rising (omega (arith, s.held.sets-count)));
+        proper = λ x l. rw (s.held.rows_are x l, ← s.held.uses-count) (all-get_or (Proper (length s.said.used)) s.said.sets x [] s.held.good.sets-proper (omega (arith, s.held.sets-count)));
       };
     }
       where

@@ -1,5 +1,5 @@
 -- What looking at a job answers, and what it leaves in work (RULES R1 to R9, L2).
-use Rattle.std.specs.Prelude.{List, [], ◌∷◌, ℕ, eqb, length, replicate}
+use Rattle.std.specs.Prelude.{List, ℕ, eqb, length, replicate}
 use Rattle.laws.specs.Pick.{pick}
 use Rattle.said.specs.Refusals.{early_refusal}
 use Rattle.said.specs.Job.{Outcome, refused, fine}

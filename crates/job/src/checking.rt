@@ -9,7 +9,7 @@ use laws::wide;
 use records::records_in;
 
 // A refusal's number and place, or the numbers of regions, sets and values.
-#[derive(Drop)]
+#[derive(Clone, Copy)]
 pub enum Checked {
     Refused(usize, usize),
     Sound(usize, usize, usize),

@@ -1,4 +1,6 @@
 // A job, from its bytes to its sets: what is tested before the first record, its records whole, and the looking at it.
+#![tactic(auto)]
+
 mod checking;
 mod early;
 mod head;

@@ -12,7 +12,7 @@ use laws::zero_part;
 use values::SetTables;
 
 // A refusal number with its place, or 0 and the counts.
-#[derive(Drop)]
+#[derive(Clone, Copy)]
 pub struct JobEnd {
     pub no: usize,
     pub at: usize,

@@ -1,8 +1,8 @@
 -- The records of the sets: one of them, and the loop over all. Assumes nothing.
-use mathlib.Core.Path.{◌≡◌, refl, sym, ap, ◌∙◌, subst}
-use mathlib.Core.Bool.{Bool, true, false}
-use mathlib.Core.List.{List, [], ◌∷◌, ◌++◌}
-use Prim.Native.Nat.{ℕ, zero, suc, ◌+◌, ◌-◌, ◌*◌, ◌/◌, ◌%◌, ◌≤◌, ◌<◌}
+use mathlib.Core.Path.{◌≡◌, refl, sym, ◌∙◌, subst}
+use mathlib.Core.Bool.{true}
+use mathlib.Core.List.{List, [], ◌∷◌}
+use Prim.Native.Nat.{ℕ, ◌+◌, ◌*◌, ◌/◌, ◌%◌, ◌≤◌, ◌<◌}
 use native.Mathlib.Omega.{arith}
 use lib.ListN.{length}
 use Rattle.laws.specs.LentRange.{Only}
@@ -11,15 +11,15 @@ use Rattle.values.specs.declared.tables.SetTables.{SetTables}
 use Rattle.values.specs.declared.values.Took.{Took}
 use Rattle.said.specs.Records.{record_at, kind, value_kind, region_number, value_as_word}
 use Rattle.said.specs.Refusals.{unfinished, form_refusal, end_refusal}
-use Rattle.said.specs.Sets.{region_list, first_like, has}
-use Rattle.said.specs.Job.{Said, in_sets, Step, stop, on, unless, step, value_step, end_step, after_value, after_end, regions_only, refused, fine, ended, ended_sets}
+use Rattle.said.specs.Sets.{region_list, first_like}
+use Rattle.said.specs.Job.{Said, in_sets, stop, on, unless, step, value_step, end_step, after_value, after_end, regions_only, refused, fine, ended, ended_sets}
 use Rattle.values.proofs.BegunLaws.{begun-few}
-use Rattle.values.specs.Lent.{Holds, ValueFits, TookValue, EndedSet}
+use Rattle.values.specs.Lent.{Holds, TookValue, EndedSet}
 use Rattle.job_scan.specs.declared.reading.SetsEnd.{SetsEnd}
 use Rattle.job_scan.specs.declared.reading.SoFar.{SoFar}
-use Rattle.job_scan.specs.Lent.{Room, EndFits, RecordFits, is_open, Reached, RecordOn, RecordRead, SetsHeld, SetsRead, refused_end, stopped_by, begun_at, value_taken, end_taken}
+use Rattle.job_scan.specs.Lent.{Room, RecordFits, is_open, Reached, RecordOn, RecordRead, SetsRead, refused_end, stopped_by, begun_at, value_taken, end_taken}
 use Rattle.said.proofs.StepLaws.{unless-stop, unless-on, regions-from, form-stops, value-steps, end-steps}
-use Rattle.job_scan.proofs.WalkLaws.{left, after, turn-stop, turn_on, at-end}
+use Rattle.job_scan.proofs.WalkLaws.{left, turn-stop, turn_on, at-end}
 
 -- ---- one record
 

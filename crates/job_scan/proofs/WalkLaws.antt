@@ -1,18 +1,17 @@
 -- One turn of the records_from along a job's records, by what its record is. Assumes nothing.
 use mathlib.Core.Path.{◌≡◌, refl, sym, ap, ◌∙◌}
-use mathlib.Core.Bool.{Bool, true, false}
-use mathlib.Core.List.{List, [], ◌∷◌}
-use Prim.Native.Nat.{ℕ, zero, suc, ◌+◌, ◌-◌, ◌*◌, ◌/◌, ◌%◌, ◌≤◌, ◌<◌}
-use native.Mathlib.Nat.{add-zero, sub-zero}
+use mathlib.Core.Bool.{false}
+use mathlib.Core.List.{List}
+use Prim.Native.Nat.{ℕ, suc, ◌+◌, ◌-◌, ◌/◌, ◌%◌, ◌≤◌, ◌<◌}
+use native.Mathlib.Nat.{sub-zero}
 use native.Mathlib.Omega.{arith}
-use lib.ListN.{length, get_or, drop}
-use lib.Seq.{drop-drop, get_or-drop}
-use lib.Dec.{eqb}
+use lib.ListN.{drop}
+use lib.Seq.{drop-drop}
 use borrow.Author.Tests.{eq-eqb, ne_eqb}
 use Rattle.said.specs.Records.{record_bytes, record_start, record_at, after_record, kind, axis_kind, is_axis}
 use Rattle.said.specs.Refusals.{unfinished, form_refusal}
 use Rattle.said.specs.Sets.{region_list}
-use Rattle.said.specs.Job.{Said, State, in_axes, in_sets, Step, stop, on, regions_only, axes_before, is_late, kind_step, step, Outcome, refused, fine, ended, ended_sets, follow, records_from}
+use Rattle.said.specs.Job.{State, in_axes, in_sets, Step, stop, on, regions_only, axes_before, is_late, kind_step, step, Outcome, refused, ended, ended_sets, follow, records_from}
 use Rattle.said.proofs.StepLaws.{unless-stop, unless-on, whole_before, begin-step}
 use Rattle.job_scan.specs.LentAxes.{AxesRead}
 

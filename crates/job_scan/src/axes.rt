@@ -7,7 +7,7 @@ use records::{Kind, form_at, kind_at};
 use said::Refusal;
 
 // A refusal number with its place; or 0, and the record that the axis records end before.
-#[derive(Drop)]
+#[derive(Clone, Copy)]
 pub struct AxesEnd {
     pub no: usize,
     pub at: usize,

@@ -1,4 +1,6 @@
 // The way along a job's records: the axis records, for each region the first like it, the records of the sets.
+#![tactic(auto)]
+
 mod axes;
 mod reading;
 mod regions;

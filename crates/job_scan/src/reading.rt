@@ -15,7 +15,7 @@ use said::Refusal;
 use values::{SetTables, Took, take_value};
 
 // A refusal number with its place, or 0 and the counts.
-#[derive(Drop)]
+#[derive(Clone, Copy)]
 pub struct SetsEnd {
     pub no: usize,
     pub at: usize,
@@ -26,7 +26,7 @@ pub struct SetsEnd {
 
 // A refusal number, or 0 and how far the sets are read: how many have ended, the values, the regions in use; where the entries of the set that
 // has not ended start, how many there are, and 1 if it has named a region.
-#[derive(Drop)]
+#[derive(Clone, Copy)]
 pub struct SoFar {
     pub no: usize,
     pub sets: usize,

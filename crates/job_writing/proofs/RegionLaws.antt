@@ -1,11 +1,11 @@
 -- Axis records, one after the other. Assumes nothing.
-use mathlib.Core.Path.{◌≡◌, refl, sym, ap, ◌∙◌}
+use mathlib.Core.Path.{◌≡◌, refl, ap, ◌∙◌}
 use mathlib.Core.Bool.{true}
-use mathlib.Core.List.{List, [], ◌∷◌, ◌++◌}
+use mathlib.Core.List.{List, [], ◌++◌}
 use Prim.Native.Nat.{ℕ, zero, suc, ◌+◌, ◌-◌, ◌*◌, ◌≤◌, ◌<◌}
 use native.Mathlib.Nat.{mul_comm}
 use native.Mathlib.Omega.{arith}
-use lib.ListN.{length, get_or, drop}
+use lib.ListN.{length, drop}
 use lib.Seq.{get_or-drop, drop-drop}
 use Rattle.laws.specs.Bytes.{be}
 use Rattle.laws.specs.Bounded.{tabulate}
@@ -14,7 +14,7 @@ use Rattle.laws.proofs.Products.{row_fits, row_next}
 use Rattle.laws.proofs.RangeLaws.{get_or-seg, seg-drop}
 use Rattle.reader.specs.Store.{list_at, axis_count, region_count, is_header_ok}
 use Rattle.reader.proofs.StoreLaws.{header-fits}
-use Rattle.stores.specs.Stores.{Parsed, parts, store_at}
+use Rattle.stores.specs.Stores.{parts, store_at}
 use Rattle.recovering.specs.Recovering.{axis_record, axes_from, regions_from}
 use Rattle.rows.proofs.PutLaws.{Putting, put-start}
 use Rattle.job_writing.proofs.PieceLaws.{piece-room}

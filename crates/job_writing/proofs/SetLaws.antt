@@ -1,17 +1,16 @@
 -- Value and end records, row by row. Assumes nothing.
 use mathlib.Core.Path.{◌≡◌, refl, sym, ap, ◌∙◌}
-use mathlib.Core.Bool.{true}
 use mathlib.Core.List.{List, [], ◌∷◌, ◌++◌, map, append-nil, append_assoc}
 use mathlib.Core.Option.{Option, none, some}
-use Prim.Native.Nat.{ℕ, zero, suc, ◌+◌, ◌-◌, ◌*◌, ◌≤◌, ◌<◌}
+use Prim.Native.Nat.{ℕ, suc, ◌+◌, ◌-◌, ◌*◌, ◌≤◌, ◌<◌}
 use native.Mathlib.Omega.{arith}
-use lib.ListN.{length, get_or}
+use lib.ListN.{length}
 use borrow.Author.Tests.{eq-eqb, ne_eqb}
 use Rattle.laws.specs.Bytes.{be}
 use Rattle.laws.specs.Bounded.{tabulate}
 use Rattle.laws.specs.Signed.{signed, twos}
 use Rattle.reader.specs.Store.{column_width, column_start, word_at, column_count, item_count}
-use Rattle.stores.specs.Stores.{Table, Parsed, table_count, offset_at, rows_at, row_long, table_at, slot_at, store_at}
+use Rattle.stores.specs.Stores.{Table, table_count, offset_at, rows_at, row_long, table_at, slot_at, store_at}
 use Rattle.cells.specs.Lent.{NextCell}
 use Rattle.recovering.specs.Recovering.{Row, value_bytes, end_record, entries_of, rows_of, set_bytes, sets_bytes}
 use Rattle.tallying.specs.LentTally.{entries_in, rows_in, RowIn}

@@ -1,7 +1,9 @@
 // The job of a store (#105), written: an axis record for each axis of each region in list order, then a set for each row.
+#![tactic(auto)]
+
 mod records;
 mod regions;
-mod sets;
+mod set_records;
 
 ghost use Rattle.std.specs.Prelude.{◌≡◌, true, ◌≤◌, length};
 ghost use Rattle.cells.specs.Lent.{Ahead};
@@ -12,7 +14,7 @@ ghost use Rattle.stores.specs.Stores.{store_at, is_whole_ok};
 ghost use Rattle.recovering.specs.Recovering.{job_of};
 
 use crate::regions::write_regions;
-use crate::sets::write_sets;
+use crate::set_records::write_sets;
 
 // The job of a store that can be recovered.
 pub fn write_job(out: &mut [u8], s: &[u8], work: &[u32])

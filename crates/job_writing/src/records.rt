@@ -28,7 +28,7 @@ fn head(kind: usize, q: usize, a: usize) -> u32
 // Axis a of region q, whose six bytes stand in the store from `from` on.
 pub fn put_axis(out: &mut [u8], at: usize, q: usize, a: usize, s: &[u8], from: usize)
     requires at_in_bounds { at + 12 ≤ length out.old }
-    requires q_bound { (q < 65536) × (a < 256) × (from + 6 ≤ length s.now) }
+    requires record_fits { (q < 65536) × (a < 256) × (from + 6 ≤ length s.now) }
     ensures { Put at (axis_record q a (drop from s.now)) out.old out.new (at + 12) }
 {
     let first = be(s, from, 4) as u32;

@@ -10,7 +10,7 @@ use reader::be;
 
 // Those of region q, whose coordinates stand from `from` on.
 fn write_axes(out: &mut [u8], at: usize, q: usize, s: &[u8], from: usize, axes: usize) -> usize
-    requires q_bound { (q < 65536) × (axes < 256) × (from + 6 * axes ≤ length s.now) }
+    requires record_fits { (q < 65536) × (axes < 256) × (from + 6 * axes ≤ length s.now) }
     requires s_in_bounds { at + length (axes_from q 0 axes (drop from s.now)) ≤ length out.old }
     ensures { Put at (axes_from q 0 axes (drop from s.now)) out.old out.new result }
 {

@@ -4,12 +4,12 @@ use mathlib.Core.List.{List}
 use mathlib.Core.Logic.{◌↔◌}
 use Prim.Native.Nat.{ℕ, ◌<◌}
 use native.Mathlib.Omega.{arith}
-use lib.ListN.{length, get_or}
+use lib.ListN.{length}
 use Rattle.said.proofs.SoundLaws.{Bytes}
 use Rattle.judging.specs.declared.judging.Judged.TheVariants.{Right}
 use Rattle.judging.specs.Judge.{judge_of}
-use Rattle.judging.proofs.Verdicts.{Yes, yes-exactly}
-use Rattle.judged_bytes.specs.Bytes.{SetTold, YesTold}
+use Rattle.judging.proofs.Verdicts.{yes-exactly}
+use Rattle.judged_bytes.specs.Bytes.{YesTold}
 use Rattle.judged_bytes.proofs.SetLaws.{job-told, right-told, told-right}
 
 module _ (axes : ℕ) (job store words : List ℕ) (work : ℕ) (bytes : Bytes job) (octets : Bytes store) where

@@ -1,9 +1,7 @@
 -- One set of a sound job beside a sound store: it is right exactly where the records of the job are read at its word. Assumes nothing.
 use mathlib.Core.Path.{◌≡◌, refl, sym, ap, ◌∙◌}
-use mathlib.Core.Bool.{Bool, true, false}
 use mathlib.Core.List.{List, []}
 use mathlib.Core.Logic.{◌⊎◌, inl, inr, ⊎_elim}
-use mathlib.Core.Option.{Option, none, some}
 use Prim.Native.Nat.{ℕ, zero, suc, ◌+◌, ◌*◌, ◌/◌, ◌%◌, ◌≤◌, ◌<◌}
 use native.Mathlib.Nat.{mul_comm}
 use native.Mathlib.Omega.{arith}
@@ -11,33 +9,31 @@ use lib.IntN.{ℤ, pos, ℤ_discrete}
 use lib.ListN.{length, get_or, take, drop}
 use borrow.Author.Tests.{lt-leb}
 use Rattle.laws.specs.LentRange.{seg}
-use Rattle.laws.specs.Signed.{value, zero_word}
+use Rattle.laws.specs.Signed.{value}
 use Rattle.laws.proofs.Cases.{lt-or-ge}
-use Rattle.laws.proofs.EveryLaws.{all_get_d}
+use Rattle.laws.proofs.EveryLaws.{all-get_or}
 use Rattle.sets.specs.Set.{Set, word_of, Proper}
 use Rattle.reader.specs.declared.column.Column.{Column}
 use Rattle.reader.specs.declared.column.Column.TheVariants.{At, Missing}
-use Rattle.reader.specs.declared.reader.Reading.{Reading}
 use Rattle.reader.specs.declared.reader.Reading.TheVariants.{Written, NoColumn}
 use Rattle.reader.specs.Store.{find, read_store, value_of, list_at, region_count}
 use Rattle.said.specs.Records.{record_count, region_number, record_at}
 use Rattle.said.specs.Refusals.{early_refusal, pair_records}
-use Rattle.said.specs.LentOpen.{Open}
 use Rattle.said.specs.Job.{Said, fine, outcome}
 use Rattle.said.proofs.SoundLaws.{Bytes, WellSaid, well-said, open-if}
 use Rattle.job.proofs.CheckLaws.{none-early}
-use Rattle.stores.specs.Stores.{Parsed, Shaped, read_row, read_table, read_parsed}
-use Rattle.stores.specs.Coordinates.{place_in, is_row_there, wanted}
+use Rattle.stores.specs.Stores.{Parsed, read_row, read_table, read_parsed}
+use Rattle.stores.specs.Coordinates.{place_in, wanted}
 use Rattle.stores.proofs.WholeLaws.{parse-shaped}
 use Rattle.stores.proofs.ByCoordinates.{place_found, place_at}
 use Rattle.stores.proofs.Reading.{Listing, list-parsed, read-parsed}
-use Rattle.told.specs.Told.{ValueIn, coordinates_at, index_of, Told}
+use Rattle.told.specs.Told.{ValueIn, index_of, Told}
 use Rattle.told.proofs.Bytes.{told}
 use Rattle.call.specs.Build.{region_bytes, coords_in_use}
 use Rattle.accepted.proofs.Accepted.{coords-long, coords-once}
 use Rattle.demands.specs.SetsRead.{listed, named_by, value_at, InStore, SetRead}
 use Rattle.demands.proofs.BytesBack.{value-at, coords-at}
-use Rattle.judging.specs.Judge.{named_in, judge_refusal}
+use Rattle.judging.specs.Judge.{named_in}
 use Rattle.judging.specs.Yes.{RowRight, SetRight, Sound}
 use Rattle.judging.proofs.WorkLaws.{judge-first}
 use Rattle.own_right.proofs.NamedLaws.{zero_is, wanted-lost, wanted-at}
@@ -111,7 +107,7 @@ module _ (axes : ℕ) (job store words : List ℕ) (work : ℕ) (s : Said) (p : 
     wants c = wanted (named_in s (get_or s.sets k [])) c
 
     proper : Proper (length (coords_in_use s)) (get_or s.sets k [])
-    proper = rw (coords-long s) (all_get_d (Proper (length s.used)) s.sets k [] well.good.sets-proper h)
+    proper = rw (coords-long s) (all-get_or (Proper (length s.used)) s.sets k [] well.good.sets-proper h)
 
     wants-at : (u : ℕ) → u < length coords → wants (get_or coords u []) ≡ value (word_of set u)
     wants-at u l = wanted-at s (length coords) u l (λ v m f. once v u m l f) set proper

@@ -1,5 +1,5 @@
 -- A yes by the bytes of job and store (#106): every set that the job's records say is read at its word. Assumes nothing.
-use Rattle.std.specs.Prelude.{◌≡◌, true, List, ℕ, suc, ◌/◌, ◌%◌, ◌<◌, length, get_or}
+use Rattle.std.specs.Prelude.{◌≡◌, true, List, ℕ, ◌/◌, ◌%◌, ◌<◌, length, get_or}
 use Rattle.said.specs.Records.{record_count}
 use Rattle.said.specs.Job.{Said}
 use Rattle.stores.specs.Stores.{Parsed}

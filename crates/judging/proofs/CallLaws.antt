@@ -1,41 +1,34 @@
 -- From a job whose sets work holds to the sides, and from the call to its answer. Assumes nothing.
-use mathlib.Core.Path.{◌≡◌, refl, sym, ap, subst, ◌∙◌}
-use mathlib.Core.Bool.{Bool, true, false, not, ◌&&◌}
-use mathlib.Core.List.{List, [], ◌∷◌}
-use mathlib.Core.Logic.{⊎_elim}
+use mathlib.Core.Path.{◌≡◌, refl, sym, ap, ◌∙◌}
+use mathlib.Core.Bool.{Bool, true, false, not}
+use mathlib.Core.List.{List}
 use mathlib.Core.Option.{Option, none, some}
-use Prim.Native.Nat.{ℕ, ◌+◌, ◌-◌, ◌*◌, ◌≤◌, ◌<◌}
+use Prim.Native.Nat.{ℕ, ◌+◌, ◌*◌, ◌≤◌, ◌<◌}
 use native.Mathlib.Nat.{le_refl, mul_comm, mul_left_comm, add-mul}
 use native.Mathlib.Omega.{arith}
 use lib.ListN.{length, get_or, replicate}
 use borrow.Author.Tests.{eq-eqb, ne_eqb, not-true, not-false}
-use Rattle.laws.specs.LentRange.{Only}
 use Rattle.laws.proofs.Cases.{true-false}
-use Rattle.laws.proofs.EveryLaws.{all_get_d}
+use Rattle.laws.proofs.EveryLaws.{all-get_or}
 use Rattle.laws.proofs.Products.{product, row_fits}
 use Rattle.laws.proofs.RangeLaws.{get_or-seg}
-use Rattle.sets.specs.Lent.{sets_in, Held}
 use Rattle.sets.proofs.HeldLaws.{Kept, kept-only, kept_trans, held_kept, sets_same}
-use Rattle.limits.specs.Limits.{most_records, pair_records}
-use Rattle.said.specs.Records.{record_bytes, record_start, record_count, region_length}
-use Rattle.said.specs.Refusals.{early_refusal}
-use Rattle.said.specs.LentOpen.{Open}
+use Rattle.said.specs.Records.{record_count, region_length}
 use Rattle.said.specs.Job.{Said, Outcome, refused, fine, in_axes, records_from, outcome_from}
-use Rattle.said.proofs.SaidLaws.{Counts, counts, room_of}
-use Rattle.job.specs.Lent.{JobHeld, JobRead}
+use Rattle.said.proofs.SaidLaws.{Counts, counts}
+use Rattle.job.specs.Lent.{JobRead}
 use Rattle.job.proofs.CheckLaws.{early-first, none-early}
 use Rattle.reader.specs.Store.{axis_count, region_count, list_at}
-use Rattle.reader.proofs.StoreLaws.{HeaderFits}
 use Rattle.stores.specs.Stores.{Parsed, store_at, parse, parses}
 use Rattle.stores.proofs.PartLaws.{be-two}
 use Rattle.stores.proofs.Reading.{list-parsed}
 use Rattle.stores.proofs.WholeLaws.{parse-done}
 use Rattle.matching.specs.declared.Sides.{Sides}
-use Rattle.matching.specs.Lent.{total, side_at, firsts_of, scratch, FirstSide, SidesFit, Matched}
+use Rattle.matching.specs.Lent.{side_at, FirstSide, SidesFit, Matched}
 use Rattle.matching.proofs.SideLaws.{side_same}
 use Rattle.giving.proofs.WordLaws.{whole_of, head_of}
 use Rattle.judging.specs.declared.judging.Judged.{Judged}
-use Rattle.judging.specs.declared.judging.Judged.TheVariants.{Refused, Right, WrongSet, WrongStore}
+use Rattle.judging.specs.declared.judging.Judged.TheVariants.{Refused, WrongStore}
 use Rattle.judging.specs.Judge.{judged_in, judged_of, judge_refusal, judge_of, judge_left}
 use Rattle.judging.specs.LentJudge.{JudgeOpen, Looked, JudgeFit, Sided}
 
@@ -121,7 +114,7 @@ module _ {axes records sets uses : ℕ} {job store w : List ℕ} (f : JudgeFit a
   used-long u l =
       let q = get_or f.held.said.used u 0 in
       let low : q < length f.held.said.regions =
-      all_get_d (λ x. x < length f.held.said.regions) f.held.said.used u 0 all.used_low (omega (arith, f.held.uses-are)) in
+      all-get_or (λ x. x < length f.held.said.regions) f.held.said.used u 0 all.used_low (omega (arith, f.held.uses-are)) in
       let a = row_fits (region_length axes) (length f.held.said.regions) q low in
       let b : length f.held.said.regions * region_length axes ≡ 12 * (length f.held.said.regions * axes) = mul_left_comm (length f.held.said.regions) 12 axes in
       rw (used-said u l) (omega (arith, all.records-are, f.whole))

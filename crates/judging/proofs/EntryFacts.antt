@@ -1,11 +1,11 @@
 -- Entries by their places: regions below a bound, no zeros, and the word of each. Assumes nothing.
-use mathlib.Core.Path.{◌≡◌, refl, sym, ap, ◌∙◌}
-use mathlib.Core.List.{List, [], ◌∷◌}
+use mathlib.Core.Path.{◌≡◌, refl, ap, ◌∙◌}
+use mathlib.Core.List.{List, ◌∷◌}
 use Prim.Native.Nat.{ℕ, zero, suc, ◌+◌, ◌-◌, ◌*◌, ◌≤◌, ◌<◌}
 use native.Mathlib.Omega.{arith}
 use lib.ListN.{get_or}
 use Rattle.laws.specs.Signed.{zero_word}
-use Rattle.sets.specs.Set.{Set, word_of, Ascending, Proper}
+use Rattle.sets.specs.Set.{word_of, Ascending, Proper}
 use Rattle.sets.specs.Lent.{entries}
 use Rattle.sets.proofs.SetLaws.{entries-cons, word-head, word-tail}
 

@@ -4,10 +4,9 @@ use mathlib.Core.Bool.{Bool, true, false}
 use mathlib.Core.Logic.{⊎_elim}
 use Prim.Native.Nat.{ℕ, zero, suc, ◌+◌, ◌≤◌, ◌<◌}
 use native.Mathlib.Omega.{arith}
-use Rattle.laws.proofs.Cases.{lt-or-ge, true-false, Which, which}
+use Rattle.laws.proofs.Cases.{lt-or-ge, Which, which}
 use Rattle.laws.proofs.Cases.Which.{holds, fails}
-use Rattle.judging.specs.declared.judging.Judged.{Judged}
-use Rattle.judging.specs.declared.judging.Judged.TheVariants.{Refused, Right, WrongSet, WrongStore}
+use Rattle.judging.specs.declared.judging.Judged.TheVariants.{Right, WrongSet, WrongStore}
 use Rattle.judging.specs.Judge.{first_failing}
 
 module _ (given : ℕ → Bool) where

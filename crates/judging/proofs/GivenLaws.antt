@@ -1,29 +1,29 @@
 -- Set k is given by work exactly where the definition says that it is. Assumes nothing.
 use mathlib.Core.Path.{◌≡◌, refl, sym, ap, ◌∙◌}
-use mathlib.Core.Bool.{Bool, true, false, ◌&&◌}
+use mathlib.Core.Bool.{true, false}
 use mathlib.Core.List.{List, []}
-use mathlib.Core.Logic.{◌⊎◌, ⊎_elim}
+use mathlib.Core.Logic.{⊎_elim}
 use mathlib.Core.Option.{some}
 use Prim.Native.Nat.{ℕ, ◌+◌, ◌*◌, ◌/◌, ◌%◌, ◌≤◌, ◌<◌}
 use native.Mathlib.Omega.{arith}
 use lib.Dec.{ltb}
-use lib.IntN.{ℤ, pos}
+use lib.IntN.{pos}
 use lib.ListN.{length, get_or}
 use borrow.Author.Tests.{lt-ltb, ltb-true}
 use Rattle.laws.specs.Signed.{value, zero_word}
 use Rattle.laws.proofs.Cases.{lt-or-ge, and-true, Which, which}
 use Rattle.laws.proofs.Cases.Which.{holds, fails}
-use Rattle.sets.specs.Set.{Set, word_of, Ascending, Proper}
+use Rattle.sets.specs.Set.{Set, Ascending, Proper}
 use Rattle.sets.specs.Lent.{entries}
 use Rattle.said.specs.Job.{Said}
 use Rattle.reader.specs.Store.{region_count, value_of}
 use Rattle.stores.specs.Stores.{Parsed, offset_at, parse, read_parsed}
-use Rattle.stores.specs.Coordinates.{place_in, read_at, is_row_there, wanted, row_gives, Gives, Distinct}
+use Rattle.stores.specs.Coordinates.{place_in, read_at, wanted, row_gives, Gives, Distinct}
 use Rattle.stores.proofs.ByCoordinates.{place_found, place_at, read_past, at-lost, at-found, judged, judges}
 use Rattle.stores.proofs.Reading.{list-parsed}
 use Rattle.call.specs.Build.{coords_in_use}
 use Rattle.giving.specs.declared.entries.Aims.{Aims}
-use Rattle.giving.specs.Lent.{aim_at, aim, row_value, Given, outer_of, inner_of, start_in, count_in, SetGiven}
+use Rattle.giving.specs.Lent.{aim_at, aim, row_value, start_in, count_in, SetGiven}
 use Rattle.giving.proofs.PassLaws.{value-once}
 use Rattle.judging.specs.Judge.{named_in, set_given}
 use Rattle.judging.proofs.EntryFacts.{entry-proper, entry-word}

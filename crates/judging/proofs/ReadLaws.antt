@@ -1,18 +1,18 @@
 -- A row of a store by its bytes, and the same row of what the store parses to. Assumes nothing.
 use mathlib.Core.Path.{◌≡◌, refl, sym, ap, ◌∙◌}
 use mathlib.Core.Bool.{true}
-use mathlib.Core.List.{List, []}
-use mathlib.Core.Logic.{◌⊎◌, ⊎_elim}
+use mathlib.Core.List.{List}
+use mathlib.Core.Logic.{⊎_elim}
 use mathlib.Core.Option.{Option, none, some}
-use Prim.Native.Nat.{ℕ, ◌+◌, ◌*◌, ◌≤◌, ◌<◌}
+use Prim.Native.Nat.{ℕ, ◌≤◌, ◌<◌}
 use native.Mathlib.Nat.{zero-add}
 use native.Mathlib.Omega.{arith}
-use lib.ListN.{length, get_or, get_or-eq_default}
-use borrow.Author.Tests.{eq-eqb, ne_eqb, lt-ltb, le-ltb, lt-leb, ltb-true}
+use lib.ListN.{get_or, get_or-eq_default}
+use borrow.Author.Tests.{eq-eqb, ne_eqb, lt-ltb, le-ltb, lt-leb}
 use Rattle.laws.specs.Bounded.{tabulate}
 use Rattle.laws.proofs.Cases.{lt-or-ge, same_or_not, true-false}
-use Rattle.laws.proofs.BoundedLaws.{length-tabulate, get_d_tabulate}
-use Rattle.reader.specs.Store.{is_header_ok, region_count, item_count, is_subtable_ok, find, regions_at, subtable_reading, read_store, value_of}
+use Rattle.laws.proofs.BoundedLaws.{length-tabulate, get_or-tabulate}
+use Rattle.reader.specs.Store.{region_count, item_count, is_subtable_ok, subtable_reading, read_store, value_of}
 use Rattle.stores.specs.Stores.{Table, Parsed, table_count, offset_at, rows_at, row_long, table_at, slot_at, store_at, parse, read_parsed}
 use Rattle.stores.specs.Dropping.{row_count}
 use Rattle.stores.specs.Coordinates.{is_row_there}
@@ -54,7 +54,7 @@ module _ (store : List ℕ) (p : Parsed) (e : parse store ≡ some p) where
   table-in : (o : ℕ) → o < table_count store → get_or p.tables o none ≡ slot_at store (offset_at store o)
   table-in o h =
       ap (λ (l : List (Option Table)). get_or l o none) tables-are
-      ∙ get_d_tabulate 0 (table_count store) (λ o. slot_at store (offset_at store o)) none o h
+      ∙ get_or-tabulate 0 (table_count store) (λ o. slot_at store (offset_at store o)) none o h
       ∙ ap (λ (k : ℕ). slot_at store (offset_at store k)) (zero-add o)
 
   table-past : (o : ℕ) → table_count store ≤ o → get_or p.tables o none ≡ none

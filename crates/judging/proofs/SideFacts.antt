@@ -1,27 +1,25 @@
 -- The regions of a store and those of a job as work has them: which have the same coordinates. Assumes nothing.
 use mathlib.Core.Path.{◌≡◌, refl, sym, ap, subst, ◌∙◌}
-use mathlib.Core.Bool.{Bool, true, false, not, ◌&&◌}
+use mathlib.Core.Bool.{true, false}
 use mathlib.Core.List.{List, [], ◌∷◌}
 use mathlib.Core.Logic.{◌⊎◌, ⊎_elim}
 use mathlib.Core.Option.{some}
-use Prim.Native.Nat.{ℕ, zero, suc, ◌+◌, ◌-◌, ◌*◌, ◌≤◌, ◌<◌}
+use Prim.Native.Nat.{ℕ, suc, ◌+◌, ◌-◌, ◌*◌, ◌≤◌, ◌<◌}
 use native.Mathlib.Omega.{arith}
 use lib.ListN.{length, get_or}
-use borrow.Author.Tests.{ltb-true, le-ltb, lt-ltb}
+use borrow.Author.Tests.{le-ltb}
 use Rattle.laws.specs.Every.{All}
 use Rattle.laws.specs.LentRange.{seg}
 use Rattle.laws.proofs.Cases.{lt-or-ge, Tri, tri, Which, which}
 use Rattle.laws.proofs.Cases.Tri.{below, same, above}
 use Rattle.laws.proofs.Cases.Which.{holds, fails}
-use Rattle.laws.proofs.EveryLaws.{all_get_d, two-get_or}
+use Rattle.laws.proofs.EveryLaws.{all-get_or, two-get_or}
 use Rattle.laws.proofs.ListLaws.{get_or-map-in}
-use Rattle.laws.proofs.Products.{row_fits}
 use Rattle.said.specs.Records.{region_from}
-use Rattle.said.specs.Sets.{Region, coordinates, region_list}
-use Rattle.said.specs.Job.{Said}
+use Rattle.said.specs.Sets.{Region, coordinates}
 use Rattle.said.proofs.RegionLaws.{regions-at}
 use Rattle.said.proofs.SoundLaws.{Coordinates, WellSaid, well-said}
-use Rattle.reader.specs.Store.{words, axis_count, region_count, list_at}
+use Rattle.reader.specs.Store.{list_at}
 use Rattle.stores.specs.Stores.{Parsed, store_at, parse}
 use Rattle.stores.specs.Coordinates.{place_in, listed, once, Distinct}
 use Rattle.stores.proofs.WholeLaws.{parse-done}
@@ -29,10 +27,10 @@ use Rattle.stores.proofs.Reading.{Listing, list-parsed}
 use Rattle.stores.proofs.ByCoordinates.{place_at, once-distinct}
 use Rattle.call.specs.Build.{region_bytes, coords_in_use}
 use Rattle.matching.specs.declared.Sides.{Sides}
-use Rattle.matching.specs.Lent.{total, side_at, firsts_of, FirstSide, SidesFit}
+use Rattle.matching.specs.Lent.{side_at, firsts_of}
 use Rattle.matching.proofs.SideLaws.{side-listed, side-used, listed-fits}
 use Rattle.giving.proofs.WordLaws.{whole_of}
-use Rattle.judging.specs.LentJudge.{NotFirst, Firsts, Sided}
+use Rattle.judging.specs.LentJudge.{NotFirst, Sided}
 use Rattle.judging.proofs.NumberLaws.{region-once, words-bytes, words_small}
 
 -- ---- a list without repeats passes its test
@@ -97,7 +95,7 @@ module _ {store job : List ℕ} {sets : ℕ} {w : List ℕ} {t : Sides} (f : Sid
   well = well-said t.axes 0 job f.records f.said f.fits.some f.bytes f.is
 
   used_low : (u : ℕ) → u < t.uses → get_or f.said.used u 0 < length f.said.regions
-  used_low u h = all_get_d (λ q. q < length f.said.regions) f.said.used u 0 well.counted.used_low (omega (arith, f.uses-are))
+  used_low u h = all-get_or (λ q. q < length f.said.regions) f.said.used u 0 well.counted.used_low (omega (arith, f.uses-are))
 
   used-region : (u : ℕ) → u < t.uses → get_or f.said.regions (get_or f.said.used u 0) [] ≡ side (t.listed + u)
   used-region u h =
@@ -120,7 +118,7 @@ module _ {store job : List ℕ} {sets : ℕ} {w : List ℕ} {t : Sides} (f : Sid
   small-used : (u : ℕ) → u < t.uses → All (λ x. x < 65536) (side (t.listed + u))
   small-used u h =
       subst (All (λ x. x < 65536)) (used-region u h)
-      (all_get_d (Coordinates t.axes) f.said.regions (get_or f.said.used u 0) [] well.coordinates-are (used_low u h)).1
+      (all-get_or (Coordinates t.axes) f.said.regions (get_or f.said.used u 0) [] well.coordinates-are (used_low u h)).1
 
   listed_same : (i j : ℕ) → i < t.listed → j < t.listed → get_or (store_at store).regions i [] ≡ get_or (store_at store).regions j [] → side i ≡ side j
   listed_same i j a b e = region-once (side i) (side j) (small-listed i a) (small-listed j b) (sym (region-at i a) ∙ e ∙ region-at j b)

@@ -1,26 +1,23 @@
 -- The sets of a job against the rows of a store, where the first like each region stands in work. Assumes nothing.
-use mathlib.Core.Path.{◌≡◌, refl, sym, ap, subst, ◌∙◌}
-use mathlib.Core.Bool.{Bool, true, false, not, ◌&&◌}
-use mathlib.Core.List.{List, [], ◌∷◌}
-use Prim.Native.Nat.{ℕ, ◌+◌, ◌-◌, ◌*◌, ◌≤◌, ◌<◌}
+use mathlib.Core.Path.{◌≡◌, refl, sym, ap, ◌∙◌}
+use mathlib.Core.Bool.{Bool, true, false, not}
+use mathlib.Core.List.{List, []}
+use Prim.Native.Nat.{ℕ, ◌+◌, ◌*◌, ◌≤◌, ◌<◌}
 use native.Mathlib.Omega.{arith}
 use lib.ListN.{length, get_or}
 use borrow.Author.Tests.{eq-eqb, not-true, not-false}
-use Rattle.laws.specs.LentRange.{Only}
 use Rattle.sets.specs.Set.{Set}
-use Rattle.sets.specs.Lent.{entries, entries_at, count_of, set_of, sets_in, Held}
+use Rattle.sets.specs.Lent.{entries, entries_at, count_of, set_of, Held}
 use Rattle.sets.proofs.HeldLaws.{Kept, kept-only, set_same, held_kept, sets-length, sets-at}
-use Rattle.said.specs.Job.{Said}
 use Rattle.stores.specs.Stores.{Parsed, store_at, parse}
-use Rattle.stores.specs.Coordinates.{once, Distinct}
+use Rattle.stores.specs.Coordinates.{Distinct}
 use Rattle.matching.specs.declared.Sides.{Sides}
-use Rattle.matching.specs.Lent.{total, firsts_of, scratch, SidesFit}
+use Rattle.matching.specs.Lent.{total, firsts_of}
 use Rattle.giving.specs.declared.entries.Aims.{Aims}
-use Rattle.giving.specs.Lent.{Clean, EntriesFit, start_in, count_in, SetGiven, SetsFit, FirstFailing}
-use Rattle.judging.specs.declared.judging.Judged.{Judged}
-use Rattle.judging.specs.declared.judging.Judged.TheVariants.{Refused, Right, WrongSet, WrongStore}
+use Rattle.giving.specs.Lent.{EntriesFit, start_in, count_in, SetsFit, FirstFailing}
+use Rattle.judging.specs.declared.judging.Judged.TheVariants.{Right, WrongSet, WrongStore}
 use Rattle.judging.specs.Judge.{set_given, first_failing, judged_in}
-use Rattle.judging.specs.LentJudge.{NotFirst, Firsts, SetOut, Sided}
+use Rattle.judging.specs.LentJudge.{Firsts, SetOut, Sided}
 use Rattle.judging.proofs.EntryFacts.{entry-proper}
 use Rattle.judging.proofs.FailLaws.{all_right, first-wrong}
 use Rattle.judging.proofs.GivenLaws.{Aimed, SetIn, given-said, not-said}

@@ -17,7 +17,7 @@ use Rattle.laws.proofs.ZeroLaws.{zeroed-part}
 use Rattle.reader.proofs.StoreLaws.{zeros-at}
 use Rattle.cells.specs.Lent.{LooksAhead}
 use Rattle.stores.specs.Stores.{parse, parses}
-use Rattle.judging.specs.LentJudge.{Looked, NotFirst, Firsts, Filled, SetOut}
+use Rattle.judging.specs.LentJudge.{Looked, Firsts, Filled, SetOut}
 
 -- ---- the word of zero for each
 

@@ -1,32 +1,31 @@
 -- A yes exactly when every set is right, a no by a set exactly at the first that is not, and a no by the store exactly where the store is at fault. Assumes
 -- nothing.
 use mathlib.Core.Path.{◌≡◌, refl, sym, ap, ◌∙◌}
-use mathlib.Core.Bool.{Bool, true, false, ◌&&◌}
+use mathlib.Core.Bool.{true, false, ◌&&◌}
 use mathlib.Core.List.{List, []}
 use mathlib.Core.Logic.{◌↔◌, ⊎_elim}
 use mathlib.Core.Option.{Option, none, some}
-use Prim.Native.Nat.{ℕ, zero, suc, ◌+◌, ◌/◌, ◌%◌, ◌≤◌, ◌<◌}
+use Prim.Native.Nat.{ℕ, zero, suc, ◌/◌, ◌%◌, ◌≤◌, ◌<◌}
 use native.Mathlib.Omega.{arith}
 use lib.Dec.{eqb, ltb}
-use lib.IntN.{ℤ, pos}
+use lib.IntN.{ℤ}
 use lib.ListN.{length, get_or}
 use borrow.Author.Tests.{lt-ltb, ltb-true, eq-eqb, eqb-true}
-use Rattle.laws.specs.Pick.{pick}
 use Rattle.laws.proofs.Cases.{lt-or-ge, and-true, true-false, Which, which}
 use Rattle.laws.proofs.Cases.Which.{holds, fails}
 use Rattle.said.specs.Records.{record_count}
 use Rattle.said.specs.Job.{Said, Outcome, refused, fine, in_axes, records_from, outcome_from}
-use Rattle.reader.specs.Store.{read_store, value_of}
-use Rattle.stores.specs.Stores.{Parsed, parse, read_parsed}
+use Rattle.reader.specs.Store.{value_of}
+use Rattle.stores.specs.Stores.{Parsed, parse}
 use Rattle.stores.specs.Coordinates.{place_in, read_at, once, wanted, row_gives, Gives, Distinct}
 use Rattle.stores.proofs.ByCoordinates.{place_found, place_at, at-lost, at-found, read_past, once-distinct, judged, judges}
 use Rattle.stores.proofs.Reading.{read-parsed}
-use Rattle.job.proofs.CheckLaws.{early-first, none-early}
+use Rattle.job.proofs.CheckLaws.{none-early}
 use Rattle.judging.specs.declared.judging.Judged.{Judged}
 use Rattle.judging.specs.declared.judging.Judged.TheVariants.{Refused, Right, WrongSet, WrongStore}
 use Rattle.judging.specs.Judge.{named_in, set_given, first_failing, judged_in, judged_of, judge_refusal, judge_of}
 use Rattle.judging.specs.Yes.{RowRight, SetRight, Sound}
-use Rattle.judging.proofs.FailLaws.{all_right, first-wrong, right-given, Named, wrong_first, never-store}
+use Rattle.judging.proofs.FailLaws.{all_right, first-wrong, right-given, wrong_first, never-store}
 use Rattle.judging.proofs.SideFacts.{distinct-once}
 
 -- ---- one set

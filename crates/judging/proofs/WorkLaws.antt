@@ -1,15 +1,12 @@
 -- Refusals 1, 3 and 4 of a call that judges, and its words of work. Assumes nothing.
-use mathlib.Core.Path.{◌≡◌, refl, sym, ap, ap₂, ◌∙◌}
+use mathlib.Core.Path.{◌≡◌, refl, ap, ap₂, ◌∙◌}
 use mathlib.Core.Bool.{Bool, true, false, ◌&&◌}
 use mathlib.Core.List.{List, [], ◌∷◌}
-use Prim.Native.Nat.{ℕ, ◌+◌, ◌-◌, ◌*◌, ◌/◌, ◌%◌, ◌≤◌, ◌<◌, min}
+use Prim.Native.Nat.{ℕ, ◌+◌, ◌*◌, ◌%◌, ◌≤◌, ◌<◌, min}
 use native.Mathlib.Omega.{arith}
 use lib.ListN.{length}
-use lib.Dec.{eqb, ltb, leb}
-use borrow.Author.Tests.{lt-ltb, le-leb, lt-leb, eq-eqb, leb-false, leb-true}
-use Rattle.laws.specs.Pick.{pick}
-use Rattle.laws.proofs.Cases.{Which, which, true-false}
-use Rattle.laws.proofs.Cases.Which.{holds, fails}
+use lib.Dec.{ltb, leb}
+use borrow.Author.Tests.{lt-ltb, le-leb, lt-leb, eq-eqb, leb-false}
 use Rattle.limits.specs.Limits.{max_regions}
 use Rattle.said.specs.Records.{record_bytes, record_count, is_whole_records, most_records, most_axes}
 use Rattle.said.specs.Work.{regions_at_head}

@@ -2,7 +2,7 @@
 -- and those of its records up to R8. Then yes, where the store is well formed throughout, has the job's axis count, lists no region twice, and every set's row gives each region that
 -- the set names its value and every other listed region zero; a named region that is not listed counts as zero. A no names the first set that fails, or none
 -- where the store itself is at fault.
-use Rattle.std.specs.Prelude.{Bool, true, false, ◌&&◌, List, [], ◌∷◌, map, ℕ, zero, suc, ◌+◌, ◌*◌, ◌/◌, ◌%◌, min, eqb, ltb, leb, ℤ, length, get_or, replicate}
+use Rattle.std.specs.Prelude.{Bool, ◌&&◌, List, [], ◌∷◌, map, ℕ, zero, suc, ◌+◌, ◌*◌, ◌/◌, ◌%◌, min, eqb, ltb, leb, ℤ, length, get_or, replicate}
 use Rattle.std.proofs.Math.Option.{Option, none, some}
 use Rattle.laws.specs.Pick.{pick}
 use Rattle.laws.specs.Signed.{value}

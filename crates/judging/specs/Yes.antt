@@ -1,5 +1,5 @@
 -- What a yes and a no say (#106), by what the job says and what the store parses to, and each value as `read_store` has it. Assumes nothing.
-use Rattle.std.specs.Prelude.{◌≡◌, true, List, [], ℕ, ◌/◌, ◌%◌, ◌<◌, ℤ, pos, length, get_or}
+use Rattle.std.specs.Prelude.{◌≡◌, true, List, [], ℕ, ◌/◌, ◌%◌, ◌<◌, pos, length, get_or}
 use Rattle.std.proofs.Math.Option.{some}
 use Rattle.said.specs.Job.{Said, fine, in_axes, records_from}
 use Rattle.said.specs.Records.{record_count}

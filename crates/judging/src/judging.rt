@@ -14,7 +14,7 @@ use reader::be;
 use records::records_in;
 
 // A refusal's number and place. Or the store gives every set; or set k is the first that it does not give; or the store itself is at fault.
-#[derive(Drop)]
+#[derive(Clone, Copy)]
 pub enum Judged {
     Refused(usize, usize),
     Right,

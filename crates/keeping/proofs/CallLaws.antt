@@ -1,11 +1,10 @@
 -- The tests of a call one after the other, and the work that it leaves. Assumes nothing.
 use mathlib.Core.Path.{◌≡◌, refl, sym, ap, ◌∙◌}
-use mathlib.Core.Bool.{Bool, true, false, not}
-use mathlib.Core.List.{List, [], ◌∷◌}
+use mathlib.Core.Bool.{true, false}
+use mathlib.Core.List.{List}
 use mathlib.Core.Logic.{⊎_elim}
 use mathlib.Core.Option.{Option, none, some}
-use Prim.Native.Nat.{ℕ, ◌+◌, ◌*◌, ◌≤◌, ◌<◌}
-use native.Mathlib.Nat.{zero-add}
+use Prim.Native.Nat.{ℕ, ◌+◌, ◌≤◌, ◌<◌}
 use native.Mathlib.Omega.{arith}
 use lib.ListN.{length, get_or, replicate, get_or-eq_default}
 use lib.Seq.{take_all}
@@ -19,7 +18,7 @@ use Rattle.stores.specs.Stores.{Parsed, store_at, is_whole_ok, parse, parses}
 use Rattle.stores.proofs.WholeLaws.{whole_is, parse-done}
 use Rattle.keeping.specs.Keeping.{keeping_work, all_there, last_of, keep_in, keep_parsed, keep_of, out_left, places_left, work_left, work_short, places_short}
 use Rattle.keeping.specs.declared.Kept.{Kept}
-use Rattle.keeping.specs.declared.Kept.TheVariants.{Done, Refused}
+use Rattle.keeping.specs.declared.Kept.TheVariants.{Refused}
 
 pub parses-whole : (s : List ℕ) → parses (parse s) ≡ true → is_whole_ok s ≡ true
 unfolding parse parses

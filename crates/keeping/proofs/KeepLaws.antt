@@ -1,7 +1,7 @@
 -- The call: its tests, and what it leaves. Assumes nothing.
 use mathlib.Core.Path.{◌≡◌, refl, sym, ap, ap₂, ◌∙◌}
-use mathlib.Core.Bool.{Bool, true, false, not, ◌&&◌, ◌||◌, or-true}
-use mathlib.Core.List.{List, [], ◌∷◌, ◌++◌, map}
+use mathlib.Core.Bool.{Bool, true, false, ◌||◌, or-true}
+use mathlib.Core.List.{List, map}
 use mathlib.Core.Logic.{⊎_elim}
 use mathlib.Core.Option.{Option, none, some}
 use Prim.Native.Nat.{ℕ, zero, suc, ◌+◌, ◌-◌, ◌*◌, ◌/◌, ◌%◌, ◌^◌, ◌≤◌, ◌<◌}
@@ -9,28 +9,28 @@ use native.Mathlib.Nat.{zero-add}
 use native.Mathlib.Numerals.{add-one}
 use native.Mathlib.Omega.{arith}
 use lib.Dec.{ltb}
-use lib.ListN.{length, get_or, drop, take, length-map, length-append, take-append-drop, length-drop}
-use lib.Seq.{drop-cons, drop-length, ext_get_or, take_all}
+use lib.ListN.{length, get_or, drop, take, length-map, take-append-drop, length-drop}
+use lib.Seq.{drop-cons, drop-length, take_all}
 use borrow.Author.Tests.{lt-ltb, le-ltb}
 use Rattle.laws.specs.Bag.{sum, weigh}
-use Rattle.laws.specs.Bounded.{tabulate, up_to}
+use Rattle.laws.specs.Bounded.{up_to}
 use Rattle.laws.specs.Bytes.{be, over}
-use Rattle.laws.specs.LentRange.{Only, seg}
+use Rattle.laws.specs.LentRange.{seg}
 use Rattle.laws.specs.Pick.{pick}
-use Rattle.laws.specs.Sorting.{keep, rank}
+use Rattle.laws.specs.Sorting.{rank}
 use Rattle.laws.proofs.BagLaws.{weigh-map, weigh-same, sum_same, sum-add}
 use Rattle.laws.proofs.Cases.{lt-or-ge}
-use Rattle.laws.proofs.EveryLaws.{all, all-imp}
+use Rattle.laws.proofs.EveryLaws.{all}
 use Rattle.laws.proofs.ListLaws.{get_or-map-in}
 use Rattle.laws.proofs.BoundedLaws.{length-tabulate}
 use Rattle.laws.proofs.Products.{product}
-use Rattle.laws.proofs.RangeLaws.{seg-ext, seg-add, length-seg, get_or-seg}
+use Rattle.laws.proofs.RangeLaws.{seg-ext}
 use Rattle.laws.proofs.RankLaws.{rank_most}
 use Rattle.laws.proofs.SortLaws.{keep_same}
-use Rattle.reader.specs.Store.{list_at, axis_count, region_count, column_start, column_count, word_at, regions_at}
+use Rattle.reader.specs.Store.{list_at, axis_count, region_count, column_count}
 use Rattle.reader.proofs.StoreLaws.{words-length}
-use Rattle.stores.specs.Stores.{Table, Parsed, table_count, rows_at, row_long, store_at, is_whole_ok, parse, place, place_size, slot_size, Shaped}
-use Rattle.stores.specs.Dropping.{used, left, named, renumber, dropped, new_place, row_count}
+use Rattle.stores.specs.Stores.{Table, Parsed, rows_at, row_long, store_at, place, place_size, slot_size}
+use Rattle.stores.specs.Dropping.{used, left, named, renumber, dropped, new_place}
 use Rattle.stores.specs.Coordinates.{is_row_there}
 use Rattle.stores.proofs.Back.{place-long}
 use Rattle.stores.proofs.Kept.{dropped-shaped}
@@ -38,14 +38,12 @@ use Rattle.stores.proofs.PartLaws.{be-two}
 use Rattle.stores.proofs.WholeLaws.{Whole, whole_is, parse-done, parse-shaped}
 use Rattle.rows.specs.Lent.{Put}
 use Rattle.choosing.specs.Lent.{Low, ChosenAt, PlacesPut}
-use Rattle.cutting.specs.LentCut.{start_of, rows_of, table_of, StoreFit, StoreNamed, cut_size, marked, tables_of, list_put, store_put}
-use Rattle.cutting.proofs.CutLaws.{table_kept, front}
+use Rattle.cutting.specs.LentCut.{start_of, rows_of, table_of, StoreFit, StoreNamed, cut_size, tables_of, list_put, store_put}
 use Rattle.cutting.proofs.WholeLaws as cutting-whole
 use Rattle.keeping.specs.Keeping.{keeping_work, room_of, is_too_long, most_bytes, all_there, kept_bytes, last_of, done_of, out_left, places_left, kept_short}
 use Rattle.keeping.specs.LentKeep.{Words, RegionsNamed, Sound}
-use Rattle.keeping.specs.declared.Kept.{Kept}
 use Rattle.keeping.specs.declared.Kept.TheVariants.{Done, Refused}
-use Rattle.keeping.proofs.ThereLaws.{RowIs, row_is, there-at}
+use Rattle.keeping.proofs.ThereLaws.{row_is, there-at}
 use Rattle.keeping.proofs.WordLaws.{words, words-kept, store-fit}
 use Rattle.keeping.proofs.LeftLaws.{cut_table, left_is, left-named, places-are, weigh-tabulate}
 use Rattle.keeping.proofs.PlacedLaws.{store-named, tables-count, rows-count, regions-kept, marks-count, place_is}

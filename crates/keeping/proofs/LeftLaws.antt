@@ -1,13 +1,12 @@
 -- What is left of a store, by the chosen words: its subtables, their rows, and the new places. Assumes nothing.
 use mathlib.Core.Path.{◌≡◌, refl, sym, ap, ap₂, ◌∙◌}
-use mathlib.Core.Bool.{Bool, true, false, ◌||◌}
-use mathlib.Core.List.{List, [], ◌∷◌, ◌++◌, map}
-use mathlib.Core.Logic.{⊎_elim}
+use mathlib.Core.Bool.{Bool, true, ◌||◌}
+use mathlib.Core.List.{List, [], ◌∷◌, map}
 use mathlib.Core.Option.{Option, none, some}
 use Prim.Native.Nat.{ℕ, zero, suc, ◌+◌, ◌-◌, ◌*◌, ◌/◌, ◌%◌, ◌≤◌, ◌<◌}
 use native.Mathlib.Nat.{zero-add}
 use native.Mathlib.Omega.{arith}
-use lib.ListN.{length, get_or, length-map}
+use lib.ListN.{length, get_or}
 use borrow.Author.Tests.{lt-ltb, ltb-true}
 use Rattle.laws.specs.Every.{All, EachTwo}
 use Rattle.laws.specs.Bag.{weigh, sum}
@@ -17,23 +16,22 @@ use Rattle.laws.specs.Sorting.{keep}
 use Rattle.laws.proofs.BagLaws.{weigh-append, sum-next, sum_same}
 use Rattle.laws.proofs.Cases.{true-false, Which, which}
 use Rattle.laws.proofs.Cases.Which.{holds, fails}
-use Rattle.laws.proofs.BoundedLaws.{length-tabulate, get_d_tabulate, tabulate-same, tabulate-snoc, map-tabulate}
-use Rattle.laws.proofs.EveryLaws.{all_get_d, all-intro}
+use Rattle.laws.proofs.BoundedLaws.{length-tabulate, get_or-tabulate, tabulate-same, tabulate-snoc, map-tabulate}
+use Rattle.laws.proofs.EveryLaws.{all-get_or, all-intro}
 use Rattle.laws.proofs.Pigeon.{two-intro}
 use Rattle.laws.proofs.RankLaws.{rank_less, rank-onto}
-use Rattle.reader.specs.Store.{item_count, word_at, column_count, regions_at, region_count}
+use Rattle.reader.specs.Store.{item_count, word_at, regions_at, region_count}
 use Rattle.stores.specs.Stores.{Table, Parsed, parts, table_count, offset_at, rows_at, row_long, table_at, slot_at, store_at, SlotFits, Shaped}
 use Rattle.stores.specs.Dropping.{rank, has, used, picked, cut, has_rows, cut_at, stays, left, named, new_place, row_count}
 use Rattle.stores.proofs.Picking.{picked-long}
 use Rattle.stores.proofs.PartLaws.{parts-long, parts_at, be-two}
 use Rattle.stores.proofs.Rising.{rising-keep, rising-rank}
 use Rattle.stores.proofs.WholeLaws.{Whole, parse-done, parse-shaped}
-use Rattle.cutting.specs.LentCut.{start_of, rows_of, table_of, TableFit, StoreFit, tables_of}
+use Rattle.cutting.specs.LentCut.{start_of, rows_of, table_of, TableFit, tables_of}
 use Rattle.cutting.proofs.NameLaws.{has-place, has-at}
 use Rattle.keeping.specs.Keeping.{all_there}
 use Rattle.keeping.specs.LentKeep.{Words}
-use Rattle.keeping.proofs.ThereLaws.{RowIs}
-use Rattle.keeping.proofs.WordLaws.{outer_of, start-in, outers-less, outers-same, word-used, used-word, word_row, group-row, store-fit}
+use Rattle.keeping.proofs.WordLaws.{start-in, outers-less, outers-same, word-used, used-word, group-row, store-fit}
 
 -- ---- a subtable stays where one of its rows is used
 
@@ -112,7 +110,7 @@ module _ {rows w : List ℕ} {k t : ℕ} (c : Words rows w k t) {s : List ℕ} (
 
   outers-at : (g : ℕ) → g < t → get_or outers g 0 ≡ O g
   unfolding outers
-  outers-at g l = get_d_tabulate 0 t O 0 g l ∙ rw (zero-add g)
+  outers-at g l = get_or-tabulate 0 t O 0 g l ∙ rw (zero-add g)
 
   outers-long : length outers ≡ t
   unfolding outers
@@ -151,7 +149,7 @@ module _ {rows w : List ℕ} {k t : ℕ} (c : Words rows w k t) {s : List ℕ} (
       go (fails e) (fails y) = y ∙ sym e
       go (fails e) (holds y) =
           let q = stays-row p u x y in
-          let f = rw q.2 at (all_get_d (SlotFits (length p.regions)) p.tables x none shaped.tables-fit h) in
+          let f = rw q.2 at (all-get_or (SlotFits (length p.regions)) p.tables x none shaped.tables-fit h) in
           let a = used-word c (x * 65536 + q.1) q.4 in
           let d : get_or w a.0 0 / 65536 ≡ x = omega (arith, a.2, q.3, f.rows_few) in
           let g = group_of a.0 a.1 in
@@ -179,7 +177,7 @@ module _ {rows w : List ℕ} {k t : ℕ} (c : Words rows w k t) {s : List ℕ} (
 
     inner-at : (i : ℕ) → i < rows_of n w g → get_or inners i 0 ≡ get_or w (start_of n w g + i) 0 % 65536
     unfolding inners
-    inner-at i h = get_d_tabulate 0 (rows_of n w g) (λ i. get_or w (start_of n w g + i) 0 % 65536) 0 i h ∙ rw (zero-add i)
+    inner-at i h = get_or-tabulate 0 (rows_of n w g) (λ i. get_or w (start_of n w g + i) 0 % 65536) 0 i h ∙ rw (zero-add i)
 
     inners-long : length inners ≡ rows_of n w g
     unfolding inners

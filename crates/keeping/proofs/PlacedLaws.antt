@@ -1,12 +1,11 @@
 -- The store that is left, placed, is what is written. Assumes nothing.
 use mathlib.Core.Path.{◌≡◌, refl, sym, ap, ap₂, subst, ◌∙◌}
-use mathlib.Core.Bool.{Bool, true, false, not}
-use mathlib.Core.List.{List, [], ◌∷◌, ◌++◌, map, append_assoc}
+use mathlib.Core.Bool.{Bool, true}
+use mathlib.Core.List.{List, [], ◌++◌, map, append_assoc}
 use mathlib.Core.Option.{Option, none, some}
-use Prim.Native.Nat.{ℕ, zero, suc, ◌+◌, ◌-◌, ◌*◌, ◌/◌, ◌%◌, ◌≤◌, ◌<◌}
+use Prim.Native.Nat.{ℕ, zero, suc, ◌+◌, ◌-◌, ◌*◌, ◌%◌, ◌≤◌, ◌<◌}
 use native.Mathlib.Nat.{zero-add}
 use native.Mathlib.Omega.{arith}
-use lib.Dec.{eqb}
 use lib.ListN.{length, get_or, length-map}
 use lib.Seq.{ext_get_or}
 use borrow.Author.Tests.{eq-eqb, ne_eqb}
@@ -20,10 +19,10 @@ use Rattle.laws.specs.LentRange.{seg}
 use Rattle.laws.specs.Sorting.{keep}
 use Rattle.laws.proofs.Cases.{Which, which}
 use Rattle.laws.proofs.Cases.Which.{holds, fails}
-use Rattle.laws.proofs.BoundedLaws.{length-tabulate, get_d_tabulate, tabulate-same, map-tabulate}
-use Rattle.laws.proofs.EveryLaws.{all, all-imp, all_get_d}
+use Rattle.laws.proofs.BoundedLaws.{length-tabulate, get_or-tabulate, tabulate-same, map-tabulate}
+use Rattle.laws.proofs.EveryLaws.{all, all-imp, all-get_or}
 use Rattle.laws.proofs.BagLaws.{weigh-map, weigh-same}
-use Rattle.laws.proofs.ListLaws.{map_same, map-map}
+use Rattle.laws.proofs.ListLaws.{map_same}
 use Rattle.laws.proofs.SortLaws.{keep_same}
 use Rattle.laws.proofs.SortMap.{keep_all}
 use Rattle.laws.proofs.UpLaws.{up-all}
@@ -36,8 +35,7 @@ use Rattle.stores.proofs.Kept.{low}
 use Rattle.stores.proofs.Picking.{picked-long}
 use Rattle.stores.proofs.PartLaws.{parts-long, parts_at}
 use Rattle.stores.proofs.WholeLaws.{Whole, parse-done, parse-shaped}
-use Rattle.rows.specs.Lent.{head_bytes}
-use Rattle.cutting.specs.LentCut.{start_of, rows_of, table_of, StoreFit, StoreNamed, marked, columns_put, rows_put, cut_bytes, cut_size, header_put, spots_put, regions_put, list_put, tables_put, store_put}
+use Rattle.cutting.specs.LentCut.{start_of, rows_of, table_of, StoreFit, StoreNamed, marked, columns_put, rows_put, cut_bytes, cut_size, spots_put, regions_put, list_put, tables_put, store_put}
 use Rattle.cutting.proofs.TableLaws.{cut-long}
 use Rattle.keeping.specs.Keeping.{all_there}
 use Rattle.keeping.specs.LentKeep.{Words}
@@ -59,7 +57,7 @@ words-tab : (s : List ℕ) (at n : ℕ) → words s at n ≡ tabulate 0 n (λ j.
 words-tab s at n = ext_get_or 0 (words s at n) (tabulate 0 n (λ j. be 2 s (at + 2 * j))) (words-length s at n ∙ sym (length-tabulate 0 n (λ j. be 2 s (at + 2 * j))))
     (λ j h.
     let b : j < n = omega (arith, words-length s at n) in
-    words-at s at n j b ∙ sym (get_d_tabulate 0 n (λ j. be 2 s (at + 2 * j)) 0 j b ∙ rw (zero-add j)))
+    words-at s at n j b ∙ sym (get_or-tabulate 0 n (λ j. be 2 s (at + 2 * j)) 0 j b ∙ rw (zero-add j)))
 
 module _ {rows w : List ℕ} {k t : ℕ} (c : Words rows w k t) {s : List ℕ} (bytes : (i : ℕ) → get_or s i 0 < 256) (whole : Whole s) (there : all_there (store_at s) rows ≡ true)
     (room : 3 * length rows + 1 + region_count s ≤ length w)
@@ -122,9 +120,9 @@ module _ {rows w : List ℕ} {k t : ℕ} (c : Words rows w k t) {s : List ℕ} (
   columns-named g j l h =
       let Q : ℕ → Type 0 = (λ x. (x < length (store_at s).regions) × (nm x ≡ true)) in
       let a : All (Columns Q) (tabulate 0 t (λ g. some (table g))) = subst (λ (ts : List (Option Table)). All (Columns Q) ts) left-tab (left-columns p u (low p u shaped)) in
-      let b = rw (get_d_tabulate 0 t (λ g. some (table g)) none g l, zero-add g) at (all_get_d (Columns Q) (tabulate 0 t (λ g. some (table g))) g none a (omega (arith, length-tabulate 0 t (λ g. some (table g))))) in
+      let b = rw (get_or-tabulate 0 t (λ g. some (table g)) none g l, zero-add g) at (all-get_or (Columns Q) (tabulate 0 t (λ g. some (table g))) g none a (omega (arith, length-tabulate 0 t (λ g. some (table g))))) in
       let e : get_or (regions_at s (table_of s n w g)) j 0 ≡ be 2 s (table_of s n w g + 6 + 2 * j) = words-at s (table_of s n w g + 6) (column_count s (table_of s n w g)) j h in
-      let f = all_get_d Q (regions_at s (table_of s n w g)) j 0 b (omega (arith, words-length s (table_of s n w g + 6) (column_count s (table_of s n w g)))) in
+      let f = all-get_or Q (regions_at s (table_of s n w g)) j 0 b (omega (arith, words-length s (table_of s n w g + 6) (column_count s (table_of s n w g)))) in
       let x = rw e at f in
       (omega (arith, x.0, regions-count), x.1)
 

@@ -1,22 +1,22 @@
 -- Regions made zero, marked and numbered. Assumes nothing.
-use mathlib.Core.Path.{◌≡◌, refl, sym, ap, ap₂, ◌∙◌}
-use mathlib.Core.Bool.{Bool, true, false}
+use mathlib.Core.Path.{◌≡◌, ap, ap₂, ◌∙◌}
+use mathlib.Core.Bool.{Bool}
 use mathlib.Core.List.{List, [], ◌∷◌}
 use mathlib.Core.Option.{Option, some}
-use Prim.Native.Nat.{ℕ, ◌+◌, ◌-◌, ◌*◌, ◌≤◌, ◌<◌}
+use Prim.Native.Nat.{ℕ, ◌+◌, ◌*◌, ◌≤◌, ◌<◌}
 use native.Mathlib.Omega.{arith}
 use lib.ListN.{length, get_or}
 use Rattle.laws.specs.Pick.{pick}
-use Rattle.laws.specs.Bounded.{tabulate, up_to}
+use Rattle.laws.specs.Bounded.{up_to}
 use Rattle.laws.specs.LentRange.{Only, Zeroed}
-use Rattle.laws.specs.Sorting.{keep, rank}
+use Rattle.laws.specs.Sorting.{rank}
 use Rattle.laws.specs.Bytes.{be}
 use Rattle.laws.proofs.BoundedLaws.{tabulate-same}
 use Rattle.laws.proofs.EveryLaws.{all-imp}
 use Rattle.laws.proofs.RangeLaws.{only-trans}
 use Rattle.laws.proofs.SortLaws.{keep_same}
 use Rattle.laws.proofs.UpLaws.{up-all}
-use Rattle.reader.specs.Store.{list_at, region_count, is_header_ok}
+use Rattle.reader.specs.Store.{list_at, region_count}
 use Rattle.stores.specs.Stores.{Table, table_at}
 use Rattle.stores.specs.Dropping.{named}
 use Rattle.cutting.specs.LentCut.{table_of, StoreFit, marked, tables_of, TablesMarked, NumberedAt}

@@ -1,23 +1,22 @@
 -- Whether a word names a row, by the store's bytes. Assumes nothing.
 use mathlib.Core.Path.{◌≡◌, refl, sym, ap, ◌∙◌}
-use mathlib.Core.Bool.{Bool, true, false, ◌&&◌}
+use mathlib.Core.Bool.{true, false}
 use mathlib.Core.List.{List, [], ◌∷◌}
 use mathlib.Core.Logic.{⊎_elim}
-use mathlib.Core.Option.{Option, none, some}
-use Prim.Native.Nat.{ℕ, zero, suc, ◌+◌, ◌*◌, ◌/◌, ◌%◌, ◌≤◌, ◌<◌}
+use mathlib.Core.Option.{none, some}
+use Prim.Native.Nat.{ℕ, zero, suc, ◌+◌, ◌/◌, ◌%◌, ◌≤◌, ◌<◌}
 use native.Mathlib.Nat.{zero-add}
 use native.Mathlib.Omega.{arith}
-use lib.Dec.{ltb, eqb}
+use lib.Dec.{ltb}
 use lib.ListN.{length, get_or, get_or-eq_default}
-use borrow.Author.Tests.{ltb-true, le-ltb, eq-eqb, ne_eqb, eqb-true}
+use borrow.Author.Tests.{ltb-true, le-ltb, eq-eqb, ne_eqb}
 use Rattle.laws.specs.Bounded.{tabulate}
-use Rattle.laws.proofs.Cases.{lt-or-ge, and-true, Which, which}
-use Rattle.laws.proofs.Cases.Which.{holds, fails}
-use Rattle.laws.proofs.BoundedLaws.{length-tabulate, get_d_tabulate}
+use Rattle.laws.proofs.Cases.{lt-or-ge, and-true}
+use Rattle.laws.proofs.BoundedLaws.{length-tabulate, get_or-tabulate}
 use Rattle.reader.specs.Store.{item_count, region_count, is_subtable_ok}
 use Rattle.reader.proofs.StoreLaws.{subtable-fits}
-use Rattle.stores.specs.Stores.{Table, Parsed, table_count, offset_at, rows_at, row_long, table_at, slot_at, store_at}
-use Rattle.stores.specs.Dropping.{has, row_count}
+use Rattle.stores.specs.Stores.{Parsed, table_count, offset_at, rows_at, row_long, table_at, slot_at, store_at}
+use Rattle.stores.specs.Dropping.{row_count}
 use Rattle.stores.specs.Coordinates.{is_row_there}
 use Rattle.stores.proofs.PartLaws.{parts-long}
 use Rattle.stores.proofs.WholeLaws.{Slot, Whole}
@@ -34,7 +33,7 @@ pub record RowIs (s : List ℕ) (o i : ℕ) : Type 0 where
 -- the slot of a subtable
 pub slot-of : (s : List ℕ) (o : ℕ) → o < table_count s → get_or (store_at s).tables o none ≡ slot_at s (offset_at s o)
 unfolding store_at
-slot-of s o h = get_d_tabulate 0 (table_count s) (λ o. slot_at s (offset_at s o)) none o h ∙ rw (zero-add o)
+slot-of s o h = get_or-tabulate 0 (table_count s) (λ o. slot_at s (offset_at s o)) none o h ∙ rw (zero-add o)
 
 slot-none : (s : List ℕ) (o : ℕ) → table_count s ≤ o → get_or (store_at s).tables o none ≡ none
 unfolding store_at

@@ -1,25 +1,22 @@
 -- The chosen words: their subtables, and what other words of work leave. Assumes nothing.
-use mathlib.Core.Path.{◌≡◌, refl, sym, ap, ◌∙◌}
-use mathlib.Core.Bool.{Bool, true, false}
+use mathlib.Core.Path.{◌≡◌, sym, ap, ◌∙◌}
+use mathlib.Core.Bool.{true}
 use mathlib.Core.List.{List, [], ◌∷◌}
-use mathlib.Core.Logic.{⊎_elim}
-use mathlib.Core.Option.{Option, none, some}
 use Prim.Native.Nat.{ℕ, zero, suc, ◌+◌, ◌-◌, ◌*◌, ◌/◌, ◌%◌, ◌≤◌, ◌<◌}
 use native.Mathlib.Omega.{arith}
 use lib.ListN.{length, get_or}
 use Rattle.laws.specs.LentRange.{Only}
 use Rattle.laws.proofs.Cases.{Tri, tri}
 use Rattle.laws.proofs.Cases.Tri.{below, same, above}
-use Rattle.reader.specs.Store.{is_header_ok, item_count, region_count}
+use Rattle.reader.specs.Store.{item_count, region_count}
 use Rattle.reader.proofs.StoreLaws.{header-fits}
-use Rattle.stores.specs.Stores.{table_count, offset_at, store_at}
+use Rattle.stores.specs.Stores.{offset_at, store_at}
 use Rattle.stores.specs.Dropping.{has}
-use Rattle.stores.specs.Coordinates.{is_row_there}
 use Rattle.stores.proofs.PartLaws.{be-two}
 use Rattle.stores.proofs.WholeLaws.{Whole}
-use Rattle.choosing.specs.Lent.{Rising, Within, Groups, ChosenAt}
+use Rattle.choosing.specs.Lent.{Within, Groups, ChosenAt}
 use Rattle.choosing.proofs.GroupLaws.{starts-most}
-use Rattle.cutting.specs.LentCut.{start_of, rows_of, table_of, TableFit, StoreFit}
+use Rattle.cutting.specs.LentCut.{start_of, table_of, TableFit, StoreFit}
 use Rattle.cutting.proofs.NameLaws.{has-place, has-at}
 use Rattle.keeping.specs.Keeping.{all_there}
 use Rattle.keeping.specs.LentKeep.{Words}

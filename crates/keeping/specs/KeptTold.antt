@@ -1,5 +1,5 @@
 -- What a done call says: the store parses, every entry names a row, the answer's numbers are those of the store that is left, and its bytes fit.
-use Rattle.std.specs.Prelude.{◌≡◌, true, List, ℕ, ◌≤◌, ◌<◌, length}
+use Rattle.std.specs.Prelude.{◌≡◌, true, List, ℕ, ◌≤◌, length}
 use Rattle.std.proofs.Math.Option.{some}
 use Rattle.laws.specs.Bag.{weigh}
 use Rattle.stores.specs.Stores.{Parsed, parse}

@@ -1,4 +1,6 @@
 // Rows that nobody uses dropped: `keep` writes a store with only the rows of a list, and each entry's new place.
+#![tactic(auto)]
+
 mod naming;
 mod there;
 mod words;
@@ -20,7 +22,7 @@ use reader::{Reading, be};
 use stores::whole_ok;
 
 // The bytes, subtables, regions and rows that are kept, or a refusal's number.
-#[derive(Drop)]
+#[derive(Clone, Copy)]
 pub enum Kept {
     Done(usize, usize, usize, usize),
     Refused(u8),

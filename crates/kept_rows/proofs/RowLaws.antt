@@ -1,10 +1,10 @@
 -- One row of a store that is cut down: where it stands, its columns, and where a row of the new store was. Assumes nothing.
 use mathlib.Core.Path.{◌≡◌, refl, sym, ap, ◌∙◌}
 use mathlib.Core.Bool.{Bool, true, false}
-use mathlib.Core.List.{List, [], ◌∷◌, map}
+use mathlib.Core.List.{[], map}
 use mathlib.Core.Logic.{⊎_elim}
 use mathlib.Core.Option.{Option, none, some}
-use Prim.Native.Nat.{ℕ, ◌+◌, ◌*◌, ◌/◌, ◌%◌, ◌≤◌, ◌<◌}
+use Prim.Native.Nat.{ℕ, ◌/◌, ◌%◌, ◌≤◌, ◌<◌}
 use native.Mathlib.Omega.{arith}
 use lib.Dec.{ltb}
 use lib.ListN.{length, get_or, length-map, get_or-eq_default}
@@ -14,7 +14,7 @@ use Rattle.laws.specs.Bounded.{up_to}
 use Rattle.laws.specs.Sorting.{keep}
 use Rattle.laws.proofs.Cases.{lt-or-ge}
 use Rattle.laws.proofs.ListLaws.{get_or-map-in}
-use Rattle.laws.proofs.EveryLaws.{all_get_d}
+use Rattle.laws.proofs.EveryLaws.{all-get_or}
 use Rattle.laws.proofs.RankLaws.{rank_less, rank-onto, kept_at}
 use Rattle.stores.specs.Stores.{Table, Parsed, SlotFits, Shaped}
 use Rattle.stores.specs.Dropping.{rank, picked, cut, has_rows, cut_at, stays, left, named, renumber, dropped, new_place, row_count}
@@ -107,7 +107,7 @@ module _ (p : Parsed) (u : ℕ → ℕ → Bool) (sh : Shaped p) where
     columns-in : All (λ c. (c < length p.regions) × (named (left p u) c ≡ true)) t.columns
     columns-in =
         rw (left_at o x.outer_below stay, cut-some o t x.is) at
-        (all_get_d (Columns (λ c. (c < length p.regions) × (named (left p u) c ≡ true))) (left p u) (rank (stays p u) o) none (left-columns p u (low p u sh))
+        (all-get_or (Columns (λ c. (c < length p.regions) × (named (left p u) c ≡ true))) (left p u) (rank (stays p u) o) none (left-columns p u (low p u sh))
         (rw left-long (rank_less (stays p u) o (length p.tables) stay x.outer_below)))
 
     pub same-columns : SameColumns p (dropped p u) w (new_place p u w)
@@ -121,7 +121,7 @@ module _ (p : Parsed) (u : ℕ → ℕ → Bool) (sh : Shaped p) where
       word_same = refl;
       columns-same = length-map t.columns number;
       region-same = λ j l.
-          let c = all_get_d (λ c. (c < length p.regions) × (named (left p u) c ≡ true)) t.columns j 0 columns-in l in
+          let c = all-get_or (λ c. (c < length p.regions) × (named (left p u) c ≡ true)) t.columns j 0 columns-in l in
           ap (λ (r : ℕ). get_or (dropped p u).regions r []) (get_or-map-in number t.columns j 0 0 l)
           ∙ drop-coordinates p u sh o i t x.is x.below y (get_or t.columns j 0) c.0 c.1;
       row_same = rw (place-inner p u w) (picked-at (u o) [] t.rows i x.below y);
@@ -159,7 +159,7 @@ module _ (p : Parsed) (u : ℕ → ℕ → Bool) (sh : Shaped p) where
           let m : x.table ≡ new_table o t = cc in
           let n : i' < length (picked (u o) [] t.rows) = rw m at x.below in
           let q = picked-from (u o) t.rows i' n in
-          let few = (rw f at (all_get_d (SlotFits (length p.regions)) p.tables o none sh.tables-fit b)).rows_few in
+          let few = (rw f at (all-get_or (SlotFits (length p.regions)) p.tables o none sh.tables-fit b)).rows_few in
           record {
             outer = o;
             inner = q.0;

@@ -1,6 +1,6 @@
 -- THE THEOREM of #112, of what a done call leaves in output and places (specs/KeptRows.antt). Assumes nothing.
 use mathlib.Core.Path.{◌≡◌, refl, sym, subst, ◌∙◌}
-use mathlib.Core.Bool.{Bool, true, false}
+use mathlib.Core.Bool.{Bool, true}
 use mathlib.Core.List.{List, [], ◌++◌, map}
 use mathlib.Core.Option.{some}
 use Prim.Native.Nat.{ℕ, ◌+◌, ◌*◌, ◌/◌, ◌%◌, ◌<◌}
@@ -10,9 +10,8 @@ use Rattle.laws.proofs.Cases.{Which, which}
 use Rattle.laws.proofs.Cases.Which.{holds, fails}
 use Rattle.laws.proofs.ListLaws.{get_or-map-in}
 use Rattle.laws.proofs.RankLaws.{rank_less}
-use Rattle.reader.specs.Store.{read_store}
-use Rattle.stores.specs.Stores.{Parsed, parse, place, Shaped}
-use Rattle.stores.specs.Dropping.{rank, used, has, picked, stays, left, named, dropped, new_place}
+use Rattle.stores.specs.Stores.{Parsed, parse, Shaped}
+use Rattle.stores.specs.Dropping.{rank, used, left, named, dropped, new_place}
 use Rattle.stores.specs.Coordinates.{is_row_there}
 use Rattle.stores.proofs.WholeLaws.{parse-shaped}
 use Rattle.stores.proofs.Picking.{picked-long}
@@ -23,13 +22,12 @@ use Rattle.stores.proofs.Kept.{drop-coordinates, drop-none, drop-parses}
 use Rattle.stores.proofs.Words.{place-outer, place-inner, word-reads}
 use Rattle.cutting.proofs.NameLaws.{has-place, has-at}
 use Rattle.keeping.specs.declared.Kept.TheVariants.{Done}
-use Rattle.keeping.specs.Keeping.{most_bytes, all_there, kept_store, kept_bytes, keep_of, out_left, places_left}
-use Rattle.keeping.specs.KeptTold.{DoneSays}
+use Rattle.keeping.specs.Keeping.{all_there, kept_store, kept_bytes, keep_of, out_left, places_left}
 use Rattle.keeping.proofs.ThereLaws.{there-at}
 use Rattle.keeping.proofs.Told.{done-told, places-less}
-use Rattle.kept_rows.specs.KeptRows.{SameColumns, RegionKept, RowKept, KeptAll}
+use Rattle.kept_rows.specs.KeptRows.{RegionKept, RowKept, KeptAll}
 use Rattle.kept_rows.specs.KeptRows.RegionKept.{here, gone}
-use Rattle.kept_rows.proofs.RowLaws.{RowIn, row_in, same-columns, WasRow, was-row}
+use Rattle.kept_rows.proofs.RowLaws.{RowIn, row_in, same-columns, was-row}
 
 module _ (s rows : List ℕ) (bytes : (k : ℕ) → get_or s k 0 < 256) (p : Parsed) (parsed : parse s ≡ some p) (all : all_there p rows ≡ true) (short : length (kept_bytes p rows) < 4294967296) (rest : List ℕ) where
   abbrev u : ℕ → ℕ → Bool

@@ -1,5 +1,7 @@
 // How much there may be of what a job holds and of what is made of it: each limit once, for code. specs/Limits has the same numbers for
 // contracts and laws.
+#![tactic(auto)]
+
 #[derive(Drop)]
 pub struct Limits {}
 

@@ -1,12 +1,11 @@
 -- A look, from where a build stands after merging to its reason. Assumes nothing.
 use mathlib.Core.Path.{◌≡◌, refl, sym, ap, subst, ◌∙◌}
-use mathlib.Core.Bool.{true, false, ◌&&◌}
+use mathlib.Core.Bool.{true, false}
 use mathlib.Core.List.{List}
 use Prim.Native.Nat.{ℕ, ◌≤◌, ◌<◌}
 use native.Mathlib.Omega.{arith}
-use lib.Dec.{ltb, leb}
 use lib.ListN.{length, replicate}
-use borrow.Author.Tests.{eq-eqb, le-leb, lt-leb, lt-ltb, le-ltb}
+use borrow.Author.Tests.{le-leb, lt-leb, lt-ltb, le-ltb}
 use Rattle.groups.specs.Groups.{groups_of, max_shapes}
 use Rattle.merging.specs.declared.optimizing.Merged.{Merged}
 use Rattle.said.specs.Job.{Said, Outcome, refused, fine, in_axes, records_from, outcome, outcome_from}
@@ -15,7 +14,6 @@ use Rattle.said.specs.Refusals.{early_refusal}
 use Rattle.panel.specs.declared.Profile.TheVariants.{Plain}
 use Rattle.panel.specs.Panelled.{panelled}
 use Rattle.panel.proofs.PanelledLaws.{panelled-plain}
-use Rattle.job.specs.Check.{work_left}
 use Rattle.job.proofs.CheckLaws.{left-early, left-zeros, early-first, none-early}
 use Rattle.encoder.specs.Packed.{Packed, shared}
 use Rattle.encoder.specs.Lent.{PackedAt}
@@ -24,13 +22,13 @@ use Rattle.finishing.specs.declared.measuring.Packing.{Packing}
 use Rattle.call.specs.Build.{packed_of}
 use Rattle.opening.specs.declared.opening.Stage.{Stage}
 use Rattle.opening.specs.LentOpened.{Read, OpenedAt}
-use Rattle.arranging.specs.LentArranged.{Joined, PackFit, ArrangeFit, ArrangedAs}
+use Rattle.arranging.specs.LentArranged.{Joined, ArrangeFit, ArrangedAs}
 use Rattle.arranging.proofs.StageLaws.{said-by}
 use Rattle.reasons.specs.declared.reason.Reason.{Reason}
 use Rattle.reasons.specs.declared.reason.Reason.TheVariants.{None}
 use Rattle.reasons.specs.Why.{why_of}
 use Rattle.looking.specs.Look.{why_packed, why_from}
-use Rattle.looking.specs.LentLook.{LookFit, CloseLookFit, Looked}
+use Rattle.looking.specs.LentLook.{LookFit, Looked}
 
 -- ---- what is packed
 

@@ -1,10 +1,9 @@
 -- What is packed in work may be looked at: its shapes are narrow, and each id has a row. Assumes nothing.
-use mathlib.Core.Path.{◌≡◌, refl, sym, ap, subst, ◌∙◌}
+use mathlib.Core.Path.{◌≡◌, sym, ap, subst, ◌∙◌}
 use mathlib.Core.Bool.{true}
 use mathlib.Core.List.{List, [], ◌∷◌}
 use Prim.Native.Nat.{ℕ, zero, suc, ◌+◌, ◌^◌, ◌≤◌, ◌<◌}
 use native.Mathlib.Omega.{arith}
-use lib.Dec.{ltb}
 use lib.ListN.{length, get_or}
 use borrow.Author.Tests.{lt-ltb}
 use Rattle.laws.specs.Pick.{pick}
@@ -12,11 +11,11 @@ use Rattle.laws.specs.Every.{All}
 use Rattle.laws.specs.LentRange.{seg}
 use Rattle.laws.proofs.Cases.{Which, which}
 use Rattle.laws.proofs.Cases.Which.{holds, fails}
-use Rattle.laws.proofs.EveryLaws.{all_get_d, all-intro}
+use Rattle.laws.proofs.EveryLaws.{all-get_or, all-intro}
 use Rattle.laws.proofs.BoundedLaws.{length-tabulate}
 use Rattle.laws.proofs.RangeLaws.{length-seg}
 use Rattle.sets.specs.Set.{Set, Proper}
-use Rattle.sets.specs.Ids.{distinct, shared_ids}
+use Rattle.sets.specs.Ids.{distinct}
 use Rattle.sets.specs.Lent.{entries, entries_at, count_of, set_of}
 use Rattle.sets.proofs.IdLaws.{place_here, id_below, id-at}
 use Rattle.shapes.specs.Lent.{Narrow}
@@ -27,7 +26,7 @@ use Rattle.said.specs.Job.{Outcome}
 use Rattle.encoder.specs.Packed.{Packed, shared}
 use Rattle.encoder.specs.Lent.{PackedAt}
 use Rattle.finishing.specs.declared.measuring.Packing.{Packing}
-use Rattle.call.specs.Build.{coords_in_use, packed_of}
+use Rattle.call.specs.Build.{packed_of}
 use Rattle.arranging.specs.LentArranged.{ArrangedAs}
 use Rattle.accepted.proofs.PackedLaws.{WellPacked, Words, shared-good}
 use Rattle.accepted.proofs.RunSound.{spot_of}
@@ -114,8 +113,8 @@ module _ {axes : ℕ} {job : List ℕ} {o : Outcome} {k : Packing} {w : List ℕ
   narrow g h =
       let none : Final = record { shape = []; ids = [] } in
       let b : g < length finals = omega (arith, finals-count) in
-      let m = all_get_d (λ (f : Final). Widths f.shape) finals g none good.widths b in
-      let l = all_get_d (λ (f : Final). length f.shape ≡ n) finals g none good.long b in
+      let m = all-get_or (λ (f : Final). Widths f.shape) finals g none good.widths b in
+      let l = all-get_or (λ (f : Final). length f.shape ≡ n) finals g none good.long b in
       subst Narrow (shape_is g h) (record { few = omega (arith, l, regions-are, a.packed.regions-few); narrow = m.most })
 
   there : (x : ℕ) → x < k.encoded.distinct → home_in x (packed_of 0 a.said).finals < k.encoded.count

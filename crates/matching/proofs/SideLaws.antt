@@ -11,7 +11,7 @@ use borrow.Author.Count.{below_more}
 use Rattle.laws.specs.Every.{All}
 use Rattle.laws.specs.LentRange.{Only}
 use Rattle.laws.proofs.Cases.{lt-or-ge}
-use Rattle.laws.proofs.Products.{product, row_fits, row_next}
+use Rattle.laws.proofs.Products.{row_fits, row_next}
 use Rattle.laws.proofs.RangeLaws.{only-refl, only-trans, only_set, only-weaken}
 use Rattle.sets.specs.Set.{Set}
 use Rattle.sets.specs.Ids.{place}
@@ -27,7 +27,7 @@ use Rattle.job_scan.specs.Lent.{as_set, RegionAt}
 use Rattle.job_scan.proofs.WriteLaws.{set-ascending, set-proper}
 use Rattle.entries.proofs.EntryLaws.{entries-kept}
 use Rattle.matching.specs.declared.Sides.{Sides}
-use Rattle.matching.specs.Lent.{total, side_at, body_of, firsts_of, scratch, SidesFit, Written, FirstSide, Matched}
+use Rattle.matching.specs.Lent.{total, side_at, body_of, firsts_of, SidesFit, Written, FirstSide, Matched}
 
 -- ---- one region
 

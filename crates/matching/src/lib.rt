@@ -1,5 +1,7 @@
 // The regions of a store's list beside those that a job has in use: for each of them the first with its coordinates. Regions are written as sets, and
 // sets are known to be found equal.
+#![tactic(auto)]
+
 ghost use Rattle.std.specs.Prelude.{◌≡◌, ℕ, ◌+◌, ◌*◌, ◌<◌, ◌≤◌, length, drop};
 ghost use Rattle.limits.specs.Limits.{most_axes};
 ghost use Rattle.said.specs.Records.{region_length};
@@ -15,7 +17,7 @@ use records::{coordinate, region_long};
 
 // Where both stand: in the store from byte `list` on the coordinates of so many listed regions, and in work from `used` on the numbers that the job
 // has for so many regions in use. The words of work from `index` on are scratch, and hold the answer.
-#[derive(Drop)]
+#[derive(Clone, Copy)]
 pub struct Sides {
     pub axes: usize,
     pub list: usize,

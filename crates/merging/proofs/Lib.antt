@@ -8,5 +8,3 @@ pub mod OptimizeLaws
 pub mod Unique
 pub mod Demand
 pub mod ReadyWorked
--- For walks: the calls.
-pub mod Calls

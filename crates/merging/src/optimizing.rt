@@ -1,4 +1,4 @@
-// Merging, from the starting groups to the living ones. `optimize` holds the pairs, and is walked (docs/PROVING.md).
+// Merging, from the starting groups to the living ones.
 ghost use Rattle.std.specs.Prelude.{◌≡◌, ◌+◌, ◌*◌, ◌≤◌, ◌<◌, length, get_or};
 ghost use Rattle.slots.specs.Lent.{Laid, Dealt};
 ghost use Rattle.pairs.specs.LentQueue.{SameFrom};
@@ -12,7 +12,7 @@ use slots::{MergeTables, measure_all, size};
 use waits::weigh_each;
 
 // How many merges there were and pairs were weighed, and the modelled size before and after.
-#[derive(Drop)]
+#[derive(Clone, Copy)]
 pub struct Merged {
     pub merges: usize,
     pub weighed: usize,

@@ -1,5 +1,4 @@
-// The run: the best pair is taken, and joined where both of its groups live, until none waits. A number lives that has a place: that is its mark. What decides is covered by the prover; `turn`,
-// `tidy` and `join_all` hold the pairs, and are walked (docs/PROVING.md).
+// The run: the best pair is taken, and joined where both of its groups live, until none waits. A number lives that has a place: that is its mark.
 ghost use Rattle.std.specs.Prelude.{◌≡◌, ◌+◌, ◌/◌, ◌≤◌, ◌<◌, ltb, length};
 ghost use Rattle.waits.specs.LentWaits.{room};
 ghost use Rattle.merging.specs.LentHeld.{Joinable, JoinedAt, SomeStanding, Turned, Tidied, Ran};
@@ -11,7 +10,7 @@ use slots::MergeTables;
 use waits::{Tally, offer_all};
 
 // How many pairs wait, were weighed and were joined, what the groups cost together, and how many pairs were taken since dead ones were dropped.
-#[derive(Drop)]
+#[derive(Clone, Copy)]
 pub struct Progress {
     pub waiting: usize,
     pub weighed: usize,

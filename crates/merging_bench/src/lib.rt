@@ -1,4 +1,6 @@
 // Merging under a C name, for the benchmark alone (host/bench): no entry point of the product, and nothing depends on it.
+#![tactic(auto)]
+
 ghost use Rattle.std.specs.Prelude.{◌≡◌, ◌≤◌, length, get_or, set};
 ghost use Rattle.pairs.specs.LentQueue.{SameFrom};
 ghost use Rattle.waits.specs.LentWaits.{room};

@@ -1,5 +1,7 @@
 // The subtables that the panel's reader takes: those of few columns. Looked at before anything is written, group by group, since each run of a group has
 // the columns of its group.
+#![tactic(auto)]
+
 ghost use Rattle.std.specs.Prelude.{◌≡◌, ℕ, ◌+◌, ◌*◌, ◌≤◌, ◌<◌, length};
 ghost use Rattle.store.specs.Lent.{Handed, finals_at};
 ghost use Rattle.limits.specs.Limits.{max_regions};

@@ -1,4 +1,6 @@
 // Answers as the numbers that a host gets: of reading one value.
+#![tactic(auto)]
+
 ghost use Rattle.std.specs.Prelude.{◌≡◌};
 ghost use Rattle.laws.specs.Signed.{twos};
 ghost use Rattle.numbers.specs.ReadWords.{read_word};

@@ -1,21 +1,17 @@
 -- One record, as it was read and as it is. Assumes nothing.
-use mathlib.Core.Path.{◌≡◌, refl, sym, ap, ap₂, ◌∙◌}
-use mathlib.Core.Bool.{Bool, true, false, not, ◌&&◌, ◌||◌}
-use mathlib.Core.List.{List, [], ◌∷◌}
+use mathlib.Core.Path.{◌≡◌, refl, sym, ◌∙◌}
+use mathlib.Core.Bool.{Bool, true, false}
+use mathlib.Core.List.{List, ◌∷◌}
 use mathlib.Core.Logic.{◌⊎◌, inl, inr, ⊎_elim}
-use Prim.Native.Nat.{ℕ, zero, suc, ◌+◌, ◌*◌, ◌/◌, ◌%◌, ◌≤◌, ◌<◌}
+use Prim.Native.Nat.{ℕ, zero, suc, ◌<◌}
 use native.Mathlib.Omega.{arith}
-use lib.ListN.{length, get_or}
-use lib.Dec.{eqb, ltb}
-use borrow.Author.Tests.{eq-eqb, ne_eqb, eqb-true, lt-ltb}
-use Rattle.laws.specs.Pick.{pick}
-use Rattle.laws.proofs.Cases.{Which, which, same_or_not}
-use Rattle.laws.proofs.Cases.Which.{holds, fails}
+use lib.ListN.{get_or}
+use borrow.Author.Tests.{eq-eqb, ne_eqb, lt-ltb}
+use Rattle.laws.proofs.Cases.{same_or_not}
 use Rattle.limits.specs.Limits.{max_regions}
-use Rattle.said.specs.Records.{kind, axis_kind, value_kind, is_axis, is_value, is_known, region_number, axis_of, must_be_zero, first_not_zero, first_wrong_byte, value_as_word}
+use Rattle.said.specs.Records.{kind, axis_kind, value_kind, is_known, region_number, must_be_zero, first_not_zero, first_wrong_byte}
 use Rattle.said.specs.Refusals.{not_zero, first_failed, in_turn, form_refusal, value_no}
-use Rattle.said.specs.Sets.{first_like, has}
-use Rattle.said.specs.Job.{Said, State, Step, stop, on, in_sets, unless, after_value, value_step, end_step, said_at, axes_before, is_late, kind_step, step}
+use Rattle.said.specs.Job.{Said, State, Step, stop, unless, value_step, said_at, axes_before, is_late, kind_step, step}
 use Rattle.said.proofs.RecordLaws.{form-passed}
 use Rattle.one_byte.specs.OneByte.{one_region, one_zeros, one_wrong, one_turn, one_form, one_value_no, one_value, one_kind, one_step}
 use Rattle.one_byte.specs.Together.{UsesByte, SameByte}

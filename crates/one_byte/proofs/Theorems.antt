@@ -2,7 +2,7 @@
 -- Assumes nothing.
 use mathlib.Core.Path.{◌≡◌, refl, sym, ap, subst, ◌∙◌}
 use mathlib.Core.List.{List}
-use mathlib.Core.Logic.{◌⊎◌, ⊎_elim}
+use mathlib.Core.Logic.{⊎_elim}
 use Prim.Native.Nat.{ℕ, zero, suc, ◌+◌, ◌*◌, ◌≤◌, ◌<◌}
 use native.Mathlib.Omega.{arith}
 use lib.ListN.{get_or, drop}
@@ -10,9 +10,9 @@ use lib.Seq.{get_or-drop, drop-drop}
 use Rattle.laws.proofs.Cases.{lt-or-ge}
 use Rattle.said.specs.Records.{record_at, record_start, first_wrong_byte}
 use Rattle.said.specs.Refusals.{not_zero}
-use Rattle.said.specs.Job.{State, in_axes, Step, stop, on, step, Outcome, refused, fine, follow, records_from}
+use Rattle.said.specs.Job.{State, in_axes, Step, stop, on, step, Outcome, refused, follow, records_from}
 use Rattle.one_byte.specs.OneByte.{one_wrong, one_step, one_records}
-use Rattle.one_byte.specs.Together.{UsesByte, ForByte, Together, NeverRead, now_read, then_read}
+use Rattle.one_byte.specs.Together.{UsesByte, Together, NeverRead, now_read, then_read}
 use Rattle.one_byte.specs.Together.Together.{same, for-byte}
 use Rattle.one_byte.proofs.RecordLaws.{same_byte, step_same, step-uses}
 

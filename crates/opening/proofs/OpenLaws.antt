@@ -1,15 +1,12 @@
 -- The first part of a build leaves what merging and the last part ask for. Assumes nothing.
 use mathlib.Core.Path.{◌≡◌, refl, sym, ap, subst, ◌∙◌}
 use mathlib.Core.Bool.{Bool, true, false}
-use mathlib.Core.List.{List, [], ◌∷◌}
-use Prim.Native.Nat.{ℕ, ◌+◌, ◌*◌, ◌/◌, ◌≤◌, ◌<◌}
+use mathlib.Core.List.{List}
+use Prim.Native.Nat.{ℕ, ◌<◌}
 use native.Mathlib.Nat.{zero-mul}
 use native.Mathlib.Omega.{arith}
 use lib.ListN.{length}
-use Rattle.laws.specs.LentRange.{Only}
-use Rattle.sets.specs.Set.{Set}
 use Rattle.groups.specs.Groups.{groups_of, max_shapes}
-use Rattle.slots.specs.Lent as merge
 use Rattle.merging.specs.LentOptimized.{Ready}
 use Rattle.said.specs.Records.{record_count}
 use Rattle.said.specs.Refusals.{shapes_full, early_refusal}
@@ -17,13 +14,13 @@ use Rattle.said.specs.Job.{Said, Outcome, refused, fine, in_axes, records_from}
 use Rattle.encoder.specs.declared.places.Places.{Places}
 use Rattle.encoder.specs.declared.encoded.Gathering.{Gathering}
 use Rattle.encoder.specs.declared.encoded.Gathering.TheVariants.{Full, Groups}
-use Rattle.encoder.specs.LentArranged.{tables_of, JoinFit, Gathers, GatheredAt}
+use Rattle.encoder.specs.LentArranged.{tables_of, Gathers, GatheredAt}
 use Rattle.encoder.proofs.ReadyLaws.{tables-laid, ready-none, ready}
 use Rattle.panel.specs.declared.Profile.{Profile}
 use Rattle.panel.specs.Panelled.{panelled}
 use Rattle.opening.specs.declared.opening.Stage.{Stage}
 use Rattle.opening.specs.LentCollected.{Collected}
-use Rattle.opening.specs.LentOpened.{no_places, refused_at, Grouped, Read, ReadAt, OpenedAt}
+use Rattle.opening.specs.LentOpened.{no_places, refused_at, ReadAt, OpenedAt}
 use Rattle.opening.proofs.KeptLaws.{collected-kept}
 
 -- where nothing is laid out, merging has no groups

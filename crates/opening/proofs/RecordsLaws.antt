@@ -5,7 +5,7 @@ use Prim.Native.Nat.{ℕ, ◌+◌, ◌*◌, ◌/◌, ◌≤◌, ◌<◌, min}
 use native.Mathlib.Omega.{arith}
 use lib.ListN.{length, get_or}
 use Rattle.laws.proofs.Products.{row_fits}
-use Rattle.laws.proofs.EveryLaws.{all_get_d}
+use Rattle.laws.proofs.EveryLaws.{all-get_or}
 use Rattle.laws.proofs.RangeLaws.{get_or-seg}
 use Rattle.sets.specs.Lent.{Held, sets_in}
 use Rattle.sets.proofs.HeldLaws.{Kept, kept-only, held_kept, sets_same, sets-length}
@@ -81,7 +81,7 @@ module _ {axes mode records : ℕ} {job w w₁ : List ℕ} (some : 0 < axes) (fe
   used-word i h = sym (get_or-seg (4 * records) uses w₁ i h) ∙ ap (λ (l : List ℕ). get_or l i 0) held.used-are
 
   used_low : (i : ℕ) → i < uses → get_or (r.good z).said.used i 0 < length (r.good z).said.regions
-  used_low i h = all_get_d (λ (q : ℕ). q < length (r.good z).said.regions) says.used i 0 cs.used_low (omega (arith, held.uses-are))
+  used_low i h = all-get_or (λ (q : ℕ). q < length (r.good z).said.regions) says.used i 0 cs.used_low (omega (arith, held.uses-are))
 
   pub starts-low : (i : ℕ) → i < uses → get_or w₁ (4 * records + i) 0 < max_regions
   starts-low i h = omega (arith, used-word i h, used_low i h, cs.regions-few)

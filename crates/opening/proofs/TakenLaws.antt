@@ -1,19 +1,18 @@
 -- A job's records read by a profile: how far they were read, and which record answers. Assumes nothing.
-use mathlib.Core.Path.{◌≡◌, refl, sym, ap, subst, ◌∙◌}
+use mathlib.Core.Path.{◌≡◌, sym, ◌∙◌}
 use mathlib.Core.List.{List}
 use mathlib.Core.Logic.{⊎_elim}
-use Prim.Native.Nat.{ℕ, ◌*◌, ◌≤◌, ◌<◌}
+use Prim.Native.Nat.{ℕ, ◌≤◌}
 use native.Mathlib.Omega.{arith}
-use lib.Dec.{eqb}
 use lib.ListN.{length}
 use borrow.Author.Tests.{eq-eqb, ne_eqb}
 use Rattle.laws.proofs.Cases.{same_or_not}
 use Rattle.said.specs.Records.{record_start, record_count}
-use Rattle.said.specs.Job.{Outcome, refused, fine, in_axes, records_from}
-use Rattle.job.specs.Lent.{JobHeld, JobRead}
+use Rattle.said.specs.Job.{Outcome, in_axes, records_from}
+use Rattle.job.specs.Lent.{JobRead}
 use Rattle.panel.specs.declared.Profile.{Profile}
 use Rattle.panel.specs.declared.records_of.Odd.{Odd}
-use Rattle.panel.specs.Panelled.{odd_of, read_records, panelled}
+use Rattle.panel.specs.Panelled.{odd_of, read_records}
 use Rattle.panel.proofs.PanelledLaws as laws
 use Rattle.panel.proofs.ReachLaws.{place-most}
 use Rattle.opening.specs.LentTaken.{records_before, JobTaken}

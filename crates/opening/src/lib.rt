@@ -1,4 +1,6 @@
 // The first part of a build: a job checked, its records read into work, its sets grouped.
+#![tactic(auto)]
+
 mod opening;
 mod taking;
 

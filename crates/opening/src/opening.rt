@@ -18,7 +18,7 @@ use said::Refusal;
 
 // Where a build by a profile stands before merging: refused by number and place, `early` if nothing was written yet; or, where the number is 0, with its sets
 // held in work, for so many axes and by a mode, in so many groups of so many distinct sets.
-#[derive(Drop)]
+#[derive(Clone, Copy)]
 pub struct Stage {
     pub profile: Profile,
     pub early: bool,

@@ -11,9 +11,9 @@ use Rattle.laws.specs.Sorting.{sorted}
 use Rattle.laws.specs.Bounded.{tabulate}
 use Rattle.laws.proofs.Cases.{lt-or-ge}
 use Rattle.laws.proofs.ListLaws.{get_or-map-in}
-use Rattle.laws.proofs.EveryLaws.{all_get_d}
+use Rattle.laws.proofs.EveryLaws.{all-get_or}
 use Rattle.laws.proofs.BagLaws.{sum_same}
-use Rattle.laws.proofs.BoundedLaws.{length-tabulate, get_d_tabulate}
+use Rattle.laws.proofs.BoundedLaws.{length-tabulate, get_or-tabulate}
 use Rattle.laws.proofs.SortLaws.{sorted_all, weigh-sorted}
 use Rattle.shapes.specs.Shape.{Shape, join}
 use Rattle.shapes.specs.Group.{Group, max_items}
@@ -74,7 +74,7 @@ module _ (xs : List Group) where
       (lt-or-ge i (length xs))
 
   made_at : (q : ℕ) → q < length ordered → Made xs (get_or ordered q nobody)
-  made_at q h = all_get_d (Made xs) ordered q nobody (sorted_all is_ahead (Made xs) (merged xs).living (unfold merged in made (length xs) xs)) h
+  made_at q h = all-get_or (Made xs) ordered q nobody (sorted_all is_ahead (Made xs) (merged xs).living (unfold merged in made (length xs) xs)) h
 
   shapes-are : (l : List ℕ) → join_of xs l ≡ shapes_joined xs l
   unfolding join_of shapes_joined
@@ -119,7 +119,7 @@ module _ (xs : List Group) where
   unfolding origins_of
   told-place i h =
       let e : 0 + i ≡ i = omega arith in
-      omega (arith, word-place 0 (tabulate 0 (length xs) place) i (omega (arith, all-long)), get_d_tabulate 0 (length xs) place 0 i h ∙ ap place e, home_below i nobody ordered (one i h))
+      omega (arith, word-place 0 (tabulate 0 (length xs) place) i (omega (arith, all-long)), get_or-tabulate 0 (length xs) place 0 i h ∙ ap place e, home_below i nobody ordered (one i h))
 
 -- ---- of a job's sets
 
@@ -151,12 +151,12 @@ module _ (regions : ℕ) (jobs : List Set) where
   final-rows : (q : ℕ) → q < length line → length (get_or finals q nothing).ids ≡ rows_back starting (words starting) q
   final-rows q h =
       ap (λ (f : Final). length f.ids) (final-at q h)
-      ∙ all_get_d (λ g. length (final g).ids ≡ g.group.sets) line q nobody
+      ∙ all-get_or (λ g. length (final g).ids ≡ g.group.sets) line q nobody
       (sorted_all is_ahead (λ g. length (final g).ids ≡ g.group.sets) (merged starting).living (sizes regions jobs).living-count) h
       ∙ rows-back starting q h
 
   final-some : (q : ℕ) → q < length line → 0 < length (get_or finals q nothing).ids
-  final-some q h = all_get_d (λ (f : Final). 0 < length f.ids) finals q nothing (unfold shared in (sizes regions jobs).finals-some) (omega (arith, finals-long))
+  final-some q h = all-get_or (λ (f : Final). 0 < length f.ids) finals q nothing (unfold shared in (sizes regions jobs).finals-some) (omega (arith, finals-long))
 
   module _ (number : ℕ → ℕ) (set : ℕ → Set) where
     before-is : (q : ℕ) → q ≤ length line → sum (λ p. length (slots number set (get_or finals p nothing))) q ≡ tables_before starting (words starting) q

@@ -1,18 +1,15 @@
 -- Lists put one after the other, by the place of each: the runs of groups, and the subtable of each run. Assumes nothing.
 use mathlib.Core.Path.{◌≡◌, refl, sym, ap, ◌∙◌}
 use mathlib.Core.List.{List, [], ◌∷◌, ◌++◌, map}
-use mathlib.Core.Option.{Option, none, some}
-use mathlib.Core.Logic.{⊎_elim}
+use mathlib.Core.Option.{Option, none}
 use Prim.Native.Nat.{ℕ, zero, suc, ◌+◌, ◌-◌, ◌*◌, ◌<◌, min}
 use native.Mathlib.Omega.{arith}
 use lib.ListN.{length, get_or, take, drop, length-map, length-append, length-take, length-drop, get_or-append}
 use lib.Seq.{get_or-append-add}
 use Rattle.laws.specs.Bag.{sum}
-use Rattle.laws.specs.Bounded.{tabulate}
 use Rattle.laws.specs.Joining.{join_all}
-use Rattle.laws.proofs.Cases.{same_or_not}
 use Rattle.laws.proofs.ListLaws.{get_or-map-in, map-map}
-use Rattle.laws.proofs.BoundedLaws.{length-tabulate, get_d_tabulate}
+use Rattle.laws.proofs.BoundedLaws.{length-tabulate, get_or-tabulate}
 use Rattle.laws.proofs.JoinLaws.{map-join}
 use Rattle.shapes.specs.Shape.{Shape}
 use Rattle.shapes.specs.Group.{max_items}
@@ -106,7 +103,7 @@ module _ (number : ℕ → ℕ) (set : ℕ → Set) where
       let n : k < length (runs_of g) = omega (arith, length-tabulate 0 (run_count_for (length g.ids)) (run_at g)) in
       let z : 0 + k ≡ k = omega arith in
       get_or-map-in slot (runs_of g) k g none n
-      ∙ ap slot (get_d_tabulate 0 (run_count_for (length g.ids)) (run_at g) g k h ∙ ap (run_at g) z)
+      ∙ ap slot (get_or-tabulate 0 (run_count_for (length g.ids)) (run_at g) g k h ∙ ap (run_at g) z)
 
   -- the subtable of run k of a group that has rows
   pub table_of : (g : Final) (k : ℕ) → 0 < length g.ids → k < run_count_for (length g.ids)

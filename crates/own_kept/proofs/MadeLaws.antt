@@ -1,10 +1,10 @@
 -- The store of final groups, none of which is empty, has nothing to drop: every subtable has rows, and every region of the list a column. Assumes nothing.
-use mathlib.Core.Path.{◌≡◌, refl, sym, ap, subst, ◌∙◌}
-use mathlib.Core.Bool.{Bool, true, false, not, ◌||◌}
+use mathlib.Core.Path.{◌≡◌, refl, ap, subst, ◌∙◌}
+use mathlib.Core.Bool.{true}
 use mathlib.Core.List.{List, [], ◌∷◌, map}
 use mathlib.Core.Logic.{⊎_elim}
 use mathlib.Core.Option.{Option, none, some}
-use Prim.Native.Nat.{ℕ, zero, suc, ◌+◌, ◌-◌, ◌*◌, ◌≤◌, ◌<◌, min}
+use Prim.Native.Nat.{ℕ, zero, suc, ◌+◌, ◌*◌, ◌≤◌, ◌<◌}
 use native.Mathlib.Omega.{arith}
 use lib.Dec.{eqb}
 use lib.ListN.{length, get_or, take, drop, length-take, length-drop, get_or-eq_default}
@@ -13,8 +13,8 @@ use Rattle.laws.specs.Every.{All}
 use Rattle.laws.specs.Bag.{sum}
 use Rattle.laws.proofs.Cases.{lt-or-ge, or_left, or_right, true-false, Which, which}
 use Rattle.laws.proofs.Cases.Which.{holds, fails}
-use Rattle.laws.proofs.BoundedLaws.{length-tabulate, get_d_tabulate}
-use Rattle.laws.proofs.EveryLaws.{all-imp, all_map, all_get_d, all-intro}
+use Rattle.laws.proofs.BoundedLaws.{length-tabulate, get_or-tabulate}
+use Rattle.laws.proofs.EveryLaws.{all-imp, all_map, all-get_or, all-intro}
 use Rattle.laws.proofs.RankLaws.{rank-onto}
 use Rattle.shapes.specs.Shape.{Shape}
 use Rattle.shapes.specs.Group.{max_items}
@@ -23,8 +23,8 @@ use Rattle.rows.specs.Row.{Set, Widths}
 use Rattle.rows.specs.Subtable.{run_count_for}
 use Rattle.rows.proofs.RunLaws.{run-some}
 use Rattle.rows.proofs.ColumnsLaws.{columns-has}
-use Rattle.stores.specs.Stores.{Table, Parsed}
-use Rattle.stores.specs.Dropping.{has, named, picked}
+use Rattle.stores.specs.Stores.{Table}
+use Rattle.stores.specs.Dropping.{has, named}
 use Rattle.stores.proofs.Picking.{picked-long, has-map}
 use Rattle.stores.proofs.Again.{Full, Packed}
 use Rattle.stores.proofs.Kept.{low}
@@ -72,7 +72,7 @@ runs-full g h =
     all-intro (λ (r : Final). 0 < length r.ids) (runs_of g) empty
     (λ k b.
     let c : k < run_count_for n = omega (arith, length-tabulate 0 (run_count_for n) f) in
-    let e : get_or (runs_of g) k empty ≡ f (0 + k) = get_d_tabulate 0 (run_count_for n) f empty k c in
+    let e : get_or (runs_of g) k empty ≡ f (0 + k) = get_or-tabulate 0 (run_count_for n) f empty k c in
     rw e (filled g k h c))
   where
     filled : (g : Final) (k : ℕ) → 0 < length g.ids → k < run_count_for (length g.ids) → 0 < length (take max_items (drop (max_items * (0 + k)) g.ids))
@@ -96,8 +96,8 @@ module _ (axes : ℕ) (coords : List (List ℕ)) (set : ℕ → Set) (gs : List 
   region-named r h =
       let a = names-from r gs h in
       let g = get_or gs a.0 empty in
-      let n = all_get_d (λ (g : Final). 0 < length g.ids) gs a.0 empty filled a.1 in
-      let w = all_get_d (λ (g : Final). Widths g.shape) gs a.0 empty wide a.1 in
+      let n = all-get_or (λ (g : Final). 0 < length g.ids) gs a.0 empty filled a.1 in
+      let w = all-get_or (λ (g : Final). Widths g.shape) gs a.0 empty wide a.1 in
       let p : 0 < get_or g.shape r 0 = omega (arith, a.2) in
       let j = columns-has g.shape r (in-shape g.shape r a.2) p (w.most r) (w.one_of r) in
       let t = table_at number set gs empty a.0 0 a.1 n (omega (arith, run-some (length g.ids) (omega arith))) in

@@ -1,11 +1,11 @@
 -- What a done build wrote, kept with a list that has every row, is the same bytes, in mode 0 always and in mode 1 where there is a set. Assumes nothing.
-use mathlib.Core.Path.{◌≡◌, refl, sym, ap, subst, ◌∙◌}
-use mathlib.Core.Bool.{Bool, true, false}
-use mathlib.Core.List.{List, [], ◌∷◌}
-use mathlib.Core.Option.{Option, none, some}
-use Prim.Native.Nat.{ℕ, ◌+◌, ◌*◌, ◌/◌, ◌%◌, ◌≤◌, ◌<◌}
+use mathlib.Core.Path.{◌≡◌, sym, ap, subst, ◌∙◌}
+use mathlib.Core.Bool.{true}
+use mathlib.Core.List.{List, []}
+use mathlib.Core.Option.{some}
+use Prim.Native.Nat.{ℕ, ◌+◌, ◌/◌, ◌%◌, ◌≤◌, ◌<◌}
 use native.Mathlib.Omega.{arith}
-use lib.Dec.{eqb, ltb}
+use lib.Dec.{eqb}
 use lib.ListN.{length, get_or, take, drop}
 use borrow.Author.Tests.{lt-ltb, eqb-false}
 use Rattle.laws.specs.Pick.{pick}
@@ -17,8 +17,8 @@ use Rattle.laws.proofs.UpLaws.{up-long}
 use Rattle.limits.specs.Limits.{max_shapes}
 use Rattle.sets.specs.Set.{Set}
 use Rattle.groups.specs.Groups.{groups_of}
-use Rattle.stores.specs.Stores.{Table, Parsed, parse, place}
-use Rattle.stores.specs.Dropping.{used, has, dropped, new_place, row_count, AllRows}
+use Rattle.stores.specs.Stores.{Parsed, parse, place}
+use Rattle.stores.specs.Dropping.{used, has, row_count, AllRows}
 use Rattle.stores.specs.Coordinates.{is_row_there}
 use Rattle.stores.proofs.Again.{Packed, packed-again}
 use Rattle.stores.proofs.Words.{again-place}
@@ -35,13 +35,13 @@ use Rattle.call.specs.Build.{coords_in_use, packed_of, answer_of, after}
 use Rattle.sizes.proofs.Counted.{sizes}
 use Rattle.accepted.proofs.ShortLaws.{Storable, fit}
 use Rattle.accepted.proofs.ReadBack.{Sized, shared-storable, own-storable}
-use Rattle.accepted.proofs.Accepted.{Accepted, accepted, accepted-sized, store_in, store-front}
+use Rattle.accepted.proofs.Accepted.{accepted, accepted-sized, store-front}
 use Rattle.accepted.proofs.WholeBack.{made_in, store-parsed}
 use Rattle.keeping.specs.declared.Kept.TheVariants.{Done}
 use Rattle.keeping.specs.Keeping.{kept_bytes, keep_of, out_left, places_left}
 use Rattle.keeping.proofs.ThereLaws.{there-at}
 use Rattle.keeping.proofs.Told.{done-told}
-use Rattle.kept_rows.proofs.RowLaws.{RowIn, row_in}
+use Rattle.kept_rows.proofs.RowLaws.{row_in}
 use Rattle.kept_rows.proofs.Rows.{place_at}
 use Rattle.own_kept.specs.OwnKept.{NoNull, EveryRow, KeptWhole}
 use Rattle.own_kept.proofs.MadeLaws.{made-packed}

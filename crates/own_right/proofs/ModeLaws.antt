@@ -1,5 +1,5 @@
 -- A job that is sound in either mode is sound in mode 0, and says the same. Assumes nothing.
-use mathlib.Core.Path.{◌≡◌, refl, sym, ap, ◌∙◌}
+use mathlib.Core.Path.{◌≡◌, refl, sym, ◌∙◌}
 use mathlib.Core.Bool.{Bool, true, false}
 use mathlib.Core.List.{List}
 use mathlib.Core.Logic.{⊎_elim}
@@ -10,7 +10,7 @@ use Rattle.laws.specs.Pick.{pick}
 use Rattle.laws.proofs.Cases.{same_or_not}
 use Rattle.said.specs.Records.{after_record, is_axis, is_value}
 use Rattle.said.specs.Refusals.{form_refusal, end_refusal}
-use Rattle.said.specs.Job.{Said, State, Step, stop, on, unless, after_end, end_step, kind_step, value_step, in_axes, in_sets, said_at, axes_before, is_late, step, Outcome, refused, fine, ended, follow, records_from}
+use Rattle.said.specs.Job.{Said, State, Step, stop, on, unless, after_end, end_step, kind_step, value_step, in_axes, in_sets, said_at, axes_before, is_late, step, fine, follow, records_from}
 use Rattle.said.proofs.RecordLaws.{end-free}
 
 end-down : (s : Said) (t : State) → end_step 1 s ≡ on t → end_step 0 s ≡ on t

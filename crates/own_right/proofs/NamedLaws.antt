@@ -3,15 +3,14 @@ use mathlib.Core.Path.{◌≡◌, refl, sym, ap, ◌∙◌}
 use mathlib.Core.List.{List, [], ◌∷◌}
 use mathlib.Core.Logic.{⊎_elim}
 use Prim.Native.Nat.{ℕ, ◌<◌}
-use native.Mathlib.Omega.{arith}
-use lib.IntN.{ℤ, pos}
-use lib.ListN.{length, get_or}
+use lib.IntN.{pos}
+use lib.ListN.{get_or}
 use Rattle.laws.specs.Signed.{value, zero_word}
 use Rattle.laws.proofs.Cases.{same_or_not}
 use Rattle.sets.specs.Set.{Set, word_of, Proper}
 use Rattle.sets.proofs.SetLaws.{word-head, word-tail}
 use Rattle.said.specs.Job.{Said}
-use Rattle.stores.specs.Coordinates.{are_same_bytes, wanted}
+use Rattle.stores.specs.Coordinates.{wanted}
 use Rattle.call.specs.Build.{coords_in_use}
 use Rattle.judging.specs.Judge.{named_in}
 use Rattle.judging.proofs.WantedLaws.{bytes-is, bytes-not}

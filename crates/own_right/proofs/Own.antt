@@ -1,10 +1,10 @@
 -- Whatever a done build writes gets a yes, in both modes, where each set's word is the map's word of its id. Assumes nothing.
 use mathlib.Core.Path.{◌≡◌, refl, sym, ap, subst, ◌∙◌}
-use mathlib.Core.Bool.{Bool, true, false}
-use mathlib.Core.List.{List, [], ◌∷◌, map}
-use mathlib.Core.Logic.{◌⊎◌, ⊎_elim}
-use mathlib.Core.Option.{Option, none, some}
-use Prim.Native.Nat.{ℕ, suc, ◌+◌, ◌-◌, ◌*◌, ◌/◌, ◌%◌, ◌≤◌, ◌<◌}
+use mathlib.Core.Bool.{true}
+use mathlib.Core.List.{List, [], ◌∷◌}
+use mathlib.Core.Logic.{⊎_elim}
+use mathlib.Core.Option.{none, some}
+use Prim.Native.Nat.{ℕ, suc, ◌+◌, ◌*◌, ◌/◌, ◌%◌, ◌≤◌, ◌<◌}
 use native.Mathlib.Nat.{mul_comm}
 use native.Mathlib.Omega.{arith}
 use lib.Dec.{eqb}
@@ -16,25 +16,25 @@ use Rattle.laws.specs.LentRange.{seg}
 use Rattle.laws.specs.Signed.{value, zero_word}
 use Rattle.laws.proofs.Cases.{lt-or-ge, same_or_not, Which, which}
 use Rattle.laws.proofs.Cases.Which.{holds, fails}
-use Rattle.laws.proofs.EveryLaws.{all_get_d}
+use Rattle.laws.proofs.EveryLaws.{all-get_or}
 use Rattle.laws.proofs.ListLaws.{get_or-map-in}
 use Rattle.limits.specs.Limits.{max_shapes, pair_records}
 use Rattle.sets.specs.Set.{Set, word_of, Proper}
 use Rattle.groups.specs.Groups.{groups_of}
-use Rattle.reader.specs.Store.{read_store, value_of, region_count, list_at}
+use Rattle.reader.specs.Store.{read_store, value_of, list_at}
 use Rattle.stores.specs.Stores.{Parsed, parse}
 use Rattle.stores.specs.Dropping.{row_count}
 use Rattle.stores.specs.Coordinates.{place_in, is_row_there, wanted, Distinct}
 use Rattle.stores.proofs.ByCoordinates.{place_at, place_found, picked-distinct}
 use Rattle.stores.proofs.Reading.{Listing, list-parsed}
-use Rattle.store.specs.Placing.{Final, all_runs, id_words, names, new_index, slot_of, made_of, stored}
+use Rattle.store.specs.Placing.{all_runs, id_words, names, new_index, slot_of, made_of, stored}
 use Rattle.readback.proofs.MapBack.{empty, map_at, words-apart}
 use Rattle.readback.proofs.Parsing.{regions-are}
 use Rattle.readback.proofs.StoreBack.{run_sound}
 use Rattle.said.specs.Records.{record_count, record_bytes}
 use Rattle.said.specs.Work.{regions_at_head}
 use Rattle.said.specs.LentOpen.{Open}
-use Rattle.said.specs.Job.{Said, fine, in_axes, records_from}
+use Rattle.said.specs.Job.{Said, fine}
 use Rattle.said.proofs.SoundLaws.{Bytes}
 use Rattle.encoder.specs.Packed.{Packed, shared, own}
 use Rattle.finishing.specs.declared.answers.Report.{Report}
@@ -42,19 +42,19 @@ use Rattle.finishing.specs.declared.answers.Built.TheVariants.{Done}
 use Rattle.said.specs.Refusals.{most_bytes}
 use Rattle.finishing.specs.Late.{store_for}
 use Rattle.call.specs.Lending.{Lending}
-use Rattle.call.specs.Build.{coords_in_use, packed_of, outcome_of, answer_of, after}
+use Rattle.call.specs.Build.{coords_in_use, packed_of, answer_of, after}
 use Rattle.accepted.proofs.RunSound.{Spot, id-spot, ids-once}
 use Rattle.accepted.proofs.ShortLaws.{Storable, fit}
 use Rattle.accepted.proofs.ReadBack.{Sized, GivesBack, IdOf, shared-storable, own-storable, shared_back, own_back}
-use Rattle.accepted.proofs.Accepted.{Accepted, accepted, accepted-sized, packed_in, store_in, coords-long, coords-once, map_is, id-at, bytes-are, store-front}
+use Rattle.accepted.proofs.Accepted.{Accepted, accepted, accepted-sized, coords-long, coords-once, map_is, id-at, bytes-are, store-front}
 use Rattle.accepted.proofs.PastLaws.{ids-long}
 use Rattle.accepted.proofs.WholeBack.{made_in, made-axes, store-parsed}
 use Rattle.demands.specs.SetsRead.{listed}
-use Rattle.demands.specs.Demand2.{SetBack, RegionBack, InList, Demand2}
+use Rattle.demands.specs.Demand2.{SetBack, Demand2}
 use Rattle.demands.proofs.Demand2.{demand2}
 use Rattle.judging.specs.declared.judging.Judged.TheVariants.{Right}
-use Rattle.judging.specs.Judge.{named_in, judge_work, judge_refusal, judge_of}
-use Rattle.judging.specs.Yes.{RowRight, SetRight, Sound}
+use Rattle.judging.specs.Judge.{named_in, judge_work, judge_of}
+use Rattle.judging.specs.Yes.{RowRight, Sound}
 use Rattle.judging.proofs.WorkLaws.{judge-passed}
 use Rattle.judging.proofs.Verdicts.{right-if}
 use Rattle.own_right.proofs.ModeLaws.{in-mode-zero}
@@ -167,7 +167,7 @@ module _ (c : Lending) (r : Report) (bytes : Bytes c.job) (done : answer_of c �
     b = back n h
 
     proper : Proper (length (coords_in_use s)) (get_or s.sets n [])
-    proper = rw (coords-long s) (all_get_d (Proper (length s.used)) s.sets n [] size.proper h)
+    proper = rw (coords-long s) (all-get_or (Proper (length s.used)) s.sets n [] size.proper h)
 
     -- the set wants its word of a region in use
     wants : (u : ℕ) → u < length (coords_in_use s) → wanted (named_in s (get_or s.sets n [])) (get_or (coords_in_use s) u []) ≡ value (word_of (get_or s.sets n []) u)

@@ -1,4 +1,3 @@
 pub mod BuildLaws
-pub mod Calls
 pub mod PairLaws
 pub mod Unique

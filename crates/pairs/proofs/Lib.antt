@@ -8,10 +8,3 @@ pub mod Raising
 pub mod Zeros
 pub mod Marks
 pub mod Content
--- For walks: what a call is lent, several clauses, and the calls.
-pub mod Again
-pub mod Loan
-pub mod Slices
-pub mod Refs
-pub mod Clauses
-pub mod Calls

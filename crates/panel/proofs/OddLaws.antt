@@ -1,16 +1,14 @@
 -- The records that the panel's reader does not take: by kind, one after another, and what is left of them answers for the whole. Assumes nothing.
-use mathlib.Core.Path.{◌≡◌, refl, sym, ap, ◌∙◌}
-use mathlib.Core.Bool.{Bool, true, false, not, ◌||◌}
+use mathlib.Core.Path.{◌≡◌, sym}
+use mathlib.Core.Bool.{Bool, true, false}
 use mathlib.Core.List.{List}
 use mathlib.Core.Logic.{⊎_elim}
-use Prim.Native.Nat.{ℕ, zero, suc, ◌+◌, ◌-◌, ◌*◌, ◌≤◌, ◌<◌}
+use Prim.Native.Nat.{ℕ, suc, ◌+◌, ◌-◌, ◌*◌, ◌≤◌, ◌<◌}
 use native.Mathlib.Nat.{sub-zero}
 use native.Mathlib.Omega.{arith}
-use lib.Dec.{eqb}
 use lib.IntN.{ℤ, pos, negsuc}
-use lib.ListN.{drop}
 use lib.Seq.{drop-drop}
-use borrow.Author.Tests.{lt-ltb, le-ltb, eq-eqb, ne_eqb}
+use borrow.Author.Tests.{le-ltb, eq-eqb, ne_eqb}
 use Rattle.laws.specs.Signed.{fits, signed, zero_word, value}
 use Rattle.laws.proofs.SignedLaws.{value-below, value-above, mag-fits}
 use Rattle.laws.proofs.Cases.{lt-or-ge}
@@ -18,7 +16,6 @@ use Rattle.said.specs.Records.{kind, axis_kind, value_kind, start_of, peak_of, e
 use Rattle.said.specs.Refusals.{long_value, bad_region, first_failed}
 use Rattle.panel.specs.declared.Profile.{Profile}
 use Rattle.panel.specs.declared.Profile.TheVariants.{Plain, Panel}
-use Rattle.panel.specs.declared.records_of.Odd.{Odd}
 use Rattle.panel.specs.Taken.{has_short_value, is_sound_axis, has_sound_axis, panel_refusal}
 use Rattle.panel.specs.Panelled.{none_odd, first_of, odd_of}
 

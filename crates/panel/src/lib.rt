@@ -1,12 +1,14 @@
 // The panel's profile: the records of a job that the instrument's reader would not take, looked at by their bytes alone. A job is read as
 // without it, and this is a pass of its own over the records that are right.
+#![tactic(auto)]
+
 mod coordinates;
 mod records_of;
 
 pub use crate::records_of::{Odd, first_odd};
 
 // What a caller builds for: any reader, or the panel's.
-#[derive(Drop)]
+#[derive(Clone, Copy)]
 pub enum Profile {
     Plain,
     Panel,

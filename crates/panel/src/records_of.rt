@@ -10,7 +10,7 @@ use records::{Kind, end_at, kind_at, peak_at, start_at, word_at};
 use said::Refusal;
 
 // A refusal's number and the record's place; the number is 0 where all are taken.
-#[derive(Drop)]
+#[derive(Clone, Copy)]
 pub struct Odd {
     pub no: usize,
     pub at: usize,

@@ -1,4 +1,6 @@
 // A parting told in a report.
+#![tactic(auto)]
+
 mod part;
 
 pub use part::tell_parted;

@@ -12,7 +12,7 @@ use borrow.Author.Tests.{lt-ltb, ltb-true}
 use Rattle.laws.specs.Signed.{value}
 use Rattle.laws.proofs.Cases.{Which, which, and-true, true-false}
 use Rattle.laws.proofs.Cases.Which.{holds, fails}
-use Rattle.laws.proofs.EveryLaws.{all_get_d}
+use Rattle.laws.proofs.EveryLaws.{all-get_or}
 use Rattle.sets.specs.declared.Parting.{Parting}
 use Rattle.sets.specs.declared.Parting.TheVariants as parts
 use Rattle.sets.specs.Set.{Set, word_of, Ascending, Proper}
@@ -60,10 +60,10 @@ module _ (axes : ℕ) (job : List ℕ) (work : ℕ) (s : Said) (e : outcome axes
       (λ j l k f. let same : like_of j ≡ like_of u.place = f ∙ sym here in omega (arith, u.earlier j l k, ap (λ (q : ℕ). index_in q s.used) same, u.index_is))
 
   rising : (x : ℕ) → x < length s.sets → Ascending 0 (get_or s.sets x [])
-  rising x h = all_get_d (Ascending 0) s.sets x [] telling.good.sets-rising h
+  rising x h = all-get_or (Ascending 0) s.sets x [] telling.good.sets-rising h
 
   proper : (x : ℕ) → x < length s.sets → Proper (length s.used) (get_or s.sets x [])
-  proper x h = all_get_d (Proper (length s.used)) s.sets x [] telling.good.sets-proper h
+  proper x h = all-get_or (Proper (length s.used)) s.sets x [] telling.good.sets-proper h
 
   word_at : (n r v : ℕ) → n < length s.sets → r < length s.used → v ≡ word_of (get_or s.sets n []) r → WordAt axes job s n r v
   word_at n r v h l d = record {

@@ -17,7 +17,7 @@ use sets::Parting;
 // A refusal's number and place. Or how the first set stands to the second, and where they are not equal: the first region
 // index where they differ, the number in the job of the region that first used that index, the word of the first set there
 // and that of the second.
-#[derive(Drop)]
+#[derive(Clone, Copy)]
 pub enum Parted {
     Refused(usize, usize),
     Equal,

@@ -6,7 +6,7 @@ ghost use Rattle.planes.specs.Lent.{FourOnes, PairOnes, LastOnes, CountedTo, Mea
 use shapes::RowShape;
 
 // The ones of each plane of two shapes together, in the words before `upto`.
-#[derive(Drop)]
+#[derive(Clone, Copy)]
 struct Ones {
     one: u32,
     two: u32,

@@ -1,4 +1,6 @@
 // Shapes as planes of bits in lent words: a region's cost is one bit in each of three planes, 32 regions to a word.
+#![tactic(auto)]
+
 mod filling;
 mod joining;
 mod putting;

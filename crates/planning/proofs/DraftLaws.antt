@@ -1,5 +1,5 @@
 -- The draft of a store, step by step: the marks cleared, the groups' regions marked, the numbers written behind them. Assumes nothing.
-use mathlib.Core.Path.{◌≡◌, refl, sym, ap, subst, ◌∙◌}
+use mathlib.Core.Path.{◌≡◌, sym, ap, subst, ◌∙◌}
 use mathlib.Core.List.{List, [], ◌∷◌}
 use Prim.Native.Nat.{ℕ, ◌+◌, ◌*◌, ◌≤◌, ◌<◌}
 use native.Mathlib.Omega.{arith}
@@ -9,7 +9,7 @@ use Rattle.laws.proofs.RangeLaws.{length-seg, only-seg, only-trans, only-widen}
 use Rattle.laws.proofs.ZeroLaws.{zeroed-part}
 use Rattle.reader.proofs.StoreLaws.{zeros-at}
 use Rattle.rows.proofs.InWork.{take-only}
-use Rattle.store.specs.Lent.{Drafted, Handed, Marks, Numbered, NumberedIn, Summed, finals_at, marked_in, sizes_at, sum_of}
+use Rattle.store.specs.Lent.{Drafted, Handed, Marks, NumberedIn, Summed, finals_at, marked_in, sizes_at}
 use Rattle.store.proofs.RegionLaws.{kept-most, marks-none}
 
 module _ (regions groups scratch : ℕ) (old a : List ℕ) (room : scratch + regions + regions ≤ length old) (z : Zeroed scratch regions old a) where

@@ -9,7 +9,7 @@ use crate::size::size_groups;
 use laws::zero_part;
 use store::Finals;
 
-#[derive(Drop)]
+#[derive(Clone, Copy)]
 pub struct Plan {
     pub bytes: usize,
     pub runs: usize,

@@ -8,7 +8,7 @@ use rows::{Form, form_alone, run_count, run_items};
 use store::{Finals, table_size};
 
 // How many bytes, and in how many subtables.
-#[derive(Drop)]
+#[derive(Clone, Copy)]
 pub struct Sum {
     pub bytes: usize,
     pub runs: usize,

@@ -1,9 +1,9 @@
 -- Sets of values of 16 bits: no final group has a column of 32 bits, whatever was merged. Assumes nothing.
-use mathlib.Core.Path.{◌≡◌, refl, sym, ap, subst, ◌∙◌}
-use mathlib.Core.Bool.{Bool, true, false}
+use mathlib.Core.Path.{◌≡◌, refl, sym, subst}
+use mathlib.Core.Bool.{true}
 use mathlib.Core.Logic.{⊎_elim}
 use mathlib.Core.List.{List, [], ◌∷◌, map}
-use Prim.Native.Nat.{ℕ, zero, suc, ◌+◌, ◌≤◌, ◌<◌}
+use Prim.Native.Nat.{ℕ, zero, ◌+◌, ◌≤◌, ◌<◌}
 use native.Mathlib.Omega.{arith}
 use lib.Dec.{eqb}
 use lib.IntN.{ℤ}
@@ -11,13 +11,12 @@ use lib.ListN.{length, get_or, replicate, length-replicate, get_or-replicate, ge
 use Rattle.laws.specs.Pick.{pick}
 use Rattle.laws.specs.Every.{All}
 use Rattle.laws.specs.Sorting.{sorted}
-use Rattle.laws.specs.Signed.{fits, is_zero, value, zero_word}
+use Rattle.laws.specs.Signed.{fits, is_zero, value}
 use Rattle.laws.proofs.Cases.{Which, which, lt-or-ge}
 use Rattle.laws.proofs.Cases.Which.{holds, fails}
-use Rattle.laws.proofs.EveryLaws.{all-imp, all_map, all_get_d}
-use Rattle.laws.proofs.BoundedLaws.{get_d_tabulate}
+use Rattle.laws.proofs.EveryLaws.{all-imp, all_map, all-get_or}
+use Rattle.laws.proofs.BoundedLaws.{get_or-tabulate}
 use Rattle.laws.proofs.SortLaws.{sorted_all}
-use Rattle.shapes.specs.declared.width.ColumnBits.{ColumnBits}
 use Rattle.shapes.specs.declared.width.ColumnBits.TheVariants.{None, One, Two, Four}
 use Rattle.shapes.specs.Width.{width_of, cost_of}
 use Rattle.shapes.specs.Shape.{Shape, join}
@@ -27,12 +26,12 @@ use Rattle.sets.specs.Set.{Set, word_of}
 use Rattle.sets.specs.Ids.{distinct}
 use Rattle.sets.proofs.IdLaws.{distinct-all}
 use Rattle.groups.specs.Groups.{shape_of, groups_of}
-use Rattle.groups.specs.Cover.{cover_from, cover_of}
+use Rattle.groups.specs.Cover.{cover_from}
 use Rattle.groups.proofs.GroupLaws.{shape-length, from_all}
 use Rattle.rule.specs.Model.{Living, start, run, merged}
 use Rattle.rule.proofs.Origins.{join_of, Made, made}
 use Rattle.store.specs.Placing.{Final}
-use Rattle.encoder.specs.Packed.{Packed, final_of, is_ahead, finals_of, shared, own}
+use Rattle.encoder.specs.Packed.{final_of, is_ahead, finals_of, shared, own}
 use Rattle.said.specs.Job.{Said}
 use Rattle.call.specs.Build.{packed_of}
 use Rattle.profiled.proofs.ShortSets.{ShortWord, ShortSet}
@@ -68,7 +67,7 @@ shape-low regions s h = record { most = λ r. ⊎_elim (inside r) (past r) (lt-o
     inside : (r : ℕ) → r < regions → get_or (shape_of regions s) r 0 ≤ 2
     inside r l =
         let e : 0 + r ≡ r = omega arith in
-        rw (get_d_tabulate 0 regions (λ k. cost_of (width_of (value (word_of s k)))) 0 r l, e) (cost-low (value (word_of s r)) (word-short s r h))
+        rw (get_or-tabulate 0 regions (λ k. cost_of (width_of (value (word_of s k)))) 0 r l, e) (cost-low (value (word_of s r)) (word-short s r h))
 
     past : (r : ℕ) → regions ≤ r → get_or (shape_of regions s) r 0 ≤ 2
     past r l =
@@ -91,7 +90,7 @@ unfolding join_of
 join-of-low xs [] h = none-low
 join-of-low xs (i ∷ l) h = join-low (get_or xs i nil).shape (join_of xs l)
     (⊎_elim
-    (λ (b : i < length xs). all_get_d (λ (g : Group). Low g.shape) xs i nil h b)
+    (λ (b : i < length xs). all-get_or (λ (g : Group). Low g.shape) xs i nil h b)
     (λ b. subst (λ (g : Group). Low g.shape) (sym (get_or-eq_default xs nil b)) none-low)
     (lt-or-ge i (length xs)))
     (join-of-low xs l h)

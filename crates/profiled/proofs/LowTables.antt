@@ -1,26 +1,22 @@
 -- The subtables of final groups without a column of 32 bits and with few columns. Assumes nothing.
-use mathlib.Core.Path.{◌≡◌, refl, sym, ap, ◌∙◌}
-use mathlib.Core.Bool.{Bool, true, false}
-use mathlib.Core.List.{List, [], ◌∷◌, ◌++◌, map}
-use mathlib.Core.Option.{Option, none, some}
-use Prim.Native.Nat.{ℕ, zero, suc, ◌+◌, ◌*◌, ◌≤◌, ◌<◌}
+use mathlib.Core.Path.{◌≡◌, refl}
+use mathlib.Core.List.{List, [], ◌∷◌}
+use Prim.Native.Nat.{ℕ, zero, suc, ◌+◌, ◌*◌, ◌≤◌}
 use native.Mathlib.Omega.{arith}
-use lib.Dec.{eqb, ltb}
-use lib.ListN.{length, get_or, take, drop, length-map, length-append}
+use lib.ListN.{length, take, drop, length-map, length-append}
 use borrow.Author.Tests.{ne_eqb}
 use Rattle.laws.specs.Every.{All}
 use Rattle.laws.specs.Bounded.{tabulate}
-use Rattle.laws.proofs.EveryLaws.{all-imp, all_map, all-and}
+use Rattle.laws.proofs.EveryLaws.{all-imp, all_map}
 use Rattle.shapes.specs.Shape.{Shape}
 use Rattle.shapes.specs.Group.{max_items}
 use Rattle.rows.specs.Columns.{add_if, of_width, columns_of, word_count}
 use Rattle.rows.specs.Row.{Set}
 use Rattle.rows.specs.Subtable.{run_count_for}
-use Rattle.stores.specs.Stores.{Table, Parsed}
 use Rattle.store.specs.Placing.{Final, runs_of, all_runs, new_index, slot_of, made_of}
 use Rattle.accepted.proofs.RunSound.{runs-all}
 use Rattle.narrow.specs.Columns.{most_columns}
-use Rattle.profiled.specs.Readable.{ReadableTable, ReadableSlot}
+use Rattle.profiled.specs.Readable.{ReadableSlot}
 use Rattle.profiled.proofs.LowShapes.{Low}
 
 -- no column of 32 bits

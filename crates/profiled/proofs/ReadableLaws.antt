@@ -1,19 +1,16 @@
 -- What the panel's profile accepts, the instrument's reader can read: over the bytes of the store. Assumes nothing.
 use mathlib.Core.Path.{◌≡◌, refl, sym, ap, subst, ◌∙◌}
 use mathlib.Core.Bool.{Bool, true, false, ◌&&◌}
-use mathlib.Core.List.{List, [], ◌∷◌}
+use mathlib.Core.List.{[]}
 use Prim.Native.Nat.{ℕ, ◌≤◌}
 use native.Mathlib.Omega.{arith}
-use lib.Dec.{leb}
 use lib.ListN.{length, get_or, take}
 use borrow.Author.Tests.{le-leb}
 use Rattle.laws.specs.Every.{All}
 use Rattle.laws.proofs.EveryLaws.{all-imp, all-and}
-use Rattle.laws.proofs.Cases.{Which, which}
-use Rattle.laws.proofs.Cases.Which.{holds, fails}
 use Rattle.groups.specs.Groups.{max_shapes}
 use Rattle.rows.specs.Columns.{columns_of}
-use Rattle.store.specs.Placing.{Final, made_of}
+use Rattle.store.specs.Placing.{Final}
 use Rattle.said.specs.Refusals.{wide_subtable}
 use Rattle.said.specs.Job.{Said, fine}
 use Rattle.said.proofs.SoundLaws.{Bytes}
@@ -25,14 +22,14 @@ use Rattle.encoder.specs.Packed.{Packed}
 use Rattle.finishing.specs.declared.answers.Report.{Report}
 use Rattle.finishing.specs.declared.answers.Built.TheVariants.{Refused, Done}
 use Rattle.call.specs.Lending.{Lending, Left}
-use Rattle.call.specs.Build.{coords_in_use, packed_of, outcome_of, answer_of, after}
+use Rattle.call.specs.Build.{coords_in_use, packed_of, outcome_of}
 use Rattle.call.specs.Profiled.{is_wide, answer_by, after_by}
 use Rattle.accepted.proofs.Accepted.{Accepted, accepted, packed_in}
 use Rattle.accepted.proofs.WholeBack.{made_in, store-parsed}
 use Rattle.refusing.proofs.OddRows as rows
 use Rattle.demands.proofs.Demand2.{demand2}
 use Rattle.demands.proofs.Demand3.{demand3}
-use Rattle.profiled.specs.Readable.{ReadableSlot, Readable}
+use Rattle.profiled.specs.Readable.{Readable}
 use Rattle.profiled.specs.Panel.{PanelDone}
 use Rattle.profiled.proofs.ShortSets.{sets-short}
 use Rattle.profiled.proofs.LowShapes.{Low, packed-low}

@@ -1,35 +1,31 @@
 -- What the panel's profile answers, way by way: R70 to R72 exactly where they are said to be given, every other refusal and every done build as without the
 -- profile. Assumes nothing.
 use mathlib.Core.Path.{◌≡◌, refl, sym, ap, ap₂, subst, ◌∙◌}
-use mathlib.Core.Bool.{Bool, true, false, ◌&&◌}
-use mathlib.Core.List.{List, [], ◌∷◌}
-use mathlib.Core.Logic.{◌⊎◌, inl, inr, ⊎_elim}
-use Prim.Native.Nat.{ℕ, zero, suc, ◌≤◌, ◌<◌}
+use mathlib.Core.Bool.{true, false}
+use mathlib.Core.Logic.{⊎_elim}
+use Prim.Native.Nat.{ℕ, ◌≤◌, ◌<◌}
 use native.Mathlib.Omega.{arith}
-use lib.Dec.{eqb, leb}
+use lib.Dec.{leb}
 use lib.ListN.{length}
-use borrow.Author.Tests.{eq-eqb, ne_eqb, leb-true, le-leb, eqb-true}
-use Rattle.laws.specs.Pick.{pick}
+use borrow.Author.Tests.{leb-true, le-leb}
 use Rattle.laws.proofs.Cases.{Which, which, and-true, same_or_not}
 use Rattle.laws.proofs.Cases.Which.{holds, fails}
 use Rattle.groups.specs.Groups.{max_shapes}
-use Rattle.said.specs.Records.{record_at, record_count}
-use Rattle.said.specs.Refusals.{early_refusal, long_value, bad_region, wide_subtable}
-use Rattle.said.specs.Job.{Said, in_axes, Outcome, refused, fine, records_from, outcome}
+use Rattle.said.specs.Records.{record_at}
+use Rattle.said.specs.Refusals.{long_value, bad_region, wide_subtable}
+use Rattle.said.specs.Job.{Said, Outcome, refused, fine}
 use Rattle.panel.specs.declared.Profile.TheVariants.{Panel}
 use Rattle.panel.specs.Panelled.{panelled}
 use Rattle.panel.proofs.PanelledLaws.{panelled-early}
 use Rattle.narrow.specs.Columns.{is_some_wide, is_too_wide}
 use Rattle.finishing.specs.declared.answers.Report.{Report}
-use Rattle.finishing.specs.declared.answers.Built.{Built}
 use Rattle.finishing.specs.declared.answers.Built.TheVariants.{Refused, Done}
-use Rattle.finishing.specs.Buffers.{Lengths, lengths}
-use Rattle.finishing.specs.Late.{late_no, late_answer, report_of, buffers_left}
+use Rattle.finishing.specs.Buffers.{lengths}
 use Rattle.call.specs.Lending.{Lending, Left}
-use Rattle.call.specs.Build.{coords_in_use, packed_of, answer_from, left_from, outcome_of, answer_of, after}
-use Rattle.call.specs.Profiled.{is_wide, wide_of, answer_with, left_with, outcome_by, answer_by, after_by}
+use Rattle.call.specs.Build.{packed_of, answer_from, left_from, outcome_of, answer_of, after}
+use Rattle.call.specs.Profiled.{is_wide, wide_of, answer_with, left_with, answer_by, after_by}
 use Rattle.refusing.specs.Exactly.{Exactly}
-use Rattle.refusing.specs.OddRecords.{LongValue, BadAxis, PanelTakes, EarliestOdd}
+use Rattle.refusing.specs.OddRecords.{LongValue, BadAxis, EarliestOdd}
 use Rattle.demands.proofs.OutcomeRows.{early, walked, early-few, outcome-walked, outcome-by, answer-refused, numbers-most}
 use Rattle.demands.proofs.Buffers as plain
 use Rattle.refusing.proofs.OddRows as rows

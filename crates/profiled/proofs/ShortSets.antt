@@ -1,12 +1,11 @@
 -- Where the panel's reader takes every record, every value of every set is one of 16 bits. Assumes nothing.
-use mathlib.Core.Path.{◌≡◌, refl}
-use mathlib.Core.Bool.{Bool, true, false}
-use mathlib.Core.List.{List, [], ◌∷◌, ◌++◌}
+use mathlib.Core.Path.{◌≡◌}
+use mathlib.Core.Bool.{true}
+use mathlib.Core.List.{List, [], ◌∷◌}
 use Prim.Native.Nat.{ℕ, suc, ◌≤◌, ◌<◌}
 use native.Mathlib.Nat.{le_refl}
 use native.Mathlib.Omega.{arith}
 use lib.Dec.{eqb}
-use Rattle.laws.specs.Pick.{pick}
 use Rattle.laws.specs.Every.{All}
 use Rattle.laws.specs.Signed.{fits, value, zero_word}
 use Rattle.laws.proofs.Cases.{Which, which}
@@ -19,7 +18,7 @@ use Rattle.said.specs.Job.{Said, in_axes, regions_only, after_value, after_end, 
 use Rattle.said.proofs.GoodLaws.{placed-all}
 use Rattle.said.proofs.WalkLaws.{walk-keeps}
 use Rattle.panel.specs.Taken.{has_short_value}
-use Rattle.refusing.specs.OddRecords.{LongValue, PanelTakes}
+use Rattle.refusing.specs.OddRecords.{PanelTakes}
 
 -- a word of 16 bits
 abbrev pub ShortWord : ℕ → Type 0

@@ -23,7 +23,7 @@ use Rattle.stores.specs.Stores.{cell_in}
 use Rattle.rows.specs.Columns.{columns_of, fours, word_count, bytes_for_width}
 use Rattle.rows.specs.Row.{Set, value_in, row_of, Widths, Covers}
 use Rattle.rows.specs.Lent.{row_bytes, cell_words}
-use Rattle.rows.proofs.RowLaws.{get_d_map}
+use Rattle.rows.proofs.RowLaws.{get_or-map}
 use Rattle.rows.proofs.ColumnsLaws.{bytes-are}
 use Rattle.rows.proofs.CellLaws.{row_is}
 
@@ -78,4 +78,4 @@ row_back s set j few ws cov h =
     let more : get_or s r 0 ≤ k = rw (bytes-are s few j h) (bytes-more s (get_or s r 0) (ws.most r) (ws.one_of r)) in
     let f : fits k (value_in set r) ≡ true = width-holds (value_in set r) k (word_fits _ (cov.word r)) range.0 (omega (arith, cov.holds r)) in
     let low : j < length (cell_words set cols) = omega (arith, length-map cols g) in
-    rw (row_is s set few, row_reads word (cell_words set cols) j low, get_d_map g cols j h) (sign-back k 4 (value_in set r) range.0 range.1 f)
+    rw (row_is s set few, row_reads word (cell_words set cols) j low, get_or-map g cols j h) (sign-back k 4 (value_in set r) range.0 range.1 f)

@@ -1,7 +1,7 @@
 -- The store of final groups is well formed, so its bytes parse to the value that it was made as. Assumes nothing.
-use mathlib.Core.Path.{◌≡◌, refl}
+use mathlib.Core.Path.{◌≡◌, refl, sym, subst}
 use mathlib.Core.Bool.{Bool, true}
-use mathlib.Core.List.{List, [], ◌∷◌}
+use mathlib.Core.List.{List, [], ◌∷◌, map}
 use mathlib.Core.Option.{Option, some}
 use Prim.Native.Nat.{ℕ, ◌*◌, ◌≤◌, ◌<◌}
 use native.Mathlib.Omega.{arith}
@@ -78,7 +78,8 @@ module _ (regions : ℕ) (gs : List Final) (set : ℕ → Set) (few : regions < 
         rows_few = rw (length-map xs (λ y. row_of s (set y))) items;
         wide = rw l (word-full s short);
         named = renumber-ok (λ r. names r gs) regions cols ok low;
-        rows_long = rw l (all_map (λ r. length r ≡ column_start (word_count s) (length cols)) (λ y. row_of s (set y)) (x ∷ xs) (all (λ y. row-long s (set y) short) (x ∷ xs)));
+        rows_long = subst (λ n. All (λ r. length r ≡ column_start (word_count s) n) (map (λ y. row_of s (set y)) (x ∷ xs))) (sym l)
+            (all_map (λ r. length r ≡ column_start (word_count s) (length cols)) (λ y. row_of s (set y)) (x ∷ xs) (all (λ y. row-long s (set y) short) (x ∷ xs)));
         rows-bytes = all_map Bytes (λ y. row_of s (set y)) (x ∷ xs) (all (λ y. row-bytes s (set y)) (x ∷ xs));
       }
 

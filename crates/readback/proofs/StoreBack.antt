@@ -12,7 +12,7 @@ use borrow.Author.Tests.{lt-leb, eqb-true}
 use Rattle.laws.specs.Signed.{is_zero}
 use Rattle.laws.proofs.Cases.{lt-or-ge, same_or_not}
 use Rattle.laws.proofs.ListLaws.{get_or-map-in}
-use Rattle.laws.proofs.EveryLaws.{all-imp, all_get_d}
+use Rattle.laws.proofs.EveryLaws.{all-imp, all-get_or}
 use Rattle.shapes.specs.Shape.{Shape}
 use Rattle.shapes.proofs.WidthLaws.{cost-none}
 use Rattle.reader.specs.declared.column.Column.{Column}
@@ -63,7 +63,7 @@ module _ (axes : ℕ) (coords : List (List ℕ)) (set : ℕ → Set) (gs : List 
   mine = set (get_or (get_or (all_runs gs) o empty).ids i 0)
 
   pub run_sound : Sound coords set gs run
-  run_sound = all_get_d (Sound coords set gs) (all_runs gs) o empty fit.sound h
+  run_sound = all-get_or (Sound coords set gs) (all_runs gs) o empty fit.sound h
 
   few : length run.shape < 32768
   few = omega (arith, run_sound.long, fit.regions-few)

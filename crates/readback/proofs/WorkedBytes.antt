@@ -1,7 +1,7 @@
 -- P1 to P5 and P7 of docs/RULES.md: store bytes, map words and forecasts by the definitions, as one statement. Assumes
 -- nothing.
 use mathlib.Core.Path.{◌≡◌, refl}
-use mathlib.Core.List.{List, [], ◌∷◌, ◌++◌, map}
+use mathlib.Core.List.{List, [], ◌∷◌, map}
 use Prim.Native.Nat.{ℕ, ◌+◌, ◌-◌}
 use lib.ListN.{length}
 use Rattle.laws.specs.Bag.{weigh}

@@ -1,4 +1,6 @@
 // The reader of an item variation store: one value, whatever the bytes are. Where columns lie serves the writer too.
+#![tactic(auto)]
+
 mod bytes;
 mod column;
 mod marks;

@@ -7,7 +7,7 @@ use crate::bytes::be;
 use crate::column::{Column, column_at, column_bytes};
 use crate::marks::columns_ok;
 
-#[derive(Drop)]
+#[derive(Clone, Copy)]
 pub enum Reading {
     Written(i32),
     NoColumn,

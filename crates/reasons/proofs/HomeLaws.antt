@@ -1,26 +1,25 @@
 -- The final group that has an id, found by a walk along the groups. Assumes nothing.
 use mathlib.Core.Path.{◌≡◌, refl, sym, ap, ◌∙◌}
-use mathlib.Core.Bool.{Bool, true, false}
-use mathlib.Core.List.{List, [], ◌∷◌, map}
-use Prim.Native.Nat.{ℕ, zero, suc, ◌+◌, ◌*◌, ◌≤◌, ◌<◌}
+use mathlib.Core.Bool.{true, false}
+use mathlib.Core.List.{List, [], map}
+use Prim.Native.Nat.{ℕ, ◌+◌, ◌*◌, ◌≤◌, ◌<◌}
 use native.Mathlib.Numerals.{add-one}
 use native.Mathlib.Omega.{arith}
 use lib.Dec.{ltb}
-use lib.ListN.{length, get_or, drop, length-map}
+use lib.ListN.{length, drop, length-map}
 use lib.Seq.{drop-cons, drop-length}
 use borrow.Author.Tests.{lt-ltb, le-ltb}
-use Rattle.laws.specs.Pick.{pick}
 use Rattle.laws.specs.Bounded.{tabulate}
 use Rattle.laws.specs.LentRange.{seg}
 use Rattle.laws.proofs.ListLaws.{get_or-map-in}
-use Rattle.laws.proofs.BoundedLaws.{length-tabulate, get_d_tabulate}
+use Rattle.laws.proofs.BoundedLaws.{length-tabulate, get_or-tabulate}
 use Rattle.store.specs.Placing.{Final}
 use Rattle.store.specs.Lent.{final_at, finals_at}
-use Rattle.encoder.specs.Lent.{group_at, relabel}
+use Rattle.encoder.specs.Lent.{relabel}
 use Rattle.encoder.specs.declared.places.Places.{Places}
 use Rattle.finding.specs.First.{first_at}
 use Rattle.reasons.specs.Why.{has_row, home_in, final_no}
-use Rattle.reasons.specs.LentReasons.{label, shape_spot, rows_spot, row_count, ids_in, finals_in, RowsIn, GroupsIn}
+use Rattle.reasons.specs.LentReasons.{label, shape_spot, row_count, ids_in, finals_in, GroupsIn}
 use Rattle.reasons.proofs.RowLaws.{ids-long}
 
 abbrev none : Final
@@ -64,7 +63,7 @@ module _ (p : Places) (count : ℕ) (w : List ℕ) where
       let named : Final → Final = λ f. record { shape = f.shape; ids = map (label p w) f.ids } in
       let z : 0 + g ≡ g = omega arith in
       get_or-map-in named (tabulate 0 count at) g none none (omega (arith, length-tabulate 0 count at))
-      ∙ ap named (get_d_tabulate 0 count at none g h ∙ ap at z)
+      ∙ ap named (get_or-tabulate 0 count at none g h ∙ ap at z)
 
   module _ (fit : GroupsIn p count w) where
     module _ {x g : ℕ} (k : Sought p count w x g) (n r : ℕ) (e : n ≡ row_count p w g) (f : r ≡ first_at x (ids_in p w g)) (h : g < count) where

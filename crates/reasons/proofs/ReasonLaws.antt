@@ -1,27 +1,25 @@
 -- The reason, from where two ids have their rows. Assumes nothing.
-use mathlib.Core.Path.{◌≡◌, refl, sym, ap, ap₂, subst, ◌∙◌}
-use mathlib.Core.List.{List, [], ◌∷◌}
-use Prim.Native.Nat.{ℕ, ◌+◌, ◌*◌, ◌/◌, ◌≤◌, ◌<◌}
+use mathlib.Core.Path.{◌≡◌, refl, sym, ap, ◌∙◌}
+use mathlib.Core.List.{List}
+use Prim.Native.Nat.{ℕ, ◌+◌, ◌/◌, ◌<◌}
 use native.Mathlib.Omega.{arith}
-use lib.Dec.{eqb}
-use lib.ListN.{length, get_or}
+use lib.ListN.{get_or}
 use borrow.Author.Tests.{eq-eqb, ne_eqb}
 use Rattle.laws.specs.LentRange.{seg}
 use Rattle.shapes.specs.Shape.{Shape, join}
 use Rattle.shapes.specs.Group.{Group, group_cost, joined, max_items}
-use Rattle.shapes.specs.Lent.{Narrow}
 use Rattle.shapes.proofs.ShapeLaws.{join-self}
 use Rattle.store.specs.Placing.{Final}
 use Rattle.store.specs.Lent.{finals_at}
 use Rattle.encoder.specs.Packed.{Packed}
-use Rattle.encoder.specs.Lent.{PackedAt, group_at, relabel}
+use Rattle.encoder.specs.Lent.{PackedAt, relabel}
 use Rattle.encoder.specs.declared.places.Places.{Places}
 use Rattle.encoder.specs.declared.encoded.Encoded.{Encoded}
 use Rattle.finding.specs.First.{first_at}
 use Rattle.reasons.specs.declared.reason.Reason.{Reason}
 use Rattle.reasons.specs.declared.reason.Reason.TheVariants.{Same, CutApart, NeverJoined}
 use Rattle.reasons.specs.Why.{home_in, final_no, counted, reason_in_group, apart_of, why_of}
-use Rattle.reasons.specs.LentReasons.{label, shape_spot, rows_spot, row_count, ids_in, finals_in, RowsIn, GroupsIn, ShapesIn, CostsIn, ReasonFit}
+use Rattle.reasons.specs.LentReasons.{shape_spot, row_count, ids_in, finals_in, GroupsIn, ShapesIn, CostsIn, ReasonFit}
 use Rattle.reasons.proofs.RowLaws.{ids-long}
 use Rattle.reasons.proofs.HomeLaws.{final-in}
 

@@ -1,15 +1,13 @@
 -- The ids of a final group's rows, read off lent words. Assumes nothing.
-use mathlib.Core.Path.{◌≡◌, refl, sym, ap, ◌∙◌}
-use mathlib.Core.List.{List, [], ◌∷◌, map}
-use Prim.Native.Nat.{ℕ, ◌+◌, ◌*◌, ◌≤◌, ◌<◌}
+use mathlib.Core.Path.{◌≡◌, sym, ap, ◌∙◌}
+use mathlib.Core.List.{List}
+use Prim.Native.Nat.{ℕ, ◌+◌, ◌≤◌, ◌<◌}
 use native.Mathlib.Omega.{arith}
 use lib.ListN.{length, get_or, drop, length-map}
-use Rattle.laws.specs.Every.{All}
 use Rattle.laws.specs.LentRange.{seg}
 use Rattle.laws.proofs.ListLaws.{get_or-map-in, map_same}
 use Rattle.laws.proofs.EveryLaws.{all-imp}
 use Rattle.laws.proofs.RangeLaws.{length-seg, get_or-seg, seg_all}
-use Rattle.encoder.specs.Lent.{group_at}
 use Rattle.encoder.specs.declared.places.Places.{Places}
 use Rattle.finding.specs.First.{first_at}
 use Rattle.finding.proofs.FirstLaws.{here, further, nowhere}

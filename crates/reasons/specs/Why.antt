@@ -1,6 +1,6 @@
 -- Why two ids are where they are (RULES Z1 to Z4), by the final groups of a build in mode 0: their rows stand in one subtable; or their group is
 -- one and is cut between them; or their groups were never joined. Assumes nothing.
-use Rattle.std.specs.Prelude.{Bool, List, [], ◌∷◌, ℕ, suc, ◌+◌, ◌/◌, eqb, ltb, length, get_or}
+use Rattle.std.specs.Prelude.{Bool, List, [], ◌∷◌, ℕ, suc, ◌/◌, eqb, ltb, length, get_or}
 use Rattle.laws.specs.Pick.{pick}
 use Rattle.shapes.specs.Group.{Group, group_cost, joined, max_items}
 use Rattle.store.specs.Placing.{Final}

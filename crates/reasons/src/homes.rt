@@ -3,7 +3,7 @@ ghost use Rattle.std.specs.Prelude.{◌≡◌};
 ghost use Rattle.reasons.specs.Why.{home_in};
 ghost use Rattle.reasons.specs.LentReasons.{GroupsIn, finals_in};
 
-use crate::rows::place_in;
+use crate::id_rows::place_in;
 use encoder::Places;
 
 // Its place among the final groups, of which there are `count`; as many where none has it.

@@ -7,13 +7,13 @@ ghost use Rattle.reasons.specs.LentReasons.{ids_in, finals_in, RowsIn, CostsIn, 
 
 use crate::costs::cost_joined;
 use crate::homes::home_of;
-use crate::rows::place_in;
+use crate::id_rows::place_in;
 use encoder::{Encoded, Places};
 use shapes::Encoding;
 
 // One subtable; one final group, cut; or two groups that were never joined: what the first and the second cost, and what they would cost as one.
 // Of ids that are not both there it is None.
-#[derive(Drop)]
+#[derive(Clone, Copy)]
 pub enum Reason {
     None,
     Same,

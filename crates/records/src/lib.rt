@@ -1,4 +1,6 @@
 // The records of a job; no other code knows their layout. Below: the numbers of one record, by the bytes from its first one on.
+#![tactic(auto)]
+
 mod forms;
 mod nth;
 mod places;

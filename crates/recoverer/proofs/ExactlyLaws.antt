@@ -1,8 +1,8 @@
 -- Six tests in their order: which number is given, exactly when; and what a store is that is recovered. Assumes nothing.
 use mathlib.Core.Path.{◌≡◌, refl, sym, ap, ◌∙◌}
 use mathlib.Core.Bool.{Bool, true, false, ◌&&◌}
-use mathlib.Core.List.{List, []}
-use mathlib.Core.Logic.{◌↔◌, ◌⊎◌, ⊎_elim}
+use mathlib.Core.List.{List}
+use mathlib.Core.Logic.{⊎_elim}
 use mathlib.Core.Option.{some}
 use Prim.Native.Nat.{ℕ, ◌*◌, ◌≤◌, ◌<◌}
 use native.Mathlib.Omega.{arith}
@@ -23,7 +23,7 @@ use Rattle.stores.proofs.ByCoordinates.{once-distinct}
 use Rattle.listed.proofs.OrderedLaws.{distinct-once}
 use Rattle.recovering.specs.Recovering.{job_of, records_of, said_of, Says}
 use Rattle.recovering.proofs.Sound.{Takes, job-sound}
-use Rattle.recoverer.specs.Recover.{recovering_work, recover_no}
+use Rattle.recoverer.specs.Recover.{recover_no}
 use Rattle.recoverer.specs.Exactly.{Bounded, Exactly}
 use Rattle.recoverer.proofs.Steps.{whole_of}
 

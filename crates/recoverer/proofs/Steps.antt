@@ -1,36 +1,35 @@
 -- The steps of a recovery, each with what it tells of the answer. Assumes nothing.
-use mathlib.Core.Path.{◌≡◌, refl, sym, ap, ◌∙◌}
+use mathlib.Core.Path.{◌≡◌, sym, ap, ◌∙◌}
 use mathlib.Core.Bool.{Bool, true, false, not, ◌&&◌}
-use mathlib.Core.List.{List, [], ◌∷◌}
+use mathlib.Core.List.{List, []}
 use mathlib.Core.Logic.{◌⊎◌, ⊎_elim}
 use mathlib.Core.Option.{none, some}
-use Prim.Native.Nat.{ℕ, zero, suc, ◌+◌, ◌-◌, ◌*◌, ◌≤◌, ◌<◌}
+use Prim.Native.Nat.{ℕ, ◌+◌, ◌*◌, ◌≤◌, ◌<◌}
 use native.Mathlib.Nat.{zero-add}
 use native.Mathlib.Omega.{arith}
-use lib.Dec.{eqb, ltb, leb}
+use lib.Dec.{ltb, leb}
 use lib.ListN.{length, get_or, replicate, length-replicate, get_or-eq_default}
 use lib.Seq.{ext_get_or}
 use borrow.Author.Tests.{not-true, not-false, lt-ltb, le-ltb, ltb-true, le-leb, lt-leb, leb-true, ne_eqb}
 use Rattle.laws.specs.Pick.{pick}
 use Rattle.laws.specs.Bag.{weigh}
-use Rattle.laws.specs.Bytes.{be, over}
-use Rattle.laws.specs.LentRange.{Apart, Zeroed, seg}
+use Rattle.laws.specs.Bytes.{be}
+use Rattle.laws.specs.LentRange.{Apart, Zeroed}
 use Rattle.laws.proofs.Cases.{lt-or-ge, and-true, Which, which, true-false}
 use Rattle.laws.proofs.Cases.Which.{holds, fails}
 use Rattle.laws.proofs.Products.{product}
 use Rattle.laws.proofs.RangeLaws.{seg-none}
-use Rattle.laws.proofs.ZeroLaws.{zeroed-part}
 use Rattle.limits.specs.Limits.{most_records, most_axes, max_regions}
-use Rattle.reader.specs.Store.{list_at, axis_count, region_count, is_header_ok, bad_store}
+use Rattle.reader.specs.Store.{list_at, axis_count, region_count, is_header_ok}
 use Rattle.reader.proofs.StoreLaws.{header-fits, zeros-at}
 use Rattle.rows.specs.Lent.{Put}
 use Rattle.said.specs.Records.{record_bytes}
-use Rattle.said.specs.Refusals.{work_short, first_failed}
-use Rattle.stores.specs.Stores.{Parsed, parts, store_at, is_whole_ok, parse, parses}
+use Rattle.said.specs.Refusals.{first_failed}
+use Rattle.stores.specs.Stores.{Parsed, store_at, is_whole_ok, parse, parses}
 use Rattle.stores.specs.Dropping.{row_count}
 use Rattle.stores.specs.Coordinates.{once, Distinct}
 use Rattle.stores.proofs.PartLaws.{parts-long, parts_at}
-use Rattle.stores.proofs.WholeLaws.{Whole, whole_is, whole-ok, parse-some}
+use Rattle.stores.proofs.WholeLaws.{whole_is}
 use Rattle.stores.proofs.ByCoordinates.{once-distinct}
 use Rattle.listed.proofs.OrderedLaws.{distinct-once}
 use Rattle.recovering.specs.Recovering.{job_of, records_of}
@@ -38,7 +37,7 @@ use Rattle.recovering.proofs.Walked.{job-long}
 use Rattle.tallying.specs.LentTally.{Tallied}
 use Rattle.recoverer.specs.declared.Recovered.{Recovered}
 use Rattle.recoverer.specs.declared.Recovered.TheVariants.{Done, Refused}
-use Rattle.recoverer.specs.Recover.{regions_equal, regions_or_axes, job_too_long, job_short, recovering_work, look_no, bounds_refusal, late_no, recover_no, answer_for, left_for, work_left}
+use Rattle.recoverer.specs.Recover.{look_no, bounds_refusal, late_no, recover_no, answer_for, left_for, work_left}
 
 -- ---- the header
 

@@ -1,5 +1,5 @@
 -- A store read back into a job (#105): what is refused, in its order, and what is answered and left (RULES R4, R20, R50 to R53).
-use Rattle.std.specs.Prelude.{◌≡◌, Bool, true, false, ◌&&◌, List, [], ◌∷◌, ℕ, ◌+◌, ◌*◌, eqb, ltb, leb, length, replicate}
+use Rattle.std.specs.Prelude.{◌&&◌, List, [], ◌∷◌, ℕ, ◌*◌, eqb, ltb, leb, length, replicate}
 use Rattle.laws.specs.Pick.{pick}
 use Rattle.laws.specs.Bag.{weigh}
 use Rattle.laws.specs.Bytes.{over}

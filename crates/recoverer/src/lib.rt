@@ -1,4 +1,6 @@
 // A store read back into a job (#105): what is refused, in its order, and the job written.
+#![tactic(auto)]
+
 ghost use Rattle.std.specs.Prelude.{◌≡◌, true, ◌≤◌, length};
 ghost use Rattle.cells.specs.Lent.{Ahead};
 ghost use Rattle.reader.specs.Store.{is_header_ok};
@@ -16,7 +18,7 @@ use stores::whole_ok;
 use tallying::tally;
 
 // Done: the job's bytes, axes, regions and sets; or a refusal's number.
-#[derive(Drop)]
+#[derive(Clone, Copy)]
 pub enum Recovered {
     Done(usize, usize, usize, usize),
     Refused(usize),

@@ -1,7 +1,7 @@
 -- The records before i pass, as the walk goes, exactly when each of them is fine by the job's bytes (specs/Fine.antt). Assumes nothing.
 use mathlib.Core.Path.{◌≡◌, refl, subst}
 use mathlib.Core.List.{List}
-use mathlib.Core.Logic.{◌⊎◌, ⊎_elim}
+use mathlib.Core.Logic.{⊎_elim}
 use Prim.Native.Nat.{ℕ, zero, suc, ◌≤◌, ◌<◌}
 use native.Mathlib.Omega.{arith}
 use Rattle.said.specs.Records.{record_at}

@@ -1,31 +1,28 @@
 -- R70, R71: the panel's profile refuses at record i exactly where that record is fine by the checks that every build makes, all before it by both, and it is odd; every
 -- other refusal is as without the profile, and what it takes is taken as without it. Assumes nothing.
 use mathlib.Core.Path.{◌≡◌, refl, sym, ap, subst, ◌∙◌}
-use mathlib.Core.Bool.{Bool, true, false, not, ◌||◌}
-use mathlib.Core.List.{List, [], ◌∷◌}
+use mathlib.Core.Bool.{false, not, ◌||◌}
+use mathlib.Core.List.{List}
 use mathlib.Core.Logic.{◌⊎◌, inl, inr, ⊎_elim}
-use Prim.Native.Nat.{ℕ, zero, suc, ◌≤◌, ◌<◌}
+use Prim.Native.Nat.{ℕ, suc, ◌≤◌, ◌<◌}
 use native.Mathlib.Omega.{arith}
-use borrow.Author.Tests.{eq-eqb, ne_eqb, eqb-true}
-use Rattle.laws.proofs.Cases.{Which, which, true-false, lt-or-ge, same_or_not}
+use borrow.Author.Tests.{eqb-true}
+use Rattle.laws.proofs.Cases.{Which, which, lt-or-ge}
 use Rattle.laws.proofs.Cases.Which.{holds, fails}
 use Rattle.said.specs.Records.{record_at, record_count, kind, axis_kind, value_kind, is_axis, is_value}
 use Rattle.said.specs.Refusals.{long_value, bad_region, first_failed}
-use Rattle.said.specs.Job.{Said, State, in_axes, Step, stop, on, step, Outcome, refused, fine, records_from, ended}
-use Rattle.panel.specs.declared.Profile.{Profile}
-use Rattle.panel.specs.declared.Profile.TheVariants.{Plain, Panel}
+use Rattle.said.specs.Job.{Said, State, in_axes, Outcome, refused, fine, records_from, ended}
+use Rattle.panel.specs.declared.Profile.TheVariants.{Panel}
 use Rattle.panel.specs.Taken.{has_short_value, has_sound_axis, panel_refusal}
 use Rattle.panel.specs.Panelled.{read_records, panelled}
-use Rattle.panel.specs.LentOdd.{AllTaken}
 use Rattle.panel.proofs.PanelledLaws as panel
 use Rattle.panel.proofs.PanelledLaws.{PanelNo, panel-no, panelled-odd, read-fine, read-refused}
 use Rattle.panel.proofs.PanelledLaws.PanelNo.{all_right, long, bad}
 use Rattle.panel.proofs.PanelledLaws.Way.{takes, stops}
 use Rattle.refusing.specs.Exactly.{Exactly}
-use Rattle.refusing.specs.Fine.{Fine, AllFine}
+use Rattle.refusing.specs.Fine.{AllFine}
 use Rattle.refusing.specs.OddRecords.{LongValue, BadAxis, PanelTakes, EarliestOdd}
 use Rattle.refusing.proofs.FailedLaws.{asked-fails}
-use Rattle.refusing.proofs.Passing.{Passed, StopsAt, EndsAs}
 use Rattle.refusing.proofs.WalkRows.{way}
 use Rattle.refusing.proofs.WalkRows as walk
 use Rattle.refusing.proofs.WalkRows.Way.{stopped, came}

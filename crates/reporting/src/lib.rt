@@ -1,4 +1,6 @@
 // A build's answer told in a report.
+#![tactic(auto)]
+
 mod report;
 
 pub use report::{tell, tell_refused};

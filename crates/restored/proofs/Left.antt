@@ -1,24 +1,23 @@
 -- THE THEOREM of #105, by what a done build leaves in out, ids and map. Assumes nothing.
-use mathlib.Core.Path.{◌≡◌, refl, sym, ap, ap₂, subst, ◌∙◌}
+use mathlib.Core.Path.{◌≡◌, sym, ap, subst, ◌∙◌}
 use mathlib.Core.Bool.{true}
 use mathlib.Core.List.{List}
-use mathlib.Core.Option.{some}
 use Prim.Native.Nat.{ℕ, ◌+◌, ◌*◌, ◌/◌, ◌%◌, ◌≤◌, ◌<◌}
 use native.Mathlib.Omega.{arith}
 use lib.ListN.{length, get_or, take}
 use Rattle.groups.specs.Groups.{max_shapes}
 use Rattle.stores.specs.Stores.{Parsed, parse}
-use Rattle.stores.specs.Coordinates.{read_at, is_row_there}
+use Rattle.stores.specs.Coordinates.{is_row_there}
 use Rattle.store.specs.Placing.{all_runs, id_words, stored}
 use Rattle.said.specs.Refusals.{job_work, pair_records}
-use Rattle.said.specs.Job.{Said, Outcome, fine}
+use Rattle.said.specs.Job.{Said, fine}
 use Rattle.finishing.specs.declared.answers.Built.TheVariants.{Done}
 use Rattle.finishing.specs.declared.answers.Report.{Report}
 use Rattle.pairs.specs.declared.Pair.{Pair}
 use Rattle.finishing.specs.Buffers.{Buffers}
 use Rattle.finishing.specs.Late.{store_for}
 use Rattle.call.specs.Lending.{Lending}
-use Rattle.call.specs.Build.{coords_in_use, packed_of, outcome_of, answer_of, after}
+use Rattle.call.specs.Build.{coords_in_use, packed_of, answer_of, after}
 use Rattle.accepted.proofs.Accepted.{Accepted, accepted, map_is, store-front, id-at}
 use Rattle.accepted.proofs.PastLaws.{ids-long}
 use Rattle.recovering.specs.Recovering.{row_no, job_of, said_of}

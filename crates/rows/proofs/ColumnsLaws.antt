@@ -1,18 +1,16 @@
 -- Laws of a shape's columns: their order, that they are the regions with a width, and how many bytes each has. Assumes nothing.
 use mathlib.Core.Path.{◌≡◌, refl, sym, ap, ◌∙◌}
-use mathlib.Core.Bool.{Bool, true, false}
-use mathlib.Core.List.{List, [], ◌∷◌, ◌++◌, map}
+use mathlib.Core.Bool.{true}
+use mathlib.Core.List.{List, [], ◌∷◌, ◌++◌}
 use mathlib.Core.Logic.{⊎_elim}
-use Prim.Native.Nat.{ℕ, zero, suc, ◌+◌, ◌-◌, ◌*◌, ◌%◌, ◌≤◌, ◌<◌}
-use native.Mathlib.Nat.{add-zero, mod-eq_of_lt}
+use Prim.Native.Nat.{ℕ, zero, suc, ◌+◌, ◌-◌, ◌%◌, ◌≤◌, ◌<◌}
 use native.Mathlib.Omega.{arith}
-use lib.Dec.{eqb, ltb}
+use lib.Dec.{eqb}
 use lib.ListN.{length, get_or, length-append, get_or-append}
 use lib.Seq.{get_or-append-add}
-use borrow.Author.Tests.{lt-ltb, le-ltb, eq-eqb, ne_eqb, eqb-true, eqb-false}
-use Rattle.laws.specs.Pick.{pick}
+use borrow.Author.Tests.{lt-ltb, le-ltb, eq-eqb, ne_eqb, eqb-true}
 use Rattle.laws.specs.Every.{All, EachTwo}
-use Rattle.laws.proofs.EveryLaws.{all-imp, all_append, all_get_d, two-imp, two-get_or}
+use Rattle.laws.proofs.EveryLaws.{all-imp, all_append, all-get_or, two-get_or}
 use Rattle.laws.proofs.Cases.{Which, which, lt-or-ge, Tri, tri}
 use Rattle.laws.proofs.Cases.Which.{holds, fails}
 use Rattle.laws.proofs.Cases.Tri.{below, same, above}
@@ -21,7 +19,7 @@ use Rattle.reader.specs.declared.column.Column.{Column}
 use Rattle.reader.specs.declared.column.Column.TheVariants.{At, Missing}
 use Rattle.reader.specs.Store.{column_width, are_columns_ok, find, absent}
 use Rattle.rows.specs.Columns.{add_if, of_width, columns_of, fours, twoes, word_count, bytes_for_width}
-use Rattle.reader.proofs.StoreLaws.{ok-intro, ok-once, find-below, find_at, absent-at, absent-intro}
+use Rattle.reader.proofs.StoreLaws.{ok-intro, ok-once, find-below, find_at, absent-at}
 
 two-append : {A : Type 0} (R : A → A → Type 0) (l m : List A) → EachTwo R l → EachTwo R m → All (λ x. All (R x) m) l → EachTwo R (l ++ m)
 two-append R [] m p q h = q
@@ -136,7 +134,7 @@ module _ (s : Shape) where
   -- none is named twice
   pub columns-ok : are_columns_ok (length s) (columns_of s) ≡ true
   columns-ok = ok-intro (length s) (columns_of s)
-      (λ k h. (all_get_d (λ q. (q < length s) × (0 < get_or s q 0)) (columns_of s) k 0 columns-in h).0)
+      (λ k h. (all-get_or (λ q. (q < length s) × (0 < get_or s q 0)) (columns_of s) k 0 columns-in h).0)
       (λ i j p h e.
       let a = two-get_or (Ahead s) (columns_of s) i j 0 columns-ordered p h in
       omega (arith, a.first (ap (λ (q : ℕ). get_or s q 0) (sym e))))
@@ -189,7 +187,7 @@ module _ (s : Shape) where
   width_at j = get_or s (get_or (columns_of s) j 0) 0
 
   width_is : (w j : ℕ) → j < length (of_width w 0 s) → get_or s (get_or (of_width w 0 s) j 0) 0 ≡ w
-  width_is w j h = (all_get_d (Wide s w) (of_width w 0 s) j 0 (of-wide s w) h).width
+  width_is w j h = (all-get_or (Wide s w) (of_width w 0 s) j 0 (of-wide s w) h).width
 
   pub width_four : (j : ℕ) → j < fours s → width_at j ≡ 4
   width_four j h = rw (four-at j h) (width_is 4 j h)
@@ -236,7 +234,7 @@ module _ (s : Shape) where
           let z : j - 0 ≡ j = omega arith in
           let f : get_or (columns_of s) j 0 ≡ k = rw z at (find_at k 0 (columns_of s) j m).1 in
           let b : j < length (columns_of s) = omega (arith, find-below k 0 (columns_of s) j m) in
-          let i = all_get_d (λ q. (q < length s) × (0 < get_or s q 0)) (columns_of s) j 0 (columns-in s) b in
+          let i = all-get_or (λ q. (q < length s) × (0 < get_or s q 0)) (columns_of s) j 0 (columns-in s) b in
           absurd (omega (arith, i.1, ap (λ (q : ℕ). get_or s q 0) f))
 
   module _ (few : length s < 32768) where

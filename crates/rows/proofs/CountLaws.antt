@@ -1,13 +1,13 @@
 -- Counting the regions of one width, and a row's form by the counts. Assumes nothing.
-use mathlib.Core.Path.{◌≡◌, refl, sym, ap, ◌∙◌}
-use mathlib.Core.List.{List, [], ◌∷◌, ◌++◌}
+use mathlib.Core.Path.{◌≡◌, refl, ap}
+use mathlib.Core.List.{[], ◌++◌}
 use Prim.Native.Nat.{ℕ, ◌+◌, ◌≤◌, ◌<◌}
 use native.Mathlib.Omega.{arith}
 use lib.ListN.{length, get_or, drop, length-append}
 use lib.Seq.{drop-length}
 use borrow.Author.Tests.{lt-ltb, le-ltb}
 use Rattle.shapes.specs.Shape.{Shape}
-use Rattle.rows.specs.Columns.{of_width, columns_of, fours, twoes, word_count}
+use Rattle.rows.specs.Columns.{of_width, columns_of, word_count}
 use Rattle.rows.proofs.CollectLaws.{rest-same, rest-other}
 
 -- n of the first i regions have the width

@@ -1,6 +1,6 @@
 -- A shape, its columns and the table of their places as parts of one slice of words: the loops that read one part and write another. Assumes
 -- nothing.
-use mathlib.Core.Path.{◌≡◌, refl, sym, ap, subst, ◌∙◌}
+use mathlib.Core.Path.{◌≡◌, refl, sym, subst, ◌∙◌}
 use mathlib.Core.Bool.{true}
 use mathlib.Core.List.{List, [], ◌∷◌, ◌++◌, append_assoc}
 use Prim.Native.Nat.{ℕ, ◌+◌, ◌-◌, ◌≤◌, ◌<◌}
@@ -16,10 +16,10 @@ use Rattle.laws.proofs.RangeLaws.{length-seg, get_or-seg, only-refl, only-seg, o
 use Rattle.laws.proofs.ZeroLaws.{zeroed-part}
 use Rattle.shapes.specs.Shape.{Shape}
 use Rattle.reader.specs.Store.{are_columns_ok}
-use Rattle.rows.specs.Columns.{of_width, columns_of, fours, twoes, word_count}
-use Rattle.rows.specs.Lent.{FormedIn, Placed, PlacedIn, Put}
+use Rattle.rows.specs.Columns.{of_width, columns_of, fours, word_count}
+use Rattle.rows.specs.Lent.{FormedIn, PlacedIn, Put}
 use Rattle.rows.proofs.PutLaws.{put-join, put_keeps, put-long}
-use Rattle.rows.proofs.CollectLaws.{Collecting, collect-start, collect-room, collect-same, collect-other, collect-done, columns-count, columns-most, Marking, mark-start, mark-room, mark-more, mark-done}
+use Rattle.rows.proofs.CollectLaws.{Collecting, collect-start, collect-room, collect-same, collect-other, collect-done, columns-most, Marking, mark-start, mark-room, mark-more, mark-done}
 
 -- ---- the words before a place
 

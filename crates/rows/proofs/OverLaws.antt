@@ -1,14 +1,14 @@
 -- Laws of bytes put over others, and of loops that put one piece after another. Assumes nothing.
-use mathlib.Core.Path.{◌≡◌, refl, sym, ap, ◌∙◌}
+use mathlib.Core.Path.{◌≡◌}
 use mathlib.Core.List.{List, [], ◌∷◌, ◌++◌, append_assoc}
-use Prim.Native.Nat.{ℕ, zero, suc, ◌+◌, ◌-◌, ◌*◌, ◌≤◌, ◌<◌}
-use native.Mathlib.Nat.{add-zero, add_assoc}
+use Prim.Native.Nat.{ℕ, ◌+◌, ◌≤◌, ◌<◌}
+use native.Mathlib.Nat.{add-zero}
 use native.Mathlib.Numerals.{add-one}
 use native.Mathlib.Omega.{arith}
-use lib.ListN.{length, get_or, take, drop, set, length-append, take-append-drop}
-use lib.Seq.{set_split, drop-drop}
+use lib.ListN.{length, drop, set, take-append-drop}
+use lib.Seq.{set_split}
 use Rattle.laws.specs.Bytes.{over}
-use Rattle.laws.proofs.BytesLaws.{over-take, over-drop, over-length}
+use Rattle.laws.proofs.BytesLaws.{over-take, over-drop}
 
 pub over_none : (out : List ℕ) (at : ℕ) → over out at 0 [] ≡ out
 over_none out at = rw add-zero (take-append-drop at out)

@@ -105,10 +105,10 @@ zero_row word cols =
 
 -- ---- one entry more
 
-pub get_d_map : (f : ℕ → ℕ) (l : List ℕ) (k : ℕ) → k < length l → get_or (map f l) k 0 ≡ f (get_or l k 0)
-get_d_map f [] k h = absurd (omega arith)
-get_d_map f (x ∷ l) zero h = refl
-get_d_map f (x ∷ l) (suc k) h = get_d_map f l k (omega arith)
+pub get_or-map : (f : ℕ → ℕ) (l : List ℕ) (k : ℕ) → k < length l → get_or (map f l) k 0 ≡ f (get_or l k 0)
+get_or-map f [] k h = absurd (omega arith)
+get_or-map f (x ∷ l) zero h = refl
+get_or-map f (x ∷ l) (suc k) h = get_or-map f l k (omega arith)
 
 word-here : (r w : ℕ) (l : Set) (q : ℕ) → q ≡ r → value_in ((r, w) ∷ l) q ≡ value w
 unfolding word_in
@@ -126,7 +126,7 @@ cells-skip r w l cols m =
     ext_get_or 0 (map f cols) (map g cols) (length-map cols f ∙ sym (length-map cols g))
     (λ k h.
     let b : k < length cols = omega (arith, length-map cols f) in
-    get_d_map f cols k b ∙ ap (twos 4) (word-there r w l (get_or cols k 0) (absent-at r 0 cols (ap absent m) k b)) ∙ sym (get_d_map g cols k b))
+    get_or-map f cols k b ∙ ap (twos 4) (word-there r w l (get_or cols k 0) (absent-at r 0 cols (ap absent m) k b)) ∙ sym (get_or-map g cols k b))
 
 -- or it has column j
 pub cells-put : (n r w : ℕ) (l : Set) (cols : List ℕ) (j : ℕ) → are_columns_ok n cols ≡ true → find r 0 cols ≡ At j
@@ -140,7 +140,7 @@ cells-put n r w l cols j ok m =
     ext_get_or 0 (map f cols) (set (map g cols) j v) (length-map cols f ∙ sym (length-set (map g cols) j v ∙ length-map cols g))
     (λ k h.
     let b : k < length cols = omega (arith, length-map cols f) in
-    get_d_map f cols k b ∙ go k b at low (tri k j))
+    get_or-map f cols k b ∙ go k b at low (tri k j))
   where
     go : (k : ℕ) → k < length cols → get_or cols j 0 ≡ r → j < length cols → Tri k j
         → twos 4 (value_in ((r, w) ∷ l) (get_or cols k 0)) ≡ get_or (set (map (λ q. twos 4 (value_in l q)) cols) j (twos 4 (value w))) k 0
@@ -150,11 +150,11 @@ cells-put n r w l cols j ok m =
     go k b at low (below p) =
         let g : ℕ → ℕ = (λ q. twos 4 (value_in l q)) in
         let d : get_or cols k 0 ≡ r → ⊥ = (λ e. ok-once n cols ok k j p low (at ∙ sym e)) in
-        ap (twos 4) (word-there r w l (get_or cols k 0) d) ∙ sym (get_or-set_other (map g cols) j k (twos 4 (value w)) 0 (omega arith) ∙ get_d_map g cols k b)
+        ap (twos 4) (word-there r w l (get_or cols k 0) d) ∙ sym (get_or-set_other (map g cols) j k (twos 4 (value w)) 0 (omega arith) ∙ get_or-map g cols k b)
     go k b at low (above p) =
         let g : ℕ → ℕ = (λ q. twos 4 (value_in l q)) in
         let d : get_or cols k 0 ≡ r → ⊥ = (λ e. ok-once n cols ok j k p b (e ∙ sym at)) in
-        ap (twos 4) (word-there r w l (get_or cols k 0) d) ∙ sym (get_or-set_other (map g cols) j k (twos 4 (value w)) 0 (omega arith) ∙ get_d_map g cols k b)
+        ap (twos 4) (word-there r w l (get_or cols k 0) d) ∙ sym (get_or-set_other (map g cols) j k (twos 4 (value w)) 0 (omega arith) ∙ get_or-map g cols k b)
 
 -- ---- laying a set into its row, from the last entry to the first
 

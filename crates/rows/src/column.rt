@@ -44,7 +44,7 @@ fn collect(work: &mut [u32], shape: usize, regions: usize, width: u32, from: usi
 }
 
 // A row's form: its word count and how many columns it has.
-#[derive(Drop)]
+#[derive(Clone, Copy)]
 pub struct Form {
     pub word: usize,
     pub count: usize,

@@ -5,21 +5,15 @@ ghost use Rattle.std.specs.Prelude.{◌≤◌};
 fn nibble(b: u8) -> u8
     ensures { result ≤ 16 }
 {
-    if b >= b'0' {
-        if b <= b'9' {
-            return b - b'0';
-        }
+    match b {
+        b'0'..=b'9' => b - b'0',
+        b'a'..=b'f' => b - b'a' + 10,
+        _ => 16,
     }
-    if b >= b'a' {
-        if b <= b'f' {
-            return (b - b'a') + 10;
-        }
-    }
-    16
 }
 
 // How far the text is read: the bytes of the case so far, the first half of the next one (16 for none), and whether a '#' was seen.
-#[derive(Drop)]
+#[derive(Clone, Copy)]
 pub struct Place {
     pub n: usize,
     pub half: u8,
@@ -39,49 +33,35 @@ pub fn start() -> Place {
 fn digit(case: &mut [u8; 4096], n: usize, half: u8, x: u8) -> Place
     requires { x ≤ 16 }
 {
+    let at = Place {
+        n,
+        half,
+        told: false,
+    };
     if x == 16 {
-        return Place {
-            n,
-            half,
-            told: false,
-        };
+        return at;
     }
     if half >= 16 {
-        return Place {
-            n,
-            half: x,
-            told: false,
-        };
+        return Place { half: x, ..at };
     }
     if n < 4096 {
         case[n] = half * 16 + x;
         return Place {
             n: n + 1,
             half: 16,
-            told: false,
+            ..at
         };
     }
-    Place {
-        n,
-        half,
-        told: false,
-    }
+    at
 }
 
 // One byte more, which ends no line.
 pub fn more(case: &mut [u8; 4096], at: Place, b: u8) -> Place {
-    let n = at.n;
-    let told = at.told;
-    if told {
+    if at.told {
         return at;
     }
-    let half = at.half;
     if b == b'#' {
-        return Place {
-            n,
-            half,
-            told: true,
-        };
+        return Place { told: true, ..at };
     }
-    digit(case, n, half, nibble(b))
+    digit(case, at.n, at.half, nibble(b))
 }

@@ -1,72 +1,70 @@
 // Reads a list of stores from standard input, damaged ones among them, and writes what the reader answers for each. A case is a line of
 // hexadecimal bytes: outer, inner, region, then the store. Blanks are skipped, and so is the rest of a line from a '#' on.
+#![tactic(auto)]
+
 mod lines;
+
+ghost use Rattle.std.specs.Prelude.{◌≡◌, unsigned_abs};
 
 use crate::lines::{Place, more, start};
 use reader::Reading;
+use std::io::{self, BufReader, Read};
 
 // How far a number is from zero.
-fn size(v: i32) -> u64 {
-    if v < 0 {
-        return ((-1 - v) as u64) + 1;
-    }
-    v as u64
+fn size(v: i32) -> u64
+    ensures { result ≡ unsigned_abs v }
+{
+    u64::from(v.unsigned_abs())
 }
 
-fn show(r: Reading) {
+fn show<R: Print>(rt: &R, r: Reading) -> io::Result<()> {
     match r {
         Reading::Written(v) => {
             if v < 0 {
-                io::write_all(1, b"written -");
+                println!(rt; "written -{}", size(v))
             } else {
-                io::write_all(1, b"written ");
+                println!(rt; "written {}", size(v))
             }
-            io::print_decimal(1, size(v));
-            io::write_all(1, b"\n");
         }
-        Reading::NoColumn => {
-            io::write_all(1, b"no column\n");
-        }
-        Reading::Refused(n) => {
-            io::write_all(1, b"refused ");
-            io::print_decimal(1, n as u64);
-            io::write_all(1, b"\n");
-        }
+        Reading::NoColumn => println!(rt; "no column"),
+        Reading::Refused(n) => println!(rt; "refused {n}"),
     }
 }
 
-fn wide(x: u8) -> u32 {
-    x as u32
+fn wide(x: u8) -> u32
+    ensures { result ≡ x }
+{
+    u32::from(x)
 }
 
 // A case of n bytes; fewer than three are no case.
-fn answer(case: &[u8], n: usize) {
-    if n < 3 {
-        return;
+fn answer<R: Print>(rt: &R, case: &[u8], n: usize) -> io::Result<()> {
+    if n < 3 || case.len() < n {
+        return Ok(());
     }
-    if case.len() < n {
-        return;
-    }
-    show(reader::read(&case[3..n], wide(case[0]), wide(case[1]), wide(case[2])));
+    show(
+        rt,
+        reader::read(&case[3..n], wide(case[0]), wide(case[1]), wide(case[2])),
+    )
 }
 
-fn step(case: &mut [u8; 4096], at: Place, b: u8) -> Place {
-    let n = at.n;
+fn step<R: Print>(rt: &R, case: &mut [u8; 4096], at: Place, b: u8) -> io::Result<Place> {
     if b == b'\n' {
-        answer(case, n);
-        return start();
+        answer(rt, case, at.n)?;
+        return Ok(start());
     }
-    more(case, at, b)
+    Ok(more(case, at, b))
 }
 
-fn main() {
-    let mut text = io::large_buffer();
-    let got = io::read_full(0, &mut text);
+// The first 65,536 bytes of the input, or those up to where a read fails.
+fn main(rt: HostRuntime) -> io::Result<()> {
     let mut case = [0u8; 4096];
     let mut at = start();
-    let mut i: usize = 0;
-    while i < got {
-        at = step(&mut case, at, text[i]);
-        i += 1;
+    for b in BufReader::new(rt.alloc(), rt.reader().take(65536))?.bytes() {
+        let Ok(b) = b else {
+            break;
+        };
+        at = step(&rt, &mut case, at, b)?;
     }
+    Ok(())
 }

@@ -1,5 +1,5 @@
 -- What is true of each pair of a list of living groups, and of the pair that is chosen. Assumes nothing.
-use mathlib.Core.Path.{◌≡◌, refl, ap, subst}
+use mathlib.Core.Path.{◌≡◌, refl, ap, subst, sym}
 use mathlib.Core.Logic.{◌⊎◌, inl, inr, ⊎_elim}
 use mathlib.Core.Option.{Option, none, some}
 use mathlib.Core.List.{List, [], ◌∷◌, ◌++◌, map}
@@ -96,8 +96,8 @@ best-leads [] = tt
 best-leads (c ∷ cs) = go (best cs) (best-leads cs)
   where
     by : (d : Pair) → All (ahead d) cs → (ahead c d × (better c d ≡ c)) ⊎ (ahead d c × (better c d ≡ d)) → All (ahead (better c d)) (c ∷ cs)
-    by d h (inl p) = rw p.1 (ahead-self c, all-imp (λ e q. ahead-trans c d e p.0 q) cs h)
-    by d h (inr p) = rw p.1 (p.0, h)
+    by d h (inl p) = subst (λ (x : Pair). All (ahead x) (c ∷ cs)) (sym p.1) (ahead-self c, all-imp (λ e q. ahead-trans c d e p.0 q) cs h)
+    by d h (inr p) = subst (λ (x : Pair). All (ahead x) (c ∷ cs)) (sym p.1) (p.0, h)
 
     go : (o : Option Pair) → Leads cs o → Leads (c ∷ cs) (lead c o)
     go none h = (ahead-self c, all-imp (λ e x. absurd x) cs h)

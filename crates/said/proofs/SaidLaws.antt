@@ -2,7 +2,7 @@
 use mathlib.Core.Path.{◌≡◌, refl, sym, ap}
 use mathlib.Core.Bool.{Bool, false, ◌||◌}
 use mathlib.Core.List.{List, [], ◌∷◌}
-use mathlib.Core.Logic.{⊎_elim, ◌≢◌}
+use mathlib.Core.Logic.{⊎_elim}
 use Prim.Native.Nat.{ℕ, suc, ◌+◌, ◌*◌, ◌/◌, ◌%◌, ◌≤◌, ◌<◌}
 use native.Mathlib.Nat.{le_refl, mod-eq-sub-div-mul, div-mul-le_self, lt-div-mul-add, le_of_mul-le-mul_right}
 use native.Mathlib.Omega.{arith}
@@ -10,17 +10,17 @@ use lib.ListN.{length, get_or, length-append}
 use lib.Dec.{eqb}
 use borrow.Author.Tests.{eq-eqb}
 use Rattle.laws.specs.Every.{All, EachTwo}
-use Rattle.laws.proofs.Cases.{Which, which, lt-or-ge, same_or_not, true-false}
+use Rattle.laws.proofs.Cases.{Which, which, lt-or-ge, true-false}
 use Rattle.laws.proofs.Cases.Which.{holds, fails}
 use Rattle.laws.proofs.EveryLaws.{all_append, two-end}
 use Rattle.laws.proofs.Products.{product, row_fits}
 use Rattle.laws.proofs.Pigeon.{few-below}
-use Rattle.said.specs.Records.{region_number, value_as_word, record_at, record_bytes, after_record, kind, axis_kind, value_kind, end_kind}
+use Rattle.said.specs.Records.{region_number, value_as_word, record_at, kind, axis_kind}
 use Rattle.said.specs.Refusals.{form_refusal, value_no}
 use Rattle.limits.specs.Limits.{max_regions}
 use Rattle.said.specs.Sets.{region_list, first_like, has, with_use}
 use Rattle.said.specs.Job.{Said, in_axes, after_value, after_end, regions_only, fine, records_from}
-use Rattle.said.proofs.RecordLaws.{Formed, form-passed, value-unknown}
+use Rattle.said.proofs.RecordLaws.{form-passed, value-unknown}
 use Rattle.said.proofs.RegionLaws.{regions-length}
 use Rattle.said.proofs.IndexLaws.{with-known, with-new}
 use Rattle.said.proofs.RegionLaws.{like-below}

@@ -1,7 +1,7 @@
 -- What a sound job says: its sets are sorted, have no zeros and name regions in use; values are words of 32 bits; each region has three coordinates an
 -- axis, of 16 bits each. Assumes nothing.
 use mathlib.Core.Path.{◌≡◌, refl, sym, subst, ◌∙◌}
-use mathlib.Core.Bool.{Bool, true, false, ◌&&◌}
+use mathlib.Core.Bool.{Bool, false, ◌&&◌}
 use mathlib.Core.List.{List, [], ◌∷◌}
 use mathlib.Core.Logic.{⊎_elim}
 use Prim.Native.Nat.{ℕ, zero, suc, ◌+◌, ◌*◌, ◌/◌, ◌%◌, ◌^◌, ◌≤◌, ◌<◌}
@@ -18,8 +18,8 @@ use Rattle.laws.proofs.Cases.{Which, which, lt-or-ge, and-true}
 use Rattle.laws.proofs.Cases.Which.{holds, fails}
 use Rattle.laws.proofs.EveryLaws.{all_append, all-imp, all-and}
 use Rattle.sets.specs.Set.{Set}
-use Rattle.said.specs.Records.{record_bytes, most_records, most_axes, region_number, value_as_word, record_at, after_record, is_whole_records, record_count, region_length, after_region, kind, axis_kind, value_kind, end_kind}
-use Rattle.said.specs.Refusals.{first_failed, job_work, pair_records, early_refusal, value_no}
+use Rattle.said.specs.Records.{record_bytes, most_records, most_axes, region_number, value_as_word, record_at, after_record, is_whole_records, record_count, region_length, after_region}
+use Rattle.said.specs.Refusals.{job_work, pair_records, early_refusal, value_no}
 use Rattle.said.specs.Sets.{Region, coordinates, region_list, first_like, has, with_use, index_in, with_entry, with_value}
 use Rattle.said.specs.Job.{Said, in_axes, after_value, after_end, regions_only, Outcome, fine, records_from, outcome_from, outcome}
 use Rattle.said.specs.LentGood.{SetsGood}

@@ -1,6 +1,6 @@
 -- What one record leads to: stopped by its form, a value, an end; the first that is no axis record. Assumes nothing.
 use mathlib.Core.Path.{◌≡◌, refl, sym, ◌∙◌}
-use mathlib.Core.Bool.{Bool, true, false}
+use mathlib.Core.Bool.{true, false}
 use mathlib.Core.List.{List}
 use Prim.Native.Nat.{ℕ, zero, suc, ◌*◌, ◌/◌, ◌%◌}
 use native.Mathlib.Nat.{mod-eq-sub-div-mul, div-mul-le_self}
@@ -13,7 +13,7 @@ use Rattle.laws.proofs.Cases.Which.{holds, fails}
 use Rattle.said.specs.Records.{kind, value_kind, is_axis, is_value}
 use Rattle.said.specs.Refusals.{form_refusal}
 use Rattle.said.specs.Sets.{region_list}
-use Rattle.said.specs.Job.{Said, State, in_axes, in_sets, Step, stop, on, unless, value_step, end_step, regions_only, said_at, axes_before, is_late, kind_step, step}
+use Rattle.said.specs.Job.{Said, in_axes, in_sets, Step, stop, unless, value_step, end_step, regions_only, said_at, axes_before, is_late, kind_step, step}
 use Rattle.said.proofs.RecordLaws.{Formed, form-passed, form-set}
 use Rattle.said.proofs.RegionLaws.{regions-length}
 

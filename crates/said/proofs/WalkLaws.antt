@@ -17,7 +17,7 @@ use Rattle.said.specs.Records.{record_at, kind, axis_kind, value_kind, end_kind,
 use Rattle.said.specs.Refusals.{form_refusal, value_no, end_refusal}
 use Rattle.said.specs.Sets.{region_list, first_like, has}
 use Rattle.said.specs.Job.{Said, State, in_axes, in_sets, Step, stop, on, unless, after_value, after_end, value_step, end_step, regions_only, said_at, axes_before, is_late, kind_step, step, Outcome, refused, fine, ended, ended_sets, follow, records_from}
-use Rattle.said.proofs.RecordLaws.{Formed, form-passed}
+use Rattle.said.proofs.RecordLaws.{form-passed}
 
 -- the third of three, where it is none of the others
 third : (a b c : Bool) → (a || (b || c)) ≡ true → a ≡ false → b ≡ false → c ≡ true

@@ -22,7 +22,7 @@ use Rattle.said.specs.Sets.{region_list}
 use Rattle.said.specs.Job.{Said, in_axes, regions_only, after_value, after_end, fine, records_from}
 use Rattle.said.proofs.RegionLaws.{regions-length}
 use Rattle.said.proofs.WalkLaws.{walk-keeps}
-use Rattle.said.proofs.SaidLaws.{Counts, counts}
+use Rattle.said.proofs.SaidLaws.{counts}
 
 -- ---- how many words they are
 

@@ -1,5 +1,5 @@
 -- What refusals 1 to 4 leave. Assumes nothing.
-use Rattle.std.specs.Prelude.{List, ◌≡◌, ℕ, ◌*◌, ◌/◌, ◌≤◌, ◌<◌, length}
+use Rattle.std.specs.Prelude.{List, ◌≡◌, ℕ, ◌≤◌, ◌<◌, length}
 use Rattle.said.specs.Records.{record_start, record_count, most_records, most_axes}
 use Rattle.said.specs.Refusals.{job_work, pair_records}
 

@@ -1,5 +1,5 @@
 -- Refusals: their numbers, and the tests of one record (RULES R1 to R14, R30 to R34, R60, R61, T1, T2; those of R70 to R72 stand with the panel's profile).
-use Rattle.std.specs.Prelude.{Bool, true, false, not, ◌&&◌, ◌||◌, List, [], ◌∷◌, ◌≡◌, ℕ, zero, suc, ◌+◌, ◌*◌, ◌/◌, ◌%◌, ◌≤◌, ◌<◌, length, eqb, ltb, leb}
+use Rattle.std.specs.Prelude.{Bool, not, ◌&&◌, ◌||◌, List, [], ◌∷◌, ℕ, ◌/◌, ◌%◌, length, eqb, ltb, leb}
 use Rattle.laws.specs.Pick.{pick}
 use Rattle.limits.specs.Limits.{max_regions, max_items}
 -- the pair records that are lent beside work: fewer is WORK_SHORT

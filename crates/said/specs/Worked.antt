@@ -1,13 +1,13 @@
 -- Small jobs, computed.
-use Rattle.std.specs.Prelude.{Bool, true, false, List, [], ◌∷◌, ◌++◌, ◌≡◌, refl, ℕ, ◌+◌, set}
+use Rattle.std.specs.Prelude.{List, [], ◌∷◌, ◌++◌, ◌≡◌, refl, ℕ, ◌+◌, set}
 use Rattle.laws.specs.Bytes.{be}
 use Rattle.laws.specs.Signed.{word, signed, zero_word}
 use Rattle.sets.specs.Set.{Set}
 use Rattle.said.specs.Records.{must_be_zero, first_not_zero, first_wrong_byte, value_as_word}
-use Rattle.said.specs.Refusals.{pair_records, first_failed, published_work, building_work, early_refusal, in_turn, form_refusal, value_no, end_refusal, byte_of}
+use Rattle.said.specs.Refusals.{pair_records, first_failed, published_work, building_work, early_refusal, in_turn, form_refusal, value_no, end_refusal}
 use Rattle.said.specs.Work.{axis_run, regions_at_head}
 use Rattle.said.specs.Sets.{Region, coordinates, region_list, same_region, like, first_like, has, with_use, index_in, with_entry, with_value}
-use Rattle.said.specs.Job.{Said, Outcome, refused, fine, unless, after_value, after_end, value_step, end_step, regions_only, said_at, axes_before, is_late, kind_step, step, ended, ended_sets, follow, records_from, outcome_from, outcome}
+use Rattle.said.specs.Job.{Outcome, refused, fine, unless, after_value, after_end, value_step, end_step, regions_only, said_at, axes_before, is_late, kind_step, step, ended, ended_sets, follow, records_from, outcome_from, outcome}
 
 -- an axis record of start 0, a value record with a value of one byte's size from 0 on, an end record
 abbrev axis_record : ℕ → ℕ → ℕ → List ℕ

@@ -1,6 +1,8 @@
 // What a job says, and where it is refused. The crate is there for its definitions and their laws and has no function:
 // specs/ has what docs/RULES.md says of a job's bytes, proofs/ what is true of it. The numbers of refusals are here for
 // code, as specs/Refusals has them.
+#![tactic(auto)]
+
 #[derive(Drop)]
 pub struct Refusal {}
 

@@ -6,7 +6,7 @@ use Prim.Native.Nat.{ℕ, zero, suc, ◌+◌, ◌-◌, ◌*◌, ◌≤◌, ◌<�
 use native.Mathlib.Omega.{arith}
 use lib.ListN.{length, get_or}
 use Rattle.laws.specs.LentRange.{Apart, Outside, Only}
-use Rattle.laws.proofs.BoundedLaws.{length-tabulate, get_d_tabulate, tabulate-same}
+use Rattle.laws.proofs.BoundedLaws.{length-tabulate, get_or-tabulate, tabulate-same}
 use Rattle.sets.specs.Set.{Set, Ascending, Proper}
 use Rattle.sets.specs.Order.{order}
 use Rattle.sets.specs.Lent.{entries, entries_at, count_of, set_of, Stored, Clear, Sortable, Ready, Held, sets_in, is_first_of_like, Behind, at_most}
@@ -73,7 +73,7 @@ pub sets-at : (index n : ℕ) (w : List ℕ) (x : ℕ) → x < n → get_or (set
 unfolding sets_in
 sets-at index n w x h =
     let e : 0 + x ≡ x = omega arith in
-    get_d_tabulate 0 n (λ x. set_of index x w) [] x h ∙ ap (λ (y : ℕ). set_of index y w) e
+    get_or-tabulate 0 n (λ x. set_of index x w) [] x h ∙ ap (λ (y : ℕ). set_of index y w) e
 
 -- what the comparison and the sort ask of a set
 module _ {w : List ℕ} {index n regions end : ℕ} (h : Held w index n regions end) where

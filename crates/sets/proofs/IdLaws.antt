@@ -14,7 +14,7 @@ use Rattle.laws.specs.Every.{All}
 use Rattle.laws.proofs.Cases.{Which, which, and-true, lt-or-ge}
 use Rattle.laws.proofs.Cases.Which.{holds, fails}
 use Rattle.laws.proofs.ListLaws.{get_or-map-in}
-use Rattle.laws.proofs.EveryLaws.{all_append, all_get_d, all-intro}
+use Rattle.laws.proofs.EveryLaws.{all_append, all-get_or, all-intro}
 use Rattle.sets.specs.Set.{Set, same_set}
 use Rattle.sets.specs.Ids.{place, with_set, ids_from, distinct_from, distinct, shared_ids}
 
@@ -186,7 +186,7 @@ distinct_append known (s ∷ l) m = distinct_append (with_set known s) l m
 
 -- THE LAWS: ids are below the number of distinct sets, and equal exactly for equal sets
 pub id_below : (sets : List Set) (k : ℕ) → k < length sets → place (get_or sets k []) (distinct sets) < length (distinct sets)
-id_below sets k h = all_get_d (λ s. place s (distinct sets) < length (distinct sets)) sets k [] (distinct-has [] sets) h
+id_below sets k h = all-get_or (λ s. place s (distinct sets) < length (distinct sets)) sets k [] (distinct-has [] sets) h
 
 pub id_same : (sets : List Set) (j k : ℕ) → j < length sets → k < length sets → place (get_or sets j []) (distinct sets) ≡ place (get_or sets k []) (distinct sets) → get_or sets j [] ≡ get_or sets k []
 id_same sets j k p q e =

@@ -10,7 +10,7 @@ use lib.Seq.{ext_get_or, get_or-set_same, get_or-set_other}
 use Rattle.laws.specs.LentRange.{Apart, Only, Zeroed, seg}
 use Rattle.laws.specs.Signed.{value, zero_word}
 use Rattle.laws.proofs.Cases.{same_or_not}
-use Rattle.laws.proofs.BoundedLaws.{length-tabulate, get_d_tabulate}
+use Rattle.laws.proofs.BoundedLaws.{length-tabulate, get_or-tabulate}
 use Rattle.laws.proofs.RangeLaws.{only-refl, only-trans, only_set, length-seg, get_or-seg}
 use Rattle.shapes.specs.Width.{width_of, cost_of}
 use Rattle.shapes.proofs.WidthLaws.{none-cost}
@@ -104,7 +104,7 @@ module _ {from m at regions : ℕ} {old : List ℕ} (r : FillFit old from m at r
         (λ i p.
         let b : i < regions = omega arith in
         let z : i ≡ 0 + i = omega arith in
-        get_or-seg at regions new i b ∙ rw (e, f) at (s.done i b) ∙ ap (width_in (entries from m old)) z ∙ sym (get_d_tabulate 0 regions (width_in (entries from m old)) 0 i b));
+        get_or-seg at regions new i b ∙ rw (e, f) at (s.done i b) ∙ ap (width_in (entries from m old)) z ∙ sym (get_or-tabulate 0 regions (width_in (entries from m old)) 0 i b));
   }
 
 -- ---- from words that hold anything

@@ -1,17 +1,14 @@
 -- The record that ends a set: how a walk finds it. Assumes nothing.
 use mathlib.Core.Path.{◌≡◌, refl, sym, ap, ◌∙◌}
-use mathlib.Core.Bool.{Bool, true, false}
+use mathlib.Core.Bool.{Bool, true}
 use mathlib.Core.List.{List}
 use Prim.Native.Nat.{ℕ, ◌+◌, ◌≤◌, ◌<◌}
 use native.Mathlib.Omega.{arith}
-use lib.Dec.{eqb, ltb}
-use lib.ListN.{length, get_or}
 use borrow.Author.Tests.{eq-eqb, ne_eqb, lt-ltb, le-ltb}
-use Rattle.laws.specs.Bounded.{tabulate, up_to}
+use Rattle.laws.specs.Bounded.{tabulate}
 use Rattle.laws.specs.Sorting.{keep, rank}
 use Rattle.laws.proofs.RankLaws.{rank-in, rank-out, rank_less, kept_at}
 use Rattle.said.specs.Records.{record_bytes, record_start, record_at, record_count, kind, end_kind, is_end}
-use Rattle.showing.specs.declared.ends.Span.{Span}
 use Rattle.showing.specs.Parts.{no_span, ends_of, end_at, end_span}
 
 module _ (job : List ℕ) where

@@ -8,7 +8,7 @@ use records::{Kind, kind_at, records_in};
 const BYTES: usize = 12;
 
 // A part of some bytes: where it starts, and how many there are. An empty one starts at 0.
-#[derive(Drop)]
+#[derive(Clone, Copy)]
 pub struct Span {
     pub at: usize,
     pub long: usize,

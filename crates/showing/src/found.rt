@@ -4,12 +4,12 @@ ghost use Rattle.showing.specs.Parts.{asked_part, found_of};
 ghost use Rattle.showing.specs.LentParts.{Fits};
 
 use crate::ends::end_part;
-use crate::rows::row_part;
+use crate::row_parts::row_part;
 use finding::{asked_no, first_place};
 use finishing::Built;
 
 // A refusal with its number and its place, or where the part starts and how long it is, in the one that was asked for.
-#[derive(Drop)]
+#[derive(Clone, Copy)]
 pub enum Shown {
     Refused(usize, usize),
     InJob(usize, usize),

@@ -13,7 +13,7 @@ use Rattle.laws.specs.Every.{All, EachTwo}
 use Rattle.laws.specs.Bag.{weigh}
 use Rattle.laws.proofs.Cases.{Which, which, lt-or-ge}
 use Rattle.laws.proofs.Cases.Which.{holds, fails}
-use Rattle.laws.proofs.EveryLaws.{all-imp, all_get_d}
+use Rattle.laws.proofs.EveryLaws.{all-imp, all-get_or}
 use Rattle.laws.proofs.BagLaws.{weigh-none, weigh-both}
 use Rattle.shapes.specs.Shape.{Shape}
 use Rattle.shapes.specs.Order.{order}
@@ -95,6 +95,6 @@ share-at n [] i l d h = absurd (omega arith)
 share-at n (g ∷ gs) zero l d h = omega (arith, share-self g, others-none n g.shape gs l.0 l.1 d.0)
 share-at n (g ∷ gs) (suc i) l d h =
     let k : i < length gs = omega arith in
-    let p = all_get_d (Long n) gs i (record { shape = []; sets = 0 }) l.1 k in
-    let q = all_get_d (λ x. g.shape ≡ x.shape → ⊥) gs i (record { shape = []; sets = 0 }) d.0 k in
+    let p = all-get_or (Long n) gs i (record { shape = []; sets = 0 }) l.1 k in
+    let q = all-get_or (λ x. g.shape ≡ x.shape → ⊥) gs i (record { shape = []; sets = 0 }) d.0 k in
     omega (arith, share_other (group_at gs i).shape g (p ∙ sym l.0) (λ e. q (sym e)), share-at n gs i l.1 d.1 k)

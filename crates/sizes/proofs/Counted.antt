@@ -1,5 +1,5 @@
 -- The groups of the rule count the sets that their final groups hold, so the modelled size is that of what is written. Assumes nothing.
-use mathlib.Core.Path.{◌≡◌, refl, sym, ap, ◌∙◌}
+use mathlib.Core.Path.{◌≡◌, sym, ap, ◌∙◌}
 use mathlib.Core.List.{List, [], ◌∷◌, map}
 use mathlib.Core.Logic.{⊎_elim}
 use Prim.Native.Nat.{ℕ, ◌≤◌, ◌<◌}
@@ -13,7 +13,7 @@ use Rattle.laws.specs.Bag.{weigh}
 use Rattle.laws.specs.Bounded.{up_to}
 use Rattle.laws.specs.Sorting.{sorted}
 use Rattle.laws.proofs.Cases.{lt-or-ge, same_or_not}
-use Rattle.laws.proofs.EveryLaws.{all-imp, all-and, all_map, all-unmap, all_get_d}
+use Rattle.laws.proofs.EveryLaws.{all-imp, all-and, all_map, all-unmap, all-get_or}
 use Rattle.laws.proofs.SortLaws.{sorted_all, weigh-sorted, keep-long}
 use Rattle.laws.proofs.BagLaws.{weigh-map, weigh-same}
 use Rattle.laws.proofs.UpLaws.{weigh-places}
@@ -59,7 +59,7 @@ module _ (regions : ℕ) (jobs : List Set) where
       let u = (group_at groups i).shape in
       let at : num s ≡ k.place = number_at groups k.place nil (shape_of regions s) (groups-unlike regions jobs) k.below (sym k.here) in
       let long : length u ≡ length (shape_of regions s) =
-      all_get_d (λ (g : Group). length g.shape ≡ regions) groups i nil (groups-long regions jobs) h ∙ sym (shape-length regions s) in
+      all-get_or (λ (g : Group). length g.shape ≡ regions) groups i nil (groups-long regions jobs) h ∙ sym (shape-length regions s) in
       ⊎_elim
       (λ (e : num s ≡ i).
       let same : u ≡ shape_of regions s = ap (λ (j : ℕ). (group_at groups j).shape) (sym e ∙ at) ∙ k.here in
@@ -148,7 +148,7 @@ module _ (regions : ℕ) (jobs : List Set) where
 
   place_of : (x : ℕ) → x < length sets → (num (get_or sets x []) < length groups) × ((group_at groups (num (get_or sets x []))).shape ≡ shape_of regions (get_or sets x []))
   place_of x h =
-      let k = all_get_d (λ (s : Set). Has (shape_of regions s) groups) sets x [] shapes-have h in
+      let k = all-get_or (λ (s : Set). Has (shape_of regions s) groups) sets x [] shapes-have h in
       let at : num (get_or sets x []) ≡ k.place =
       number_at groups k.place nil (shape_of regions (get_or sets x [])) (groups-unlike regions jobs) k.below (sym k.here) in
       (omega (arith, k.below), ap (λ (j : ℕ). (group_at groups j).shape) at ∙ k.here)

@@ -1,6 +1,6 @@
 -- The groups of the rule have counts of sets, the final groups have ids: they are the same numbers, so the modelled
 -- size is that of the groups that are written (RULES M9). Assumes nothing.
-use Rattle.std.specs.Prelude.{◌≡◌, List, [], ◌∷◌, ℕ, suc, ◌≤◌, ◌<◌, length, get_or, eqb}
+use Rattle.std.specs.Prelude.{◌≡◌, List, [], ◌∷◌, ℕ, ◌≤◌, ◌<◌, length, get_or, eqb}
 use Rattle.laws.specs.Every.{All, EachTwo}
 use Rattle.laws.specs.Bag.{weigh}
 use Rattle.laws.specs.Bounded.{up_to}

@@ -107,7 +107,7 @@ fn join_shapes(work: &mut [u32], t: MergeTables, a: usize, b: usize)
     requires sound { Sound t work.old }
     requires a_lt_groups { a < t.groups }
     requires b_lt_groups { b < t.groups }
-    requires a_nonzero { a ≢ b }
+    requires slots_differ { a ≢ b }
     ensures { ShapesJoined t a b work.old work.new }
 {
     let regions = t.regions;
@@ -125,7 +125,7 @@ pub fn join_slots(work: &mut [u32], t: MergeTables, a: usize, b: usize)
     requires sound { Sound t work.old }
     requires a_lt_groups { a < t.groups }
     requires b_lt_groups { b < t.groups }
-    requires a_nonzero { a ≢ b }
+    requires slots_differ { a ≢ b }
     requires b_bound { (group_in t work.old a).sets + (group_in t work.old b).sets < 4294967296 }
     ensures { JoinedIn t a b work.old work.new }
 {

@@ -1,4 +1,6 @@
 // Groups in slots of lent words: where the tables of a merge lie, what two groups gain, and joining them.
+#![tactic(auto)]
+
 mod groups;
 mod tables;
 

@@ -6,7 +6,7 @@ ghost use Rattle.planes.specs.Plane.{plane_length, plane_words};
 // `columns`. Starting group i lies in slot work[order + i]. Number c lives in slot work[place + c] - 1, or is dead where that word is 0, and then
 // it was joined into number work[into + c]. A log entry is three words. From planes on each slot has its shape once more, as planes of bits, by which
 // two are weighed.
-#[derive(Drop)]
+#[derive(Clone, Copy)]
 pub struct MergeTables {
     pub regions: usize,
     pub groups: usize,

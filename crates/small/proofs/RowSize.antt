@@ -1,20 +1,20 @@
 -- A row is written in at most twice its modelled cost, and has no more columns than that. Assumes nothing.
-use mathlib.Core.Path.{◌≡◌, refl, sym, ap, ◌∙◌}
+use mathlib.Core.Path.{◌≡◌}
 use mathlib.Core.Bool.{Bool, true, false}
 use mathlib.Core.List.{List, [], ◌∷◌, ◌++◌}
 use mathlib.Core.Logic.{⊎_elim}
-use Prim.Native.Nat.{ℕ, zero, suc, ◌+◌, ◌-◌, ◌*◌, ◌%◌, ◌≤◌, ◌<◌}
+use Prim.Native.Nat.{ℕ, ◌+◌, ◌-◌, ◌*◌, ◌%◌, ◌≤◌, ◌<◌}
 use native.Mathlib.Omega.{arith}
-use lib.Dec.{eqb, ltb}
+use lib.Dec.{eqb}
 use lib.ListN.{length, length-append}
 use borrow.Author.Tests.{eq-eqb, ne_eqb, lt-ltb, le-ltb}
-use Rattle.laws.specs.Pick.{pick, one_if}
+use Rattle.laws.specs.Pick.{one_if}
 use Rattle.laws.proofs.Cases.{lt-or-ge, same_or_not}
 use Rattle.shapes.specs.Shape.{Shape, cost_of_row, columns}
 use Rattle.shapes.specs.Lent.{column_of}
 use Rattle.shapes.proofs.ShapeLaws.{columns-cons, columns-most}
 use Rattle.shapes.proofs.LentLaws.{column-some}
-use Rattle.reader.specs.Store.{column_start, full_columns, lay}
+use Rattle.reader.specs.Store.{column_start}
 use Rattle.rows.specs.Columns.{add_if, of_width, columns_of, fours, twoes, word_count}
 use Rattle.store.specs.Placing.{row_bytes}
 

@@ -1,9 +1,9 @@
 -- What the runs of final groups take, by what the groups cost. Assumes nothing.
-use mathlib.Core.Path.{◌≡◌, refl, sym, ap, ◌∙◌}
+use mathlib.Core.Path.{◌≡◌, refl, ap}
 use mathlib.Core.Bool.{Bool, true, false}
-use mathlib.Core.List.{List, [], ◌∷◌, ◌++◌, map}
+use mathlib.Core.List.{List, [], ◌∷◌, map}
 use mathlib.Core.Logic.{⊎_elim}
-use Prim.Native.Nat.{ℕ, zero, suc, ◌+◌, ◌-◌, ◌*◌, ◌/◌, ◌≤◌, ◌<◌, min}
+use Prim.Native.Nat.{ℕ, zero, suc, ◌+◌, ◌-◌, ◌*◌, ◌≤◌, ◌<◌}
 use native.Mathlib.Nat.{suc-mul, mul-add, add-mul, mul_comm, mul_assoc, mul-le-mul_left, mul-le-mul_right, min-le_left, min-le_right, le_refl}
 use native.Mathlib.Omega.{arith}
 use lib.Dec.{eqb}
@@ -16,7 +16,7 @@ use Rattle.laws.specs.Bounded.{tabulate}
 use Rattle.laws.specs.Joining.{join_all}
 use Rattle.laws.proofs.Cases.{same_or_not}
 use Rattle.laws.proofs.BagLaws.{weigh-append}
-use Rattle.shapes.specs.Shape.{Shape, cost_of_row, columns, overhead}
+use Rattle.shapes.specs.Shape.{cost_of_row, columns, overhead}
 use Rattle.shapes.specs.Group.{group_cost, max_items}
 use Rattle.rows.specs.Columns.{columns_of}
 use Rattle.rows.specs.Subtable.{run_count_for}

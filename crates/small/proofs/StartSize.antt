@@ -1,15 +1,13 @@
 -- The modelled size before merging, by the sets and their entries. Assumes nothing.
 use mathlib.Core.Path.{◌≡◌, refl, sym, ap, ◌∙◌}
-use mathlib.Core.Bool.{Bool, true, false}
-use mathlib.Core.List.{List, [], ◌∷◌, ◌++◌, map}
+use mathlib.Core.List.{List, [], ◌∷◌, map}
 use mathlib.Core.Logic.{⊎_elim, ◌≢◌}
 use Prim.Native.Nat.{ℕ, zero, suc, ◌+◌, ◌*◌, ◌≤◌, ◌<◌}
 use native.Mathlib.Nat.{mul-add}
 use native.Mathlib.Omega.{arith}
-use lib.Dec.{eqb, ltb}
+use lib.Dec.{ltb}
 use lib.ListN.{length}
-use borrow.Author.Tests.{eq-eqb, ne_eqb}
-use Rattle.laws.specs.Pick.{pick}
+use borrow.Author.Tests.{ne_eqb}
 use Rattle.laws.specs.Every.{All}
 use Rattle.laws.specs.Bag.{weigh}
 use Rattle.laws.specs.Bounded.{tabulate}
@@ -17,8 +15,6 @@ use Rattle.laws.specs.Signed.{value, zero_word}
 use Rattle.laws.proofs.Cases.{Which, which, same_or_not}
 use Rattle.laws.proofs.Cases.Which.{holds, fails}
 use Rattle.laws.proofs.BagLaws.{weigh-append, weigh-map}
-use Rattle.laws.specs.declared.Order.{Order}
-use Rattle.laws.specs.declared.Order.TheVariants.{Less, Equal, Greater}
 use Rattle.shapes.specs.Width.{width_of, cost_of}
 use Rattle.shapes.specs.Shape.{Shape, cost_of_row, columns, overhead}
 use Rattle.shapes.specs.Lent.{column_of}
@@ -33,7 +29,7 @@ use Rattle.sets.specs.Ids.{place, with_set, distinct_from, distinct}
 use Rattle.groups.specs.Groups.{shape_of, with_shape, groups_from, groups_of}
 use Rattle.groups.proofs.GroupLaws.{Said, said, Long, shape-length, with-less, with-equal, with-more, with-long}
 use Rattle.groups.proofs.GroupLaws.Said.{less, equal, greater}
-use Rattle.rule.specs.Model.{Living, number}
+use Rattle.rule.specs.Model.{number}
 
 -- ---- the shape of a set has no more columns than the set has entries
 

@@ -1,7 +1,7 @@
 -- In mode 0 a store is small. Assumes nothing.
-use mathlib.Core.Path.{◌≡◌, refl, sym, ap, ◌∙◌}
-use mathlib.Core.List.{List, [], ◌∷◌, map}
-use Prim.Native.Nat.{ℕ, suc, ◌+◌, ◌*◌, ◌≤◌, ◌<◌}
+use mathlib.Core.Path.{◌≡◌, sym, ap, ◌∙◌}
+use mathlib.Core.List.{List}
+use Prim.Native.Nat.{ℕ, ◌+◌, ◌*◌, ◌≤◌, ◌<◌}
 use native.Mathlib.Nat.{mul_comm, mul_assoc, mul-le-mul_left}
 use native.Mathlib.Omega.{arith}
 use lib.ListN.{length, get_or}
@@ -11,8 +11,6 @@ use Rattle.laws.specs.Sorting.{sorted}
 use Rattle.laws.proofs.EveryLaws.{all-imp, all_map, all-and}
 use Rattle.laws.proofs.BagLaws.{weigh-map, weigh-same}
 use Rattle.laws.proofs.SortLaws.{sorted_all, weigh-sorted}
-use Rattle.limits.specs.Limits.{most_records, max_regions}
-use Rattle.shapes.specs.Shape.{cost_of_row}
 use Rattle.shapes.specs.Group.{Group}
 use Rattle.sets.specs.Set.{Set}
 use Rattle.sets.specs.Ids.{distinct}
@@ -20,17 +18,16 @@ use Rattle.sets.proofs.IdLaws.{distinct-most}
 use Rattle.groups.specs.Groups.{groups_of}
 use Rattle.groups.proofs.GroupLaws.{Long, groups-some, groups-long, groups-unlike, groups-count}
 use Rattle.rule.specs.Model.{Living, start, merged, total}
-use Rattle.rule.proofs.Theorems.{Proper, Full, run-full, run-total, run-sets}
+use Rattle.rule.proofs.Theorems.{Proper, run-full, run-total, run-sets}
 use Rattle.rows.specs.Row as rows
 use Rattle.said.specs.Records.{record_count}
 use Rattle.said.specs.Job.{Said, in_axes, fine, records_from, outcome}
 use Rattle.said.proofs.SaidLaws.{counts}
 use Rattle.said.proofs.SoundLaws.{fine-walk}
-use Rattle.store.specs.Placing.{Final, names, kept_of, store_of, row_bytes, forecast_of}
+use Rattle.store.specs.Placing.{Final, names, kept_of, store_of, forecast_of}
 use Rattle.store.proofs.RegionLaws.{kept-most}
 use Rattle.store.proofs.ForecastLaws.{forecast-exact}
 use Rattle.encoder.specs.Packed.{final_of, is_ahead, finals_of, shared}
-use Rattle.sizes.specs.Sizes.{Sizes, cost_of}
 use Rattle.sizes.proofs.Counted.{sizes}
 use Rattle.small.specs.Small.{packed_of, bytes_of, Small}
 use Rattle.small.proofs.RowSize.{row-twice}

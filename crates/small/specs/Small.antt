@@ -1,12 +1,12 @@
 -- In mode 0 a store is small, whatever the regions: the modelled total only falls, it starts below 10 bytes a set and 6 a
 -- value, a row is written in at most twice its modelled cost, and runs are few. Assumes nothing.
-use Rattle.std.specs.Prelude.{List, ℕ, ◌+◌, ◌*◌, ◌≤◌, length}
+use Rattle.std.specs.Prelude.{ℕ, ◌+◌, ◌*◌, ◌≤◌, length}
 use Rattle.laws.specs.Every.{All}
 use Rattle.shapes.specs.Shape.{cost_of_row}
 use Rattle.shapes.specs.Group.{max_items}
 use Rattle.sets.specs.Ids.{distinct}
 use Rattle.said.specs.Job.{Said}
-use Rattle.store.specs.Placing.{Final, all_runs, kept_of, row_bytes, forecast_of}
+use Rattle.store.specs.Placing.{all_runs, kept_of, row_bytes, forecast_of}
 use Rattle.encoder.specs.Packed.{Packed, shared}
 
 -- what is made of a job that says s, in mode 0

@@ -15,7 +15,7 @@ use Rattle.laws.specs.Every.{All}
 use Rattle.laws.specs.Joining.{join_all}
 use Rattle.laws.proofs.BytesLaws.{bytes-length}
 use Rattle.laws.proofs.Cases.{same_or_not}
-use Rattle.laws.proofs.EveryLaws.{all-imp, all_map, all_append, all_get_d}
+use Rattle.laws.proofs.EveryLaws.{all-imp, all_map, all_append, all-get_or}
 use Rattle.laws.proofs.JoinLaws.{join-long}
 use Rattle.laws.proofs.SortMap.{keep_all}
 use Rattle.laws.proofs.UpLaws.{up-all}
@@ -93,7 +93,7 @@ module _ (axes : ℕ) (coords : List (List ℕ)) (set : ℕ → Set) (gs : List 
   list-whole =
       all_map (λ (c : List ℕ). length c ≡ 6 * axes) (λ r. get_or coords r []) kept
       (keep_all (λ r. names r gs) (λ r. length (get_or coords r []) ≡ 6 * axes) (up_to (length coords))
-      (all-imp (λ r h. all_get_d (λ (c : List ℕ). length c ≡ 6 * axes) coords r [] whole h) (up_to (length coords)) (up-all (length coords))))
+      (all-imp (λ r h. all-get_or (λ (c : List ℕ). length c ≡ 6 * axes) coords r [] whole h) (up_to (length coords)) (up-all (length coords))))
 
   list-long : length (list_of axes coords gs) ≡ 4 + 6 * axes * length kept
   list-long =

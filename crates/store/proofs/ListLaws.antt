@@ -1,12 +1,10 @@
 -- Laws of the region list's bytes. Assumes nothing.
-use mathlib.Core.Path.{◌≡◌, refl, sym, ap, ◌∙◌}
-use mathlib.Core.Bool.{Bool, true, false, not}
-use mathlib.Core.List.{List, [], ◌∷◌, ◌++◌, append_assoc, map}
-use Prim.Native.Nat.{ℕ, zero, suc, ◌+◌, ◌-◌, ◌*◌, ◌≤◌, ◌<◌}
-use native.Mathlib.Nat.{suc-mul, zero-mul, mul_comm}
+use mathlib.Core.Path.{◌≡◌, refl, ap, ◌∙◌}
+use mathlib.Core.Bool.{Bool, true, false}
+use mathlib.Core.List.{List, [], ◌∷◌, ◌++◌, map}
+use Prim.Native.Nat.{ℕ, suc, ◌+◌, ◌-◌, ◌≤◌, ◌<◌}
 use native.Mathlib.Numerals.{add-one}
 use native.Mathlib.Omega.{arith}
-use lib.Dec.{eqb}
 use lib.ListN.{length, get_or, set, length-append}
 use borrow.Author.Tests.{eq-eqb, ne_eqb}
 use Rattle.laws.specs.Bytes.{bytes_of, over}
@@ -17,9 +15,9 @@ use Rattle.laws.specs.Joining.{join_all}
 use Rattle.laws.proofs.BytesLaws.{bytes-length}
 use Rattle.laws.proofs.RangeLaws.{seg-cons, seg-none, length-seg}
 use Rattle.rows.specs.Lent.{Put}
-use Rattle.store.specs.Lent.{chain, coords_at, kept_bytes, list_bytes, marked_in}
+use Rattle.store.specs.Lent.{coords_at, kept_bytes, list_bytes, marked_in}
 use Rattle.rows.proofs.OverLaws.{set-over}
-use Rattle.rows.proofs.PutLaws.{Putting, put-start, put-more, put-done, put-join, put-long}
+use Rattle.rows.proofs.PutLaws.{Putting, put-start, put-more, put-done}
 
 -- ---- bytes copied
 

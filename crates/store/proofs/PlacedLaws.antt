@@ -6,7 +6,7 @@ use Prim.Native.Nat.{ℕ, zero, suc, ◌+◌, ◌-◌, ◌*◌, ◌≤◌, ◌<�
 use Rattle.limits.specs.Limits.{max_regions}
 use Rattle.said.specs.Records.{axis_coordinates, coords_long}
 use Rattle.said.specs.Refusals.{most_bytes}
-use native.Mathlib.Nat.{add-zero, suc-mul, zero-mul, mul_comm}
+use native.Mathlib.Nat.{mul_comm}
 use native.Mathlib.Omega.{arith}
 use lib.ListN.{length, get_or, drop, length-append, length-map, length-take, length-drop}
 use Rattle.laws.proofs.ListLaws.{map_same}
@@ -18,7 +18,7 @@ use Rattle.laws.specs.Sorting.{keep}
 use Rattle.laws.specs.Joining.{join_all}
 use Rattle.laws.proofs.EveryLaws.{all, all-imp, all_map}
 use Rattle.laws.proofs.JoinLaws.{map-join, join-join, join-long}
-use Rattle.laws.proofs.BoundedLaws.{tabulate-same, length-tabulate, get_d_tabulate, map-tabulate}
+use Rattle.laws.proofs.BoundedLaws.{tabulate-same, length-tabulate, get_or-tabulate, map-tabulate}
 use Rattle.laws.proofs.SortLaws.{keep_same}
 use Rattle.laws.proofs.SortMap.{keep_all}
 use Rattle.laws.proofs.UpLaws.{up-all}
@@ -116,7 +116,7 @@ module _ (src : List ℕ) (axes : ℕ) (w : List ℕ) (starts regions : ℕ) (gs
   coord-at : (r : ℕ) → r < regions → get_or (coords_in src axes w starts regions) r [] ≡ coords_at src axes (get_or w (starts + r) 0)
   unfolding coords_in
   coord-at r h =
-      get_d_tabulate 0 regions (λ r. coords_at src axes (get_or w (starts + r) 0)) [] r h
+      get_or-tabulate 0 regions (λ r. coords_at src axes (get_or w (starts + r) 0)) [] r h
       ∙ (let e : 0 + r ≡ r = omega arith in rw e)
 
   pub list-is : list_of axes (coords_in src axes w starts regions) gs

@@ -1,31 +1,26 @@
 -- Laws of the sizes of subtables. Assumes nothing.
-use mathlib.Core.Path.{◌≡◌, refl, sym, ap, ap₂, ◌∙◌}
-use mathlib.Core.Bool.{Bool, true, false}
-use mathlib.Core.List.{List, [], ◌∷◌, ◌++◌, append_assoc, map}
+use mathlib.Core.Path.{◌≡◌, sym, ap, ◌∙◌}
+use mathlib.Core.List.{List}
 use mathlib.Core.Logic.{⊎_elim}
-use Prim.Native.Nat.{ℕ, zero, suc, ◌+◌, ◌-◌, ◌*◌, ◌/◌, ◌≤◌, ◌<◌, min}
+use Prim.Native.Nat.{ℕ, suc, ◌+◌, ◌-◌, ◌*◌, ◌≤◌, ◌<◌, min}
 use native.Mathlib.Numerals.{add-one}
 use native.Mathlib.Omega.{arith}
-use lib.Dec.{eqb}
 use lib.ListN.{length, get_or, length-append}
 use borrow.Author.Tests.{eq-eqb, ne_eqb}
 use Rattle.laws.specs.Bag.{weigh}
-use Rattle.laws.specs.Bytes.{bytes_of}
 use Rattle.laws.specs.Bounded.{tabulate}
 use Rattle.laws.specs.LentRange.{seg}
 use Rattle.laws.specs.Joining.{join_all}
 use Rattle.laws.proofs.BagLaws.{weigh-append}
-use Rattle.laws.proofs.BytesLaws.{bytes-length}
 use Rattle.laws.proofs.BoundedLaws.{length-tabulate}
 use Rattle.laws.proofs.RangeLaws.{length-seg}
 use Rattle.laws.proofs.Cases.{lt-or-ge}
-use Rattle.shapes.specs.Shape.{Shape}
 use Rattle.shapes.specs.Group.{max_items}
 use Rattle.reader.specs.Store.{column_start}
 use Rattle.rows.specs.Columns.{columns_of, word_count}
 use Rattle.rows.specs.Subtable.{run_count_for}
 use Rattle.limits.specs.Limits.{most_records, max_regions}
-use Rattle.store.specs.Lent.{FormOf, Handed, Summed, chain, final_at, finals_at, group_sizes, run_sizes, subtable_size, sum_of}
+use Rattle.store.specs.Lent.{FormOf, Summed, chain, final_at, group_sizes, run_sizes, subtable_size, sum_of}
 use Rattle.rows.proofs.CollectLaws.{columns-count, columns-most}
 use Rattle.rows.proofs.ColumnsLaws.{word_below}
 use Rattle.rows.proofs.RunLaws.{run_none, run-some}

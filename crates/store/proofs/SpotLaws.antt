@@ -1,12 +1,10 @@
 -- Laws of the subtables' offsets. Assumes nothing.
-use mathlib.Core.Path.{◌≡◌, refl, sym, ap, ap₂, ◌∙◌}
-use mathlib.Core.Bool.{Bool, true, false}
-use mathlib.Core.List.{List, [], ◌∷◌, ◌++◌, append_assoc, map}
-use Prim.Native.Nat.{ℕ, zero, suc, ◌+◌, ◌-◌, ◌*◌, ◌≤◌, ◌<◌, min}
-use native.Mathlib.Nat.{add-zero, add_assoc}
+use mathlib.Core.Path.{◌≡◌, refl, ap, ◌∙◌}
+use mathlib.Core.List.{List, [], ◌∷◌, ◌++◌, append_assoc}
+use Prim.Native.Nat.{ℕ, suc, ◌+◌, ◌-◌, ◌*◌, ◌≤◌, ◌<◌, min}
+use native.Mathlib.Nat.{add-zero}
 use native.Mathlib.Numerals.{add-one}
 use native.Mathlib.Omega.{arith}
-use lib.Dec.{eqb}
 use lib.ListN.{length, get_or, length-append}
 use borrow.Author.Tests.{eq-eqb, ne_eqb}
 use Rattle.laws.specs.Bag.{weigh}
@@ -19,11 +17,9 @@ use Rattle.laws.proofs.RangeLaws.{length-seg}
 use Rattle.shapes.specs.Group.{max_items}
 use Rattle.reader.specs.Store.{column_start}
 use Rattle.rows.specs.Subtable.{run_count_for}
-use Rattle.store.specs.Placing.{Final}
-use Rattle.rows.specs.Lent.{Put}
 use Rattle.store.specs.Lent.{FormOf, Spotted, chain, final_at, group_sizes, run_sizes, spot_of, spots_of, subtable_size, sum_of}
 use Rattle.rows.proofs.PutLaws.{Putting, put-start, put-more, put-done}
-use Rattle.store.proofs.GroupLaws.{left, left_step}
+use Rattle.store.proofs.GroupLaws.{left}
 
 pub spot-none : (at size : ℕ) → size ≡ 0 → 0 ≡ spot_of at size
 unfolding spot_of

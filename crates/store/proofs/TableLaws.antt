@@ -1,12 +1,11 @@
 -- One subtable of the definition, by the bytes that the code writes. Assumes nothing.
-use mathlib.Core.Path.{◌≡◌, refl, ap, ap₂, ◌∙◌}
+use mathlib.Core.Path.{◌≡◌, refl, ap, ◌∙◌}
 use mathlib.Core.List.{List, [], ◌∷◌, ◌++◌, append_assoc, map}
 use mathlib.Core.Logic.{⊎_elim}
 use Prim.Native.Nat.{ℕ, ◌<◌}
 use lib.ListN.{length, length-map}
 use borrow.Author.Tests.{eq-eqb, ne_eqb}
 use Rattle.laws.proofs.ListLaws.{map_same}
-use Rattle.laws.specs.Every.{All}
 use Rattle.laws.specs.Bytes.{bytes_of}
 use Rattle.laws.specs.Joining.{join_all}
 use Rattle.laws.proofs.Cases.{same_or_not}

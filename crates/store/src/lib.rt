@@ -1,5 +1,7 @@
 // An item variation store as a definition, with its laws; and what is done for one of its parts: the regions that one shape names, the
 // size and the offset of one subtable, the map words of one run.
+#![tactic(auto)]
+
 ghost use Rattle.std.specs.Prelude.{◌≡◌, ◌+◌, ◌≤◌, ◌<◌, length};
 ghost use Rattle.laws.specs.LentRange.{seg};
 ghost use Rattle.laws.specs.Every.{All};
@@ -9,7 +11,7 @@ ghost use Rattle.store.specs.Lent.{NamedIn, spot_of, subtable_size};
 
 // Where the final groups stand in work: `count` of them, three words each from `groups` on (where the shape is, where the numbers of
 // the sets are, how many there are). A shape has a word for each of so many `regions`; the index of the sets starts at `index`.
-#[derive(Drop)]
+#[derive(Clone, Copy)]
 pub struct Finals {
     pub regions: usize,
     pub groups: usize,
@@ -18,7 +20,7 @@ pub struct Finals {
 }
 
 // Where the coordinates of regions stand in a job: those of region r, on so many `axes`, start where word r from `starts` on says.
-#[derive(Drop)]
+#[derive(Clone, Copy)]
 pub struct Coords {
     pub axes: usize,
     pub starts: usize,

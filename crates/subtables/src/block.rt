@@ -35,7 +35,7 @@ fn write_set(
 
 // Sets that are to be rows: `count` of them, whose numbers stand from `ids` on; set x is found by two words of the index, which starts
 // at `index`.
-#[derive(Drop)]
+#[derive(Clone, Copy)]
 pub struct SetList {
     pub index: usize,
     pub ids: usize,

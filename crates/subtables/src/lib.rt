@@ -1,4 +1,6 @@
 // Rows and subtables written: a set laid into its row, a subtable, the runs of a group (`write_runs`).
+#![tactic(auto)]
+
 mod block;
 mod row;
 mod subtable;

@@ -1,5 +1,7 @@
 // The table of distinct shapes, in the order of the rules. Each shape stands in a slot for good; a list of slot numbers has the order,
 // so a new shape moves numbers and no shapes.
+#![tactic(auto)]
+
 ghost use Rattle.std.specs.Prelude.{◌≡◌, ◌+◌, ◌*◌, ◌<◌, ◌≤◌, length};
 ghost use Rattle.shapes.specs.Shape.{cost_of_row};
 ghost use Rattle.shapes.specs.Order.{order};
@@ -11,7 +13,7 @@ use shapes::RowShape;
 // Where the table lies: the slots, one more than `room` of them, of `regions` words each, from `slots` on; the slot of each group number
 // from `order` on, and the count of sets of each slot from `counts` on, `room` words each. Where the table is `costed`, `room` words with the
 // row cost of each slot stand behind the counts, so that most steps of a search compare two numbers; else each step adds it up.
-#[derive(Drop)]
+#[derive(Clone, Copy)]
 pub struct Shapes {
     pub regions: usize,
     pub room: usize,
@@ -22,7 +24,7 @@ pub struct Shapes {
 }
 
 // Where a shape is in the table: at a number, or missing, with the number before which it would come.
-#[derive(Drop)]
+#[derive(Clone, Copy)]
 pub enum Found {
     At(usize),
     Missing(usize),

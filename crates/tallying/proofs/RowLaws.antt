@@ -5,8 +5,8 @@ use mathlib.Core.List.{List, [], ◌∷◌}
 use Prim.Native.Nat.{ℕ, zero, suc, ◌+◌, ◌-◌, ◌*◌, ◌^◌, ◌≤◌, ◌<◌}
 use native.Mathlib.Nat.{add-zero}
 use native.Mathlib.Omega.{arith}
-use lib.Dec.{eqb, ltb}
-use lib.IntN.{ℤ, pos, negsuc}
+use lib.Dec.{ltb}
+use lib.IntN.{pos, negsuc}
 use lib.ListN.{length}
 use borrow.Author.Tests.{ne_eqb, lt-ltb}
 use Rattle.laws.specs.Pick.{pick}
@@ -14,12 +14,10 @@ use Rattle.laws.specs.Bytes.{be}
 use Rattle.laws.specs.LentRange.{seg}
 use Rattle.laws.specs.Signed.{is_zero, signed}
 use Rattle.laws.proofs.BytesLaws.{pow-top}
-use Rattle.laws.proofs.Cases.{Which, which, true-false}
-use Rattle.laws.proofs.Cases.Which.{holds, fails}
-use Rattle.reader.specs.Store.{words, column_start, column_width, word_at, column_count, regions_at}
+use Rattle.reader.specs.Store.{words, column_start, column_width, word_at, column_count}
 use Rattle.reader.proofs.StoreLaws.{words_step}
-use Rattle.reader.proofs.ColumnLaws.{at-fits, bytes-range}
-use Rattle.stores.specs.Stores.{row_long, cell_in}
+use Rattle.reader.proofs.ColumnLaws.{at-fits}
+use Rattle.stores.specs.Stores.{cell_in}
 use Rattle.stores.proofs.PartLaws.{be-seg}
 use Rattle.cells.specs.Lent.{Ahead, cell_of, CellsFit, NextCell}
 use Rattle.recovering.specs.Recovering.{Row, entries_from}

@@ -1,8 +1,7 @@
 -- The rows of a subtable, counted one after the other. Assumes nothing.
-use mathlib.Core.Path.{◌≡◌, refl, sym, ap, ◌∙◌}
+use mathlib.Core.Path.{◌≡◌, refl, ap, ◌∙◌}
 use mathlib.Core.List.{List, [], ◌∷◌, map}
 use Prim.Native.Nat.{ℕ, suc, ◌+◌, ◌-◌, ◌*◌, ◌≤◌, ◌<◌}
-use native.Mathlib.Nat.{add-zero, zero-add}
 use native.Mathlib.Omega.{arith}
 use lib.ListN.{length}
 use Rattle.laws.specs.Bag.{weigh}
@@ -10,7 +9,7 @@ use Rattle.laws.specs.Bounded.{tabulate}
 use Rattle.laws.proofs.Products.{row_fits, row_next}
 use Rattle.laws.proofs.BoundedLaws.{map-tabulate}
 use Rattle.reader.specs.Store.{column_start, word_at, column_count, item_count}
-use Rattle.stores.specs.Stores.{Table, rows_at, row_long, parts, table_at}
+use Rattle.stores.specs.Stores.{rows_at, row_long, parts, table_at}
 use Rattle.recovering.specs.Recovering.{Row, entries_of}
 use Rattle.tallying.specs.LentTally.{entries_in, rows_in, RowIn, TableIn}
 

@@ -1,24 +1,22 @@
 -- Subtables counted one after the other. Assumes nothing.
-use mathlib.Core.Path.{◌≡◌, refl, sym, ap, ◌∙◌}
+use mathlib.Core.Path.{◌≡◌, refl, ap, ◌∙◌}
 use mathlib.Core.Bool.{true}
-use mathlib.Core.List.{List, [], ◌∷◌, ◌++◌, map, append-nil}
+use mathlib.Core.List.{List, [], ◌∷◌, map, append-nil}
 use mathlib.Core.Option.{Option, none, some}
 use Prim.Native.Nat.{ℕ, suc, ◌+◌, ◌-◌, ◌*◌, ◌≤◌, ◌<◌}
-use native.Mathlib.Nat.{mul_comm}
 use native.Mathlib.Omega.{arith}
-use lib.ListN.{length, get_or}
+use lib.ListN.{length}
 use borrow.Author.Tests.{eq-eqb, ne_eqb}
 use Rattle.laws.specs.Bag.{weigh}
 use Rattle.laws.specs.Bounded.{tabulate}
 use Rattle.laws.specs.Bytes.{be}
-use Rattle.laws.proofs.BagLaws.{weigh-append, weigh-none, weigh-both, weigh-same}
+use Rattle.laws.proofs.BagLaws.{weigh-append}
 use Rattle.laws.proofs.BoundedLaws.{length-tabulate}
-use Rattle.laws.proofs.EveryLaws.{all}
 use Rattle.laws.proofs.Products.{product}
 use Rattle.limits.specs.Limits.{most_records}
-use Rattle.reader.specs.Store.{list_at, axis_count, region_count, item_count, is_subtable_ok}
+use Rattle.reader.specs.Store.{list_at, axis_count, region_count, item_count}
 use Rattle.reader.proofs.StoreLaws.{subtable-fits, header-fits}
-use Rattle.stores.specs.Stores.{Table, Parsed, parts, table_count, offset_at, rows_at, row_long, table_at, slot_at, store_at, is_whole_ok}
+use Rattle.stores.specs.Stores.{Table, table_count, offset_at, rows_at, row_long, table_at, slot_at, store_at, is_whole_ok}
 use Rattle.stores.specs.Dropping.{row_count}
 use Rattle.stores.proofs.PartLaws.{parts-long}
 use Rattle.stores.proofs.WholeLaws.{Slot, Whole, whole_is}

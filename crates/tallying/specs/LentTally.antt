@@ -1,11 +1,11 @@
 -- What the clauses cite: rows as they lie in a store's bytes, and what is counted of them. Assumes nothing.
-use Rattle.std.specs.Prelude.{◌≡◌, true, List, [], ◌∷◌, ℕ, ◌+◌, ◌*◌, ◌≤◌, ◌<◌, length}
+use Rattle.std.specs.Prelude.{◌≡◌, List, [], ◌∷◌, ℕ, ◌+◌, ◌*◌, ◌≤◌, length}
 use Rattle.std.proofs.Math.Option.{Option}
 use Rattle.laws.specs.Bag.{weigh}
 use Rattle.laws.specs.Bounded.{tabulate}
 use Rattle.laws.specs.LentRange.{seg}
 use Rattle.limits.specs.Limits.{most_records}
-use Rattle.reader.specs.Store.{full_columns, item_count, word_at, column_count, regions_at}
+use Rattle.reader.specs.Store.{item_count, word_at, column_count, regions_at}
 use Rattle.stores.specs.Stores.{Table, Parsed, rows_at, row_long}
 use Rattle.stores.specs.Dropping.{row_count}
 use Rattle.recovering.specs.Recovering.{Row, entries_from, rows_of, set_records, records_of}

@@ -1,6 +1,8 @@
 // How many records the job of a store takes (#105): its rows' values that are not zero are counted, and no more rows are looked at than a job may have
 // records. Rows of no bytes are never walked to be counted past that, and columns that are zero are jumped over: what is lent says how many zeros
 // follow from each byte on.
+#![tactic(auto)]
+
 ghost use Rattle.std.specs.Prelude.{◌≡◌, true, ℕ, ◌+◌, ◌*◌, ◌≤◌, ◌<◌, length};
 ghost use Rattle.laws.specs.Bag.{weigh};
 ghost use Rattle.cells.specs.Lent.{Ahead};
@@ -51,7 +53,7 @@ fn table_values(s: &[u8], work: &[u32], at: usize) -> usize
 }
 
 // Records and sets, counted so far.
-#[derive(Drop)]
+#[derive(Clone, Copy)]
 pub struct Count {
     pub records: usize,
     pub sets: usize,

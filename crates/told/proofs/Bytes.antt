@@ -8,7 +8,7 @@ use Prim.Native.Nat.{ℕ, ◌+◌, ◌-◌, ◌≤◌, ◌<◌}
 use native.Mathlib.Omega.{arith}
 use lib.ListN.{length, get_or}
 use Rattle.laws.proofs.Cases.{lt-or-ge}
-use Rattle.laws.proofs.EveryLaws.{all_get_d}
+use Rattle.laws.proofs.EveryLaws.{all-get_or}
 use Rattle.sets.specs.Set.{word_of, Proper}
 use Rattle.sets.proofs.SetLaws.{word-past}
 use Rattle.said.specs.Records.{end_kind, region_number, record_at, record_count}
@@ -88,13 +88,13 @@ module _ (axes : ℕ) (job : List ℕ) (s : Said) (t : Telling axes job (record_
   all-bytes = record {
     sets-are = sym t.ends;
     regions-are = coordinates-at;
-    used-known = λ r h. all_get_d (λ p. p < length s.regions) s.used r 0 t.used_low h;
+    used-known = λ r h. all-get_or (λ p. p < length s.regions) s.used r 0 t.used_low h;
     used-apart = used-once;
     first-use = t.first-use;
     given = value-given;
     unnamed = λ n r h l x. t.silent n r h l
         (λ j m v e f. x j (record { within = m; is-value = v; in-set = e }) (first-same (region_number (record_at job j)) (get_or s.used r 0) (t.known j m v) f));
-    past = λ n r h l. word-past (length s.used) r (get_or s.sets n []) (all_get_d (Proper (length s.used)) s.sets n [] t.good.sets-proper h) l;
+    past = λ n r h l. word-past (length s.used) r (get_or s.sets n []) (all-get_or (Proper (length s.used)) s.sets n [] t.good.sets-proper h) l;
   }
 
 -- THE LAW: of every job that is taken

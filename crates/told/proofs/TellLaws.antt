@@ -11,7 +11,7 @@ use Rattle.laws.specs.Every.{All}
 use Rattle.laws.specs.Signed.{zero_word}
 use Rattle.laws.proofs.Cases.{Which, which, lt-or-ge, true-false}
 use Rattle.laws.proofs.Cases.Which.{holds, fails}
-use Rattle.laws.proofs.EveryLaws.{all_get_d}
+use Rattle.laws.proofs.EveryLaws.{all-get_or}
 use Rattle.sets.specs.Set.{Set, word_of, Proper}
 use Rattle.sets.proofs.SetLaws.{word-past}
 use Rattle.said.specs.Records.{kind, axis_kind, value_kind, end_kind, region_number, value_as_word, record_at}
@@ -223,7 +223,7 @@ module _ (axes : ℕ) (job : List ℕ) where
       old-silent n r h x = ⊎_elim
           (λ (a : r < length s.used). t.silent n r h a (less-silent n r a x))
           (λ (a : length s.used ≤ r).
-          word-past (length s.used) r (get_or s.sets n []) (all_get_d (Proper (length s.used)) s.sets n [] t.good.sets-proper h) a)
+          word-past (length s.used) r (get_or s.sets n []) (all-get_or (Proper (length s.used)) s.sets n [] t.good.sets-proper h) a)
           (lt-or-ge r (length s.used))
 
       new-silent : (r : ℕ) → Silence (length s.sets) r → word_of b' r ≡ zero_word

@@ -1,6 +1,6 @@
 -- What a taken job says, by its bytes: each value record's word stands in its set, at its region's index, and nothing
 -- else does (RULES J1, J4 to J6, S1 to S3). Assumes nothing.
-use Rattle.std.specs.Prelude.{◌≡◌, List, [], ℕ, zero, suc, ◌*◌, ◌/◌, ◌≤◌, ◌<◌, length, get_or, drop, eqb}
+use Rattle.std.specs.Prelude.{◌≡◌, List, [], ℕ, zero, suc, ◌*◌, ◌≤◌, ◌<◌, length, get_or, drop, eqb}
 use Rattle.laws.specs.Pick.{pick}
 use Rattle.laws.specs.Signed.{zero_word}
 use Rattle.sets.specs.Set.{word_of}

@@ -2,7 +2,7 @@
 -- output, ids, map and log. Assumes nothing.
 use mathlib.Core.Path.{◌≡◌, refl, sym, ap, subst, ◌∙◌}
 use mathlib.Core.List.{List, []}
-use Prim.Native.Nat.{ℕ, ◌+◌, ◌*◌, ◌/◌, ◌≤◌, ◌<◌}
+use Prim.Native.Nat.{ℕ, ◌*◌, ◌/◌, ◌≤◌, ◌<◌}
 use native.Mathlib.Omega.{arith}
 use lib.ListN.{length, get_or, take}
 use Rattle.laws.specs.Every.{All}
@@ -23,7 +23,7 @@ use Rattle.finishing.specs.Late.{store_for, origin_words, report_of}
 use Rattle.call.specs.Lending.{Lending}
 use Rattle.call.specs.Build.{coords_in_use, packed_of, outcome_of, answer_of, after}
 use Rattle.accepted.proofs.PackedLaws.{WellPacked, shared-good}
-use Rattle.accepted.proofs.Accepted.{Accepted, accepted, packed_in, map_is, store-front, log-front, id-at, shared-is, sets-are, packed-is, origins-front}
+use Rattle.accepted.proofs.Accepted.{Accepted, accepted, packed_in, map_is, store-front, log-front, id-at, shared-is, packed-is, origins-front}
 use Rattle.unordered.proofs.Alike.{Fine}
 
 -- ---- the packed sets of mode 0

@@ -1,17 +1,15 @@
 -- Groups are fixed by how many sets each shape has: so two jobs that say the same sets have the same groups. Assumes nothing.
 use mathlib.Core.Path.{◌≡◌, refl, sym, ap, ap₂, ◌∙◌}
 use mathlib.Core.List.{List, [], ◌∷◌, Memᴰ}
-use Prim.Native.Nat.{ℕ, ◌+◌, ◌<◌}
+use Prim.Native.Nat.{ℕ, ◌<◌}
 use native.Mathlib.Omega.{arith}
-use lib.ListN.{length}
-use Rattle.laws.specs.declared.Order.{Order}
-use Rattle.laws.specs.declared.Order.TheVariants.{Less, Equal, Greater}
+use Rattle.laws.specs.declared.Order.TheVariants.{Less}
 use Rattle.laws.specs.Every.{All, EachTwo}
 use Rattle.laws.specs.Bag.{weigh}
 use Rattle.shapes.specs.Shape.{Shape}
 use Rattle.shapes.specs.Order.{order}
 use Rattle.shapes.specs.Group.{Group}
-use Rattle.shapes.proofs.OrderLaws.{order-self, order-equal, order-chain}
+use Rattle.shapes.proofs.OrderLaws.{order-equal, order-chain}
 use Rattle.sets.specs.Set.{Set}
 use Rattle.groups.specs.Groups.{shape_of, Before, groups_of}
 use Rattle.groups.proofs.GroupLaws.{Said, said, Long, flip-less, groups-before, groups-long, groups-some}

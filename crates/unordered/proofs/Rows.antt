@@ -10,7 +10,7 @@ use lib.Seq.{ext_get_or}
 use Rattle.laws.specs.Every.{All, EachTwo}
 use Rattle.laws.specs.Bounded.{up_to}
 use Rattle.laws.specs.Sorting.{sorted, keep}
-use Rattle.laws.proofs.EveryLaws.{all, all-imp, all-intro, all_get_d}
+use Rattle.laws.proofs.EveryLaws.{all, all-imp, all-intro, all-get_or}
 use Rattle.laws.proofs.BagLaws.{bag-length}
 use Rattle.laws.proofs.ListLaws.{get_or-map-in, map-map, map_same, map-self}
 use Rattle.laws.proofs.SortLaws.{sorted_all, keep_same}
@@ -124,7 +124,7 @@ module _ (regions : ℕ) (s t : List Set) (fine-s : All (Fine regions) s) (fine-
 
   id-low : (x : ℕ) → x < length (distinct s) → new_id x < length (distinct t)
   id-low x h =
-      let a = mem-at (distinct t) [] (get_or (distinct s) x []) (all_get_d (λ (y : Set). Memᴰ y (distinct t)) (distinct s) x [] (distinct-in s t there) h) in
+      let a = mem-at (distinct t) [] (get_or (distinct s) x []) (all-get_or (λ (y : Set). Memᴰ y (distinct t)) (distinct s) x [] (distinct-in s t there) h) in
       omega (arith, a.below, place-first (get_or (distinct s) x []) (distinct t) a.place a.below a.is)
 
   -- THE LAW

@@ -1,7 +1,7 @@
 -- The order of glyphs does not show (RULES U1): what is asked of two jobs, and what is promised of their builds.
 -- Assumes nothing.
 use Rattle.std.specs.Prelude.{◌≡◌, ℕ, ◌*◌, ◌<◌, length, get_or, take}
-use mathlib.Core.List.{List, [], Memᴰ}
+use mathlib.Core.List.{[], Memᴰ}
 use Rattle.sets.specs.Set.{Set}
 use Rattle.said.specs.Job.{Said}
 use Rattle.finishing.specs.declared.answers.Report.{Report}

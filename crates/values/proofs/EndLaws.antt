@@ -1,7 +1,7 @@
 -- The end of a set in work: its entries sorted, then its row. Assumes nothing.
-use mathlib.Core.Path.{◌≡◌, refl, sym, ap, ◌∙◌}
-use mathlib.Core.List.{List, [], ◌∷◌, ◌++◌}
-use Prim.Native.Nat.{ℕ, suc, ◌+◌, ◌*◌, ◌≤◌, ◌<◌}
+use mathlib.Core.Path.{◌≡◌, sym, ap, ◌∙◌}
+use mathlib.Core.List.{List, [], ◌∷◌}
+use Prim.Native.Nat.{ℕ, ◌+◌, ◌*◌, ◌≤◌, ◌<◌}
 use native.Mathlib.Omega.{arith}
 use lib.ListN.{length, get_or, set, length-set, length-append, get_or-append}
 use lib.Seq.{get_or-set_same, get_or-set_other, get_or_at}
@@ -9,7 +9,7 @@ use borrow.Author.Count.{below_more}
 use Rattle.laws.specs.LentRange.{Only}
 use Rattle.laws.proofs.RangeLaws.{only-trans, only_set, only-weaken}
 use Rattle.sets.specs.Lent.{entries, entries_at, count_of, set_of}
-use Rattle.entries.specs.Lent.{entries_in_order, SortRoom, SortedEntries}
+use Rattle.entries.specs.Lent.{entries_in_order, SortedEntries}
 use Rattle.entries.proofs.EntryLaws.{entries-kept}
 use Rattle.entries.proofs.OrderLaws.{in-order-none, ordered-stays, ascending-ordered}
 use Rattle.said.specs.Job.{Said, after_end}

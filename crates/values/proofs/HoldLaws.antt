@@ -1,26 +1,23 @@
 -- One more value in work. Assumes nothing.
 use mathlib.Core.Path.{◌≡◌, refl, sym, ap, ◌∙◌}
-use mathlib.Core.Bool.{Bool, true, false, ◌||◌}
-use mathlib.Core.List.{List, [], ◌∷◌, ◌++◌}
-use mathlib.Core.Logic.{◌⊎◌, inl, inr, ⊎_elim, ◌≢◌}
-use Prim.Native.Nat.{ℕ, zero, suc, ◌+◌, ◌-◌, ◌*◌, ◌≤◌, ◌<◌}
+use mathlib.Core.Bool.{false}
+use mathlib.Core.List.{List, [], ◌∷◌}
+use mathlib.Core.Logic.{⊎_elim, ◌≢◌}
+use Prim.Native.Nat.{ℕ, ◌+◌, ◌*◌, ◌≤◌, ◌<◌}
 use native.Mathlib.Omega.{arith}
-use lib.ListN.{length, get_or, set, length-set, length-append, get_or-append}
-use lib.Seq.{get_or-set_same, get_or-set_other, get_or_at}
+use lib.ListN.{length, get_or, set, length-set}
+use lib.Seq.{get_or-set_same, get_or-set_other}
 use lib.Dec.{eqb}
 use borrow.Author.Tests.{eq-eqb, ne_eqb}
-use borrow.Author.Count.{below_more}
-use Rattle.laws.specs.LentRange.{Apart, Outside, Only}
+use Rattle.laws.specs.LentRange.{Only}
 use Rattle.laws.specs.Signed.{zero_word}
-use Rattle.laws.proofs.Cases.{lt-or-ge, same_or_not}
-use Rattle.laws.proofs.RangeLaws.{only-refl, only-trans, only_set, only-weaken}
-use Rattle.sets.specs.Set.{Set, Ascending}
+use Rattle.laws.proofs.Cases.{same_or_not}
+use Rattle.laws.proofs.RangeLaws.{only-refl, only-trans, only-weaken}
 use Rattle.sets.specs.Lent.{entries, entries_at, count_of, set_of}
 use Rattle.values.specs.declared.tables.SetTables.{SetTables}
-use Rattle.said.specs.Sets.{has, with_use, index_in, with_entry, with_value, first_like}
-use Rattle.said.specs.Job.{Said, after_value, after_end}
-use Rattle.values.specs.Lent.{Stamps, Uses, UsedNow, PutEntry, Holds, ValueFits, PutValue, TookValue, EndedSet}
-use Rattle.said.specs.LentGood.{SetsGood}
+use Rattle.said.specs.Sets.{has, with_use, index_in, with_value, first_like}
+use Rattle.said.specs.Job.{Said, after_value}
+use Rattle.values.specs.Lent.{Stamps, Uses, UsedNow, PutEntry, Holds, ValueFits, PutValue, TookValue}
 use Rattle.said.specs.Records.{region_number, value_as_word}
 use Rattle.said.specs.Refusals.{unknown_region, region_twice, value_no}
 use Rattle.said.proofs.RecordLaws.{value-unknown, value-twice, value-passed}

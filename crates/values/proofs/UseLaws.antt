@@ -1,21 +1,18 @@
 -- Regions in use, and entries put into a set. Assumes nothing.
-use mathlib.Core.Path.{◌≡◌, refl, sym, ap, ap₂, ◌∙◌}
+use mathlib.Core.Path.{◌≡◌, refl, sym, ◌∙◌}
 use mathlib.Core.Bool.{true, false}
 use mathlib.Core.List.{List, [], ◌∷◌, ◌++◌}
-use mathlib.Core.Logic.{◌⊎◌, inl, inr, ⊎_elim, ◌≢◌}
-use Prim.Native.Nat.{ℕ, zero, suc, ◌+◌, ◌-◌, ◌*◌, ◌≤◌, ◌<◌}
+use mathlib.Core.Logic.{⊎_elim, ◌≢◌}
+use Prim.Native.Nat.{ℕ, suc, ◌+◌, ◌-◌, ◌*◌, ◌≤◌, ◌<◌}
 use native.Mathlib.Omega.{arith}
 use lib.ListN.{length, get_or, set, length-set, length-append, get_or-append}
 use lib.Seq.{get_or-set_same, get_or-set_other, get_or_at}
-use borrow.Author.Tests.{eq-eqb, ne_eqb, lt-ltb, le-ltb}
-use borrow.Author.Count.{below_more}
+use borrow.Author.Tests.{eq-eqb, ne_eqb}
 use Rattle.laws.specs.LentRange.{Only}
 use Rattle.laws.proofs.Cases.{Which, which, lt-or-ge, same_or_not}
 use Rattle.laws.proofs.Cases.Which.{holds, fails}
 use Rattle.laws.proofs.RangeLaws.{only-refl, only-trans, only_set}
-use Rattle.sets.specs.Set.{Set, Ascending}
-use Rattle.sets.specs.Lent.{entries}
-use Rattle.said.specs.Sets.{has, index_in, with_entry}
+use Rattle.said.specs.Sets.{has, index_in}
 use Rattle.values.specs.Lent.{slot_in, Uses, UsedNow, PutEntry}
 use Rattle.entries.proofs.EntryLaws.{entries-push}
 use Rattle.said.proofs.IndexLaws.{has-snoc, index_below, index-snoc-old, index-snoc-new, with-known, with-new}

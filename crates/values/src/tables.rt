@@ -6,7 +6,7 @@ use laws::wide;
 
 // Where the tables stand in work: rows and entries of the sets; regions in use by index; for each region its index and one, the last set
 // that named it, and the first region like it.
-#[derive(Drop)]
+#[derive(Clone, Copy)]
 pub struct SetTables {
     pub rows: usize,
     pub body: usize,

@@ -13,7 +13,7 @@ use said::Refusal;
 const ZERO: u32 = 0x8000_0000;
 
 // A refusal number, or 0; the regions in use then, and the entries of the set.
-#[derive(Drop)]
+#[derive(Clone, Copy)]
 pub struct Took {
     pub no: usize,
     pub uses: usize,

@@ -6,7 +6,7 @@ use mathlib.Core.Option.{Option, none, some}
 use Prim.Native.Nat.{ℕ, zero, suc, ◌+◌, ◌≤◌, ◌<◌}
 use native.Mathlib.Omega.{arith}
 use lib.Dec.{eqb, ltb, leb}
-use lib.ListN.{length, get_or}
+use lib.ListN.{length}
 use Rattle.laws.specs.Pick.{pick}
 use Rattle.said.specs.Records.{record_count, record_start, is_whole_records, most_records, most_axes}
 use Rattle.said.specs.Refusals.{first_failed, bad_axes, bad_job_length, work_short, not_zero}
@@ -16,7 +16,7 @@ use Rattle.stores.specs.Stores.{Parsed, parse}
 use Rattle.stores.specs.Coordinates.{once}
 use Rattle.refusing.proofs.WalkEnds.{walk_no, stops-only}
 use Rattle.judging.specs.declared.judging.Judged.{Judged}
-use Rattle.judging.specs.declared.judging.Judged.TheVariants.{Refused, Right, WrongSet, WrongStore}
+use Rattle.judging.specs.declared.judging.Judged.TheVariants.{WrongSet}
 use Rattle.judging.specs.Judge.{set_given, first_failing, judged_in, judged_of, judge_work, judge_refusal, judge_of}
 use Rattle.verdict_words.specs.VerdictWords.{judge_few, judge_within}
 

@@ -1,6 +1,6 @@
 -- A verdict taken apart into numbers. Assumes nothing.
 use mathlib.Core.Path.{◌≡◌, refl, subst, ap, ◌∙◌}
-use mathlib.Core.List.{List, [], ◌∷◌}
+use mathlib.Core.List.{List}
 use Prim.Native.Nat.{ℕ, ◌+◌, ◌≤◌, ◌<◌}
 use lib.ListN.{length}
 use Rattle.said.specs.Records.{record_at, record_start}

@@ -1,5 +1,7 @@
 // A store judged, and the verdict told in a report.
-mod told;
+#![tactic(auto)]
+
+mod judged;
 mod verdict;
 
-pub use crate::told::judge_told;
+pub use crate::judged::judge_told;

@@ -1,2 +1,1 @@
 pub mod WaitLaws
-pub mod Calls

@@ -1,5 +1,6 @@
-// The pairs that wait: each pair of living groups that was weighed and gains, in a lent slice of records. What weighs is covered by the prover; what
-// holds the slice takes no decision of its own, and is walked (docs/PROVING.md).
+// The pairs that wait: each pair of living groups that was weighed and gains, in a lent slice of records.
+#![tactic(auto)]
+
 ghost use Rattle.std.specs.Prelude.{◌+◌, ◌≤◌, ◌<◌, length};
 ghost use Rattle.laws.specs.Bag.{sum};
 ghost use Rattle.waits.specs.LentWaits.{room, alive, Lists, Weighable, Considered, Asked, Offered, OfferedAll, Opening, Opened};
@@ -8,14 +9,14 @@ use pairs::{Pair, append, raise_all};
 use slots::MergeTables;
 
 // How many pairs wait, and how many were weighed.
-#[derive(Drop)]
+#[derive(Clone, Copy)]
 pub struct Tally {
     pub waiting: usize,
     pub weighed: usize,
 }
 
 // What weighing two numbers found: how many pairs that was, and the pair, which gains nothing where one is dead.
-#[derive(Drop)]
+#[derive(Clone, Copy)]
 pub struct Found {
     pub weighed: usize,
     pub pair: Pair,

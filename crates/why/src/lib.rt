@@ -1,4 +1,6 @@
 // Why two ids of a job are where they are: its sets are packed as a build in mode 0 would pack them, and looked at. No log is read.
+#![tactic(auto)]
+
 ghost use Rattle.call.specs.Lending.{lending, no_buffers};
 ghost use Rattle.why.specs.Promised.{Looks};
 

@@ -6,7 +6,7 @@ use native.Mathlib.Nat.{mul-le-mul_right}
 use native.Mathlib.Omega.{arith}
 use lib.ListN.{length, length-append}
 use Rattle.laws.specs.Joining.{join_all}
-use Rattle.laws.proofs.EveryLaws.{all_get_d}
+use Rattle.laws.proofs.EveryLaws.{all-get_or}
 use Rattle.shapes.specs.Shape.{cost_of_row, columns, overhead, join}
 use Rattle.shapes.specs.Group.{Group, group_cost, joined}
 use Rattle.shapes.specs.Lent.{Narrow}
@@ -49,12 +49,12 @@ module _ (regions : ℕ) (k : Packed) (good : WellPacked regions k) (few : regio
 
   narrow : (q : ℕ) → q < length k.finals → Narrow (final_no k.finals q).shape
   narrow q h =
-      let w = all_get_d (λ (f : Final). Widths f.shape) gs q nil good.widths h in
-      let l = all_get_d (λ (f : Final). length f.shape ≡ regions) gs q nil good.long h in
+      let w = all-get_or (λ (f : Final). Widths f.shape) gs q nil good.widths h in
+      let l = all-get_or (λ (f : Final). length f.shape ≡ regions) gs q nil good.long h in
       record { few = omega arith; narrow = w.most }
 
   long : (q : ℕ) → q < length k.finals → length (final_no k.finals q).shape ≡ regions
-  long q h = all_get_d (λ (f : Final). length f.shape ≡ regions) gs q nil good.long h
+  long q h = all-get_or (λ (f : Final). length f.shape ≡ regions) gs q nil good.long h
 
   pub cost-few : (q : ℕ) → q < length k.finals → group_cost (counted (final_no k.finals q)) < cost_limit
   cost-few q h = cost-low (counted (final_no gs q)) (narrow q h) (omega (arith, rows_few q))

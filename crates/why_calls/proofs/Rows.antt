@@ -4,7 +4,7 @@ use mathlib.Core.Path.{◌≡◌, refl, sym, ap, ap₂, subst, ◌∙◌}
 use mathlib.Core.Bool.{true}
 use mathlib.Core.List.{List, [], ◌∷◌, map}
 use mathlib.Core.Option.{Option, none, some}
-use Prim.Native.Nat.{ℕ, suc, ◌+◌, ◌-◌, ◌*◌, ◌/◌, ◌%◌, ◌<◌}
+use Prim.Native.Nat.{ℕ, suc, ◌+◌, ◌*◌, ◌/◌, ◌%◌, ◌<◌}
 use native.Mathlib.Nat.{zero-add}
 use native.Mathlib.Omega.{arith}
 use lib.Dec.{eqb}
@@ -15,7 +15,7 @@ use Rattle.laws.specs.LentRange.{seg}
 use Rattle.laws.specs.Bounded.{tabulate}
 use Rattle.laws.proofs.Cases.{Which, which}
 use Rattle.laws.proofs.Cases.Which.{holds, fails}
-use Rattle.laws.proofs.BoundedLaws.{length-tabulate, get_d_tabulate}
+use Rattle.laws.proofs.BoundedLaws.{length-tabulate, get_or-tabulate}
 use Rattle.laws.proofs.ListLaws.{get_or-map-in}
 use Rattle.sets.specs.Set.{Set}
 use Rattle.reader.specs.Store.{list_at, axis_count, region_count, is_subtable_ok, item_count, word_at, regions_at, find, read_store, value_of}
@@ -87,7 +87,7 @@ module _ (s : List ℕ) (p : Parsed) (parsed : parse s ≡ some p) where
   slot_is : (o : ℕ) → o < length p.tables → slot_at s (offset_at s o) ≡ get_or p.tables o none
   slot_is o h =
       ap (λ (i : ℕ). slot_at s (offset_at s i)) (sym (zero-add o))
-      ∙ sym (get_d_tabulate 0 (table_count s) (λ i. slot_at s (offset_at s i)) none o (omega (arith, tables-many)))
+      ∙ sym (get_or-tabulate 0 (table_count s) (λ i. slot_at s (offset_at s i)) none o (omega (arith, tables-many)))
       ∙ ap (λ (l : List (Option Table)). get_or l o none) tables-are
 
   row-of : (o i : ℕ) → o < length p.tables → i < row_count (get_or p.tables o none) → Row s o i
@@ -143,7 +143,7 @@ module _ (s : List ℕ) (o i : ℕ) (r : Row s o i) where
   slot-here : get_or (tabulate 0 (table_count s) (λ k. slot_at s (offset_at s k))) o none ≡ some (table_at s (offset_at s o))
   unfolding slot_at
   slot-here =
-      get_d_tabulate 0 (table_count s) (λ k. slot_at s (offset_at s k)) none o r.outer-there
+      get_or-tabulate 0 (table_count s) (λ k. slot_at s (offset_at s k)) none o r.outer-there
       ∙ ap (λ (k : ℕ). slot_at s (offset_at s k)) (zero-add o)
       ∙ rw (ne_eqb at 0 r.not_null) refl
 

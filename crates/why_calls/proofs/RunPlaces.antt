@@ -1,9 +1,9 @@
 -- Where an id's row stands: the run of its final group, counted over the groups, is the outer number of its map word (RULES F3, F4). Assumes nothing.
 use mathlib.Core.Path.{◌≡◌, sym, ap, subst, ◌∙◌}
 use mathlib.Core.List.Memᴰ
-use mathlib.Core.List.{List, [], ◌∷◌, ◌++◌, map, Memᴰ}
+use mathlib.Core.List.{List, [], ◌∷◌, ◌++◌, Memᴰ}
 use mathlib.Core.Logic.{⊎_elim}
-use Prim.Native.Nat.{ℕ, zero, suc, ◌+◌, ◌-◌, ◌*◌, ◌/◌, ◌%◌, ◌<◌}
+use Prim.Native.Nat.{ℕ, zero, suc, ◌+◌, ◌*◌, ◌/◌, ◌%◌, ◌<◌}
 use native.Mathlib.Omega.{arith}
 use lib.ListN.{length, get_or, take, drop, length-take, length-drop, length-append, get_or-append}
 use lib.Seq.{get_or-take, get_or-drop, get_or-append-add}
@@ -14,7 +14,7 @@ use Rattle.laws.specs.Joining.{join_all}
 use Rattle.laws.proofs.Cases.{Which, which, Tri, tri}
 use Rattle.laws.proofs.Cases.Which.{holds, fails}
 use Rattle.laws.proofs.Cases.Tri.{below, same, above}
-use Rattle.laws.proofs.BoundedLaws.{length-tabulate, get_d_tabulate}
+use Rattle.laws.proofs.BoundedLaws.{length-tabulate, get_or-tabulate}
 use Rattle.shapes.specs.Group.{max_items}
 use Rattle.rows.specs.Subtable.{run_count_for}
 use Rattle.rows.proofs.RunLaws.{run-some}
@@ -95,7 +95,7 @@ unfolding runs_of
 run-ids g k h =
     let cut : ℕ → Final = λ i. record { shape = g.shape; ids = take max_items (drop (max_items * i) g.ids) } in
     let e : 0 + k ≡ k = omega arith in
-    ap (λ (f : Final). f.ids) (get_d_tabulate 0 (run_count_for (length g.ids)) cut empty k (omega (arith, runs-long g)))
+    ap (λ (f : Final). f.ids) (get_or-tabulate 0 (run_count_for (length g.ids)) cut empty k (omega (arith, runs-long g)))
     ∙ ap (λ (i : ℕ). take max_items (drop (max_items * i) g.ids)) e
 
 run-there : (g : Final) (p : ℕ) → p < length g.ids → p / max_items < length (runs_of g)

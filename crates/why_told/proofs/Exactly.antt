@@ -1,8 +1,7 @@
 -- Exactly one reason is given, and it is the true one (RULES Z2 to Z4). Assumes nothing.
-use mathlib.Core.Path.{◌≡◌, refl, sym, ap, subst, ◌∙◌}
-use mathlib.Core.List.{List, [], ◌∷◌}
+use mathlib.Core.Path.{◌≡◌, refl}
+use mathlib.Core.List.{List}
 use Prim.Native.Nat.{ℕ}
-use native.Mathlib.Omega.{arith}
 use lib.Dec.{eqb}
 use borrow.Author.Tests.{eq-eqb, ne_eqb, eqb-true, eqb-false}
 use Rattle.laws.specs.Pick.{pick}
@@ -12,7 +11,7 @@ use Rattle.shapes.specs.Group.{group_cost, joined}
 use Rattle.store.specs.Placing.{Final}
 use Rattle.reasons.specs.declared.reason.Reason.{Reason}
 use Rattle.reasons.specs.declared.reason.Reason.TheVariants.{None, Same, CutApart, NeverJoined}
-use Rattle.reasons.specs.Why.{home_in, final_no, run_in, counted, reason_in_group, apart_of, why_of}
+use Rattle.reasons.specs.Why.{home_in, run_in, counted, reason_in_group, apart_of, why_of}
 use Rattle.why_told.specs.WhyTold.{home_of, InOneRun, InTwoRuns, InTwoGroups}
 
 -- what a reason says

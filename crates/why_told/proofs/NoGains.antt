@@ -1,14 +1,14 @@
 -- No two final groups gain by joining (D3), so the gain that is told is 0 or less (RULES Z4). Assumes nothing.
-use mathlib.Core.Path.{◌≡◌, refl, sym, ap, ap₂, subst, ◌∙◌}
-use mathlib.Core.List.{List, [], ◌∷◌, map}
-use Prim.Native.Nat.{ℕ, ◌+◌, ◌-◌, ◌≤◌, ◌<◌}
+use mathlib.Core.Path.{◌≡◌, refl, ap, ap₂, ◌∙◌}
+use mathlib.Core.List.{List, [], map}
+use Prim.Native.Nat.{ℕ, ◌+◌, ◌≤◌, ◌<◌}
 use native.Mathlib.Omega.{arith}
 use lib.ListN.{length, get_or, length-map}
 use Rattle.laws.specs.Every.{All, EachTwo}
 use Rattle.laws.specs.Sorting.{sorted}
 use Rattle.laws.proofs.Cases.{Tri, tri}
 use Rattle.laws.proofs.Cases.Tri.{below, same, above}
-use Rattle.laws.proofs.EveryLaws.{all_get_d, two-get_or}
+use Rattle.laws.proofs.EveryLaws.{all-get_or, two-get_or}
 use Rattle.laws.proofs.ListLaws.{get_or-map-in}
 use Rattle.laws.proofs.SortLaws.{sorted_all}
 use Rattle.shapes.specs.Group.{Group, group_cost, joined, gain}
@@ -21,10 +21,9 @@ use Rattle.rule.proofs.Theorems.{all-gains-zero}
 use Rattle.store.specs.Placing.{Final}
 use Rattle.encoder.specs.Packed.{is_ahead, final_of, finals_of, shared}
 use Rattle.encoder.proofs.LivingLaws.{sorted-each}
-use Rattle.sizes.specs.Sizes.{Sizes}
 use Rattle.sizes.proofs.Counted.{sizes}
 use Rattle.reasons.specs.Why.{home_in, final_no, counted}
-use Rattle.why_told.specs.WhyTold.{home_of, InTwoGroups, NoGain}
+use Rattle.why_told.specs.WhyTold.{InTwoGroups, NoGain}
 
 none-gained : (g h : Group) → gain g h ≡ 0 → group_cost g + group_cost h ≤ group_cost (joined g h)
 unfolding gain
@@ -71,7 +70,7 @@ module _ (regions : ℕ) (jobs : List Set) where
       let none : Final = record { shape = []; ids = [] } in
       ap (λ (l : List Final). counted (get_or l i none)) finals-line
       ∙ ap counted (get_or-map-in final line i no_one none b)
-      ∙ (λ k. record { shape = final-shape g k; sets = all_get_d (λ (x : Living). length (final x).ids ≡ x.group.sets) line i no_one line-count b k })
+      ∙ (λ k. record { shape = final-shape g k; sets = all-get_or (λ (x : Living). length (final x).ids ≡ x.group.sets) line i no_one line-count b k })
 
   gains-none : (i j : ℕ) → i < length (shared regions jobs).finals → j < length (shared regions jobs).finals → (i ≡ j → ⊥)
       → gain (get_or (sorted is_ahead (merged (groups_of regions jobs)).living) i no_one).group (get_or (sorted is_ahead (merged (groups_of regions jobs)).living) j no_one).group ≡ 0

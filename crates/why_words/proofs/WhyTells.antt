@@ -1,9 +1,8 @@
 -- Why two ids are where they are, taken apart into numbers. Assumes nothing.
-use mathlib.Core.Path.{◌≡◌, refl, subst, ap, sym, ◌∙◌}
+use mathlib.Core.Path.{◌≡◌, refl, subst, ap, ◌∙◌}
 use mathlib.Core.List.{List, [], ◌∷◌}
 use Prim.Native.Nat.{ℕ, ◌+◌, ◌-◌, ◌≤◌, ◌<◌}
 use native.Mathlib.Omega.{arith}
-use lib.Dec.{eqb}
 use lib.ListN.{length}
 use borrow.Author.Tests.{eq-eqb, ne_eqb, lt-ltb, le-ltb}
 use Rattle.said.specs.Records.{record_at, record_start}

@@ -1,5 +1,5 @@
 -- Why two ids are where they are, as the numbers that a host gets.
-use Rattle.std.specs.Prelude.{◌&&◌, List, [], ◌∷◌, ◌≡◌, ℕ, ◌+◌, ◌-◌, ◌^◌, ◌≤◌, ◌<◌, ltb, length}
+use Rattle.std.specs.Prelude.{◌&&◌, List, [], ◌∷◌, ◌≡◌, ℕ, ◌+◌, ◌-◌, ◌≤◌, ◌<◌, ltb, length}
 use Rattle.laws.specs.Pick.{pick}
 use Rattle.said.specs.Records.{record_at, record_start}
 use Rattle.said.specs.Refusals.{not_zero, byte_of}

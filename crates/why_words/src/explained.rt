@@ -8,7 +8,7 @@ use reasons::Reason;
 
 // A refusal with its number and its place; or one subtable; one group, cut; or two groups that were never joined, with what each costs and what
 // they would cost as one.
-#[derive(Drop)]
+#[derive(Clone, Copy)]
 pub enum Why {
     Refused(usize, usize),
     Same,

@@ -1,4 +1,6 @@
 // The answers to "why is this row here?" told in a report: why two ids are where they are, and the part that shows one.
+#![tactic(auto)]
+
 mod explained;
 mod shown;
 mod told;

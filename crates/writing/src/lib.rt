@@ -1,4 +1,6 @@
 // Writes an item variation store (`write_store`) and the map from ids to rows (`write_map`).
+#![tactic(auto)]
+
 mod groups;
 mod ids;
 mod list;

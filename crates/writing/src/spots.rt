@@ -9,7 +9,7 @@ use rows::{put, run_count, run_items};
 use store::{Finals, offset, table_size};
 
 // Where the offsets end, and where the next subtable begins.
-#[derive(Drop)]
+#[derive(Clone, Copy)]
 pub struct Spot {
     pub at: usize,
     pub next: usize,

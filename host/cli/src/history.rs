@@ -173,7 +173,7 @@ mod tests {
     /// group's; and what merges save is what the numbers say.
     #[test]
     fn groups_lead_to_the_subtables() {
-        for seed in 0..if ivs::EMULATED { 8 } else { 100 } {
+        for seed in 0..100 {
             let job = jobs::random::job(seed);
             let (axes, bytes) = (job.axes as u32, job.to_bytes());
             let packed = ivs::pack(axes, 0, &bytes).unwrap();

@@ -349,7 +349,7 @@ mod tests {
         assert_eq!(plain.job.len(), 4 * 12);
     }
 
-    /// Few, since each is looked at by the library, which may be emulated.
+    /// Each is looked at by the library.
     #[test]
     fn the_text_of_a_job_is_that_job() {
         for seed in 0..32 {

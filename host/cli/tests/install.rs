@@ -1,5 +1,5 @@
 //! `make install` and `make dist`: what they write is whole, may be moved, and C and Rust link
-//! it without `rt`. Where the library is emulated there is nothing to link.
+//! it without `rt`.
 
 mod common;
 
@@ -42,9 +42,6 @@ fn install(prefix: &Path, program: &str) {
 
 #[test]
 fn what_is_installed_is_whole_and_links() {
-    if ivs::EMULATED {
-        return;
-    }
     let folder = folder("install");
     let (first, prefix) = (folder.join("first"), folder.join("moved here"));
     install(&first, env!("CARGO_BIN_EXE_fenikezo"));
@@ -69,9 +66,6 @@ fn what_is_installed_is_whole_and_links() {
 /// A prefix with a space would be two words of the compiler's line, so this one has none.
 #[test]
 fn examples_against_the_installed_files() {
-    if ivs::EMULATED {
-        return;
-    }
     let prefix = folder("install_c");
     install(&prefix, env!("CARGO_BIN_EXE_fenikezo"));
     let value = said(&mut Command::new(linked(&prefix, "value.c")));
@@ -87,7 +81,7 @@ fn examples_against_the_installed_files() {
 fn without_the_prover() {
     let folder = folder("dist");
     // A library that was made before comes without the kit that can be named.
-    if ivs::EMULATED || Command::new("rt").arg("version").output().is_err() {
+    if Command::new("rt").arg("version").output().is_err() {
         return;
     }
     let mut dist = Command::new(root().join("tools/dist"));
@@ -106,11 +100,7 @@ fn without_the_prover() {
     let kit = said(Command::new("rt").arg("version"));
     assert!(page.contains(&format!("| kit (`rt version`) | {} |\n", kit.trim_end())));
     assert!(page.contains("\n    ivs: ") && page.contains("| commit | "));
-    let compiled = match machine {
-        "x86_64" => "by Rattle, for x86-64",
-        _ => "by Rattle's compiler, for Arm (aarch64), of the module that Rattle wrote for x86-64",
-    };
-    assert!(page.contains(&format!("| lib/libivs.a is compiled | {compiled} |\n")));
+    assert!(page.contains("| lib/libivs.a is compiled | by Rattle, for x86-64 |\n"));
     let proved = fs::read_to_string(root().join("docs/PROVED.md")).unwrap();
     assert!(proved
         .lines()
@@ -142,19 +132,4 @@ fn example(folder: &Path, library: &Path) -> Command {
         .env("IVS_LIB", library)
         .env("CARGO_TARGET_DIR", folder.join("target"));
     command
-}
-
-/// Rattle's own archive, where it is for another machine than this: it runs under the kit's
-/// emulator.
-#[test]
-fn emulated_where_there_is_no_other() {
-    let archive = root().join("target/staticlib/libivs.a");
-    if cfg!(target_arch = "x86_64") || !archive.is_file() {
-        return;
-    }
-    let folder = folder("emulated");
-    let mut install = Command::new(root().join("tools/install"));
-    said(install.arg(folder.join("lib")).arg(archive));
-    let value = said(&mut example(&folder, &folder.join("lib")));
-    assert_eq!(value, "set 1, light: -300\n");
 }

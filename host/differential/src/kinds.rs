@@ -54,40 +54,39 @@ pub fn axes_and_modes() -> Run {
     Run::over(Share { noisy: 7, ..ALL }, cases::axes_and_modes)
 }
 
-/// All small jobs; those of up to two sets (emulated: one) go through the library without
-/// exception.
+/// All small jobs; those of up to two sets go through the library without exception.
 pub fn small() -> Run {
     let share = Share {
-        short: |job| ends(job) <= 2 - usize::from(ivs::EMULATED),
-        ..some(401, 2_001)
+        short: |job| ends(job) <= 2,
+        ..some(401)
     };
     Run::over(share, cases::small)
 }
 
-/// All short sequences of records; those of up to three (emulated: two) without exception.
+/// All short sequences of records; those of up to three without exception.
 pub fn records() -> Run {
     let share = Share {
-        short: |job| job.len() <= 12 * (3 - usize::from(ivs::EMULATED)),
-        ..some(1_201, 6_001)
+        short: |job| job.len() <= 12 * 3,
+        ..some(1_201)
     };
     Run::over(share, cases::records)
 }
 
 /// Records of every form.
 pub fn forms() -> Run {
-    Run::over(some(7, 601), cases::forms)
+    Run::over(some(7), cases::forms)
 }
 
 /// Every damage to one job.
 pub fn each_damage() -> Run {
-    Run::over(some(5, 501), cases::each_damage)
+    Run::over(some(5), cases::each_damage)
 }
 
 /// The random jobs of some seeds.
 pub fn random(seeds: &Range<u64>) -> Run {
     let share = Share {
         around: AROUND,
-        ..some(1, 31)
+        ..some(1)
     };
     Run::over(share, |visit| cases::random(seeds.clone(), visit))
 }
@@ -96,7 +95,7 @@ pub fn random(seeds: &Range<u64>) -> Run {
 pub fn damaged(seeds: &Range<u64>) -> Run {
     let share = Share {
         around: AROUND,
-        ..some(3, 31)
+        ..some(3)
     };
     Run::over(share, |visit| cases::damaged(seeds.clone(), visit))
 }
@@ -106,7 +105,7 @@ pub fn large(seeds: &Range<u64>) -> Run {
     let few = seeds.start..seeds.start + (seeds.end - seeds.start) / 400;
     let share = Share {
         forecast: 1,
-        ..some(1, 11)
+        ..some(1)
     };
     Run::over(share, |visit| cases::large(few, visit))
 }
@@ -116,7 +115,7 @@ pub fn wide(seeds: &Range<u64>) -> Run {
     let few = seeds.start..seeds.start + (seeds.end - seeds.start) / 400;
     let share = Share {
         forecast: 1,
-        ..some(1, 11)
+        ..some(1)
     };
     Run::over(share, |visit| cases::wide(few, visit))
 }
@@ -132,10 +131,10 @@ pub fn sizes(seeds: &Range<u64>) -> Run {
 }
 
 /// Where sets part: in the examples, at the limits, and in one random job in five, as it is
-/// and damaged (emulated: in fifty).
+/// and damaged.
 pub fn parts(seeds: &Range<u64>) -> Run {
     let mut parts = Parts::default();
-    let few = (seeds.end - seeds.start) / if ivs::EMULATED { 50 } else { 5 };
+    let few = (seeds.end - seeds.start) / 5;
     let mut visit = |case: &Case<'_>| parts.case(case);
     cases::examples(&mut visit);
     cases::axes_and_modes(&mut visit);
@@ -158,7 +157,6 @@ pub fn stores(seeds: &Range<u64>) -> Run {
 /// All jobs, with memory around each size, and noise in all of it in every call.
 const ALL: Share = Share {
     linked: 1,
-    emulated: 1,
     short: |_| true,
     around: 1,
     forecast: 1,
@@ -171,10 +169,9 @@ fn ends(job: &[u8]) -> usize {
 }
 
 /// Some of the jobs, with memory just over each size, and of one in three the forecast.
-fn some(linked: usize, emulated: usize) -> Share {
+fn some(linked: usize) -> Share {
     Share {
         linked,
-        emulated,
         short: |_| false,
         around: 0,
         forecast: 3,

@@ -22,12 +22,7 @@ fn main() -> ExitCode {
     if !oracle::PRESENT {
         println!("built without the source: recorded answers and laws only");
     }
-    let fewer = if ivs::EMULATED {
-        ", and fewer since it is emulated"
-    } else {
-        ""
-    };
-    println!("the proved library is asked some of the jobs{fewer}");
+    println!("the proved library is asked some of the jobs");
     println!("{:30} {:^17} {:^28}", "", "plain reading", "proved library");
     println!(
         "{:30} {:>9} {:>7} {:>9} {:>7} {:>11} {:>8}",

@@ -11,7 +11,7 @@ use plain::{number, Done, Parted, Refused, Sizes};
 type Said = Result<Parted, Refused>;
 
 /// So many pairs of sets of a job; the first is lent a word too few.
-const PAIRS: usize = if ivs::EMULATED { 2 } else { 6 };
+const PAIRS: usize = 6;
 
 /// The comparison, and the memory that it lends from call to call.
 #[derive(Default)]

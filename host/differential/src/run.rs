@@ -25,8 +25,6 @@ pub struct Share {
     /// One in so many (odd, so that both modes come up): a build clears 12 MiB of pair
     /// records, whatever its job is.
     pub linked: usize,
-    /// One in so many where the library is emulated (odd, too).
-    pub emulated: usize,
     /// And every job that is short by this.
     pub short: fn(&[u8]) -> bool,
     /// One in so many of all jobs with memory around each size, where it is taken at all,
@@ -36,17 +34,6 @@ pub struct Share {
     pub forecast: usize,
     /// The pair records hold noise in one call of so many, and are looked at in full.
     pub noisy: usize,
-}
-
-impl Share {
-    /// One in so many goes through the proved build here.
-    fn taken(self) -> usize {
-        if ivs::EMULATED {
-            self.emulated
-        } else {
-            self.linked
-        }
-    }
 }
 
 impl Run {
@@ -68,7 +55,7 @@ impl Run {
         self.plain.count(check::case(case, &known));
         let number = self.cases;
         self.cases += 1;
-        if number % share.taken() != 0 && !(share.short)(case.job) {
+        if number % share.linked != 0 && !(share.short)(case.job) {
             return;
         }
         // Cases come in pairs, one of each mode.

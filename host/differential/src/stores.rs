@@ -39,12 +39,9 @@ pub fn damaged(seeds: impl Iterator<Item = u64>, readings: usize) -> Run {
             } else {
                 Err(told(format!("{short:?}, longer {long:?}")))
             });
-            // Some of them where the library is emulated, which is slow.
-            if !ivs::EMULATED || reading % 16 == 0 {
-                let proved = proved::read(&store, outer, inner, region);
-                run.proved
-                    .count(same("proved and plain", &proved, &short).map_err(told));
-            }
+            let proved = proved::read(&store, outer, inner, region);
+            run.proved
+                .count(same("proved and plain", &proved, &short).map_err(told));
         }
     }
     run

@@ -57,7 +57,7 @@ fn the_source_is_asked() {
 
 #[test]
 fn random_maps() {
-    let rounds = if ivs::EMULATED { 3_000 } else { 20_000 };
+    let rounds = 20_000;
     let rng = &mut Rng::new(103);
     for _ in 0..rounds {
         let n = rng.below(40);
@@ -69,7 +69,7 @@ fn random_maps() {
 
 #[test]
 fn damaged_maps() {
-    let rounds = if ivs::EMULATED { 10_000 } else { 100_000 };
+    let rounds = 100_000;
     let rng = &mut Rng::new(42);
     let (mut read, mut refused) = (0, 0);
     for _ in 0..rounds {
@@ -104,7 +104,7 @@ fn maps_at_the_limits() {
         assert_eq!(map.is_some(), n <= MOST);
         if let Some(map) = map {
             assert_eq!(map[0], u8::from(n > 65_535));
-            comes_back(rng, &words, &map, if ivs::EMULATED { 3 } else { 100 });
+            comes_back(rng, &words, &map, 100);
         }
         assert!(compared(&level(n)).map_or(true, |map| map[0] == 0));
     }

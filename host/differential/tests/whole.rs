@@ -7,15 +7,6 @@ use jobs::{damage, random, Job, Rng};
 use plain::stores::Verdict;
 use plain::{number, Reading, Sizes};
 
-/// So many seeds; a part of them where the library is emulated.
-fn seeds(count: u64) -> u64 {
-    if ivs::EMULATED {
-        count / 20
-    } else {
-        count
-    }
-}
-
 /// The value that a row gives a region of the list.
 fn value(store: &[u8], row: u32, region: usize) -> i32 {
     match plain::read(store, row >> 16, row & 0xFFFF, region as u32) {
@@ -56,7 +47,7 @@ fn words(store: &Store) -> Vec<u32> {
 #[test]
 fn recovered_and_built_again() {
     let (lent, mut rows, mut refused) = (&mut Whole::default(), 0, 0);
-    for seed in 0..seeds(4_000) {
+    for seed in 0..4_000 {
         let store = stores::random(seed);
         let bytes = &store.bytes;
         let work = ivs::recover_words(bytes.len());
@@ -95,7 +86,7 @@ fn recovered_and_built_again() {
 #[test]
 fn judged() {
     let (lent, mut yes, mut no) = (&mut Whole::default(), 0, 0);
-    for seed in 0..seeds(3_000) {
+    for seed in 0..3_000 {
         let rng = &mut Rng::new(seed);
         let store = stores::random(seed);
         let recovered = lent.recover(&store.bytes, 1 << 16, 1 << 16).unwrap();
@@ -138,7 +129,7 @@ fn judged() {
 #[test]
 fn our_own_are_right() {
     let (lent, mut changed) = (&mut Whole::default(), 0);
-    for seed in 0..seeds(1_000) {
+    for seed in 0..1_000 {
         let (job, rng) = (random::job(seed), &mut Rng::new(seed));
         let (axes, bytes) = (job.axes as u32, job.to_bytes());
         for mode in [0, 1] {
@@ -191,7 +182,7 @@ fn all_columns(job: &Job, rows: &[Vec<u8>]) -> Vec<u8> {
 /// (by the width of the rows this would be 13,000,000,000 cells).
 #[test]
 fn wide_rows_of_many_sets() {
-    let sets = seeds(400_000) as usize;
+    let sets = 400_000;
     let job = Job {
         sets: vec![vec![(7, -5)]; sets],
         ..Job::one_axis(jobs::REGIONS)
@@ -216,7 +207,7 @@ fn wide_rows_of_many_sets() {
 #[test]
 fn kept() {
     let (lent, mut rows, mut none) = (&mut Whole::default(), 0, 0);
-    for seed in 0..seeds(3_000) {
+    for seed in 0..3_000 {
         let rng = &mut Rng::new(!seed);
         let store = stores::random(seed);
         let (bytes, all) = (&store.bytes, words(&store));

@@ -53,7 +53,7 @@ fn bytes(job: &Job) -> (u32, Vec<u8>, ivs::Packed) {
 fn random_jobs() {
     let rng = &mut Rng::new(110);
     let (mut same, mut apart) = (0, 0);
-    for seed in 0..if ivs::EMULATED { 28 } else { 84 } {
+    for seed in 0..84 {
         let (axes, job, packed) = bytes(&random::job(seed));
         let ids = packed.map.len();
         for _ in 0..if ids == 0 { 0 } else { 4 } {

@@ -51,7 +51,7 @@ fn built(seed: u64, mode: u32) -> Option<(Vec<u8>, Vec<u32>, u32)> {
 /// Every glyph of the table reads as its word's row of the store, past the end as the last.
 #[test]
 fn tables_of_built_stores() {
-    let seeds = if ivs::EMULATED { 60 } else { 600 };
+    let seeds = 600;
     let (mut tables, mut values) = (0, 0);
     for seed in 0..seeds {
         for mode in [0, 1] {
@@ -86,7 +86,7 @@ fn tables_of_built_stores() {
 
 #[test]
 fn any_words_and_any_bytes_for_a_store() {
-    let rounds = if ivs::EMULATED { 500 } else { 10_000 };
+    let rounds = 10_000;
     let rng = &mut Rng::new(43);
     for _ in 0..rounds {
         let (long, glyphs) = (rng.below(30), rng.below(20));
@@ -102,7 +102,7 @@ fn any_words_and_any_bytes_for_a_store() {
 
 #[test]
 fn damaged_tables() {
-    let rounds = if ivs::EMULATED { 3_000 } else { 60_000 };
+    let rounds = 60_000;
     let rng = &mut Rng::new(20);
     let mut seen = std::collections::BTreeMap::new();
     for round in 0..rounds {

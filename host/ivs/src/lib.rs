@@ -57,7 +57,6 @@ mod keeping;
 mod kept;
 pub mod limits;
 mod part;
-#[cfg_attr(not(ivs_linked), path = "emulated.rs")]
 mod raw;
 mod reading;
 mod recovering;
@@ -91,10 +90,6 @@ pub use why::{show, show_report, show_with, why, why_report, why_with, Shows, Wh
 pub use widths::{read_width, set_words, write_widths, write_widths_into};
 pub use writer::{JobError, JobWriter, Tent};
 
-/// The library runs under an emulator, since there is none for this machine: slow, so that
-/// tests take fewer jobs.
-pub const EMULATED: bool = cfg!(not(ivs_linked));
-
-/// The archive that is linked, or emulated: for tests.
+/// The archive that is linked: for tests.
 #[doc(hidden)]
 pub const ARCHIVE: &str = env!("IVS_ARCHIVE");

@@ -1,6 +1,5 @@
 //! The library from C: examples/pack.c, compiled against include/ivs.h and linked with the
-//! archive, as README says. Where the archive is emulated there is nothing to link.
-#![cfg(ivs_linked)]
+//! archive, as README says.
 
 use std::fs;
 use std::path::{Path, PathBuf};

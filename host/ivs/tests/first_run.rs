@@ -6,16 +6,27 @@ use std::os::unix::fs::PermissionsExt;
 use std::path::{Path, PathBuf};
 use std::process::Command;
 
-/// A repository of three crates, and another that the library does not know.
+/// A repository of four crates, and another that the library does not know.
 fn repository(name: &str) -> PathBuf {
     let folder = Path::new(env!("CARGO_TARGET_TMPDIR")).join(name);
     let _ = fs::remove_dir_all(&folder);
     fs::create_dir_all(folder.join("tools")).unwrap();
     let script = Path::new(env!("CARGO_MANIFEST_DIR")).join("../../tools/staticlib");
     fs::copy(script, folder.join("tools/staticlib")).unwrap();
-    let crates = "# Ground\nlaws:\nlimits: laws # the numbers\nbeside: laws\n\nivs: limits\n";
+    let crates = "# Ground\nlaws:\nlimits: laws # the numbers\nbeside: laws\n\nivs: limits\n\
+                  ivs_c staticlib: ivs\n";
     fs::write(folder.join("crates.txt"), crates).unwrap();
+    for name in ["laws", "limits", "beside", "ivs", "ivs_c"] {
+        write(&folder, name, "one");
+    }
     folder
+}
+
+/// A crate's source becomes this text.
+fn write(folder: &Path, name: &str, text: &str) {
+    let source = folder.join("crates").join(name).join("src");
+    fs::create_dir_all(&source).unwrap();
+    fs::write(source.join("lib.rt"), text).unwrap();
 }
 
 /// Whether it was done, and what was said, where `rt` is this script.
@@ -34,22 +45,26 @@ fn run(folder: &Path, rt: &str) -> (bool, String) {
 }
 
 const FIRST: &str = r#"
-mkdir -p target/stamp target/staticlib
 case $1 in
-check)
-    echo "rt: laws proved (3 s)"
-    echo "logic=proved functions=13"
-    echo "rt: limits proved (unchanged since it was last proved)"
-    echo "rt: ivs proved (12 s)"
-    echo one >target/stamp/ivs ;;
-staticlib) echo first >target/staticlib/libivs.a ;;
+version) echo a kit ;;
+lib)
+    mkdir -p out
+    for crate in laws limits ivs ivs_c; do
+        echo "rt: chose --jobs 2 for $crate"
+        echo "crate $crate: modules loaded=0 checked=40"
+        echo "logic=proved functions=13"
+    done
+    echo first >out/libivs_c.a ;;
 esac
 "#;
 
 const SECOND: &str = r#"
 case $1 in
-check) for crate in laws limits ivs; do echo "rt: $crate proved (unchanged since it was last proved)"; done ;;
-staticlib) echo second >target/staticlib/libivs.a ;;
+version) echo a kit ;;
+lib)
+    echo "rt: chose --jobs 2 for ivs_c"
+    echo "logic=proved functions=13"
+    echo second >out/libivs_c.a ;;
 esac
 "#;
 
@@ -63,25 +78,32 @@ fn what_is_said() {
 
 fn a_line_for_each_crate_and_then_none() {
     let folder = repository("first_run");
-    let said = "The library is proved before it is linked: once, 3 crates, some 15 minutes on \
-                two processors. The next run takes seconds.\n  1 of 3: laws proved (3 s)\n  \
-                3 of 3: ivs proved (12 s)\n";
+    let said = "The library is proved before it is linked: once, 4 crates, some half an hour on \
+                four processors. The next run takes seconds.\n  1 of 4: laws proved\n  \
+                2 of 4: limits proved\n  3 of 4: ivs proved\n  4 of 4: ivs_c proved\n";
     assert_eq!(run(&folder, FIRST), (true, said.to_string()));
-    assert_eq!(run(&folder, SECOND), (true, String::new()));
-    // The archive is of the same proofs, so it was not made again.
     let archive = folder.join("target/staticlib/libivs.a");
-    assert_eq!(fs::read_to_string(&archive).unwrap(), "first\n");
-    fs::write(folder.join("target/stamp/ivs"), "two\n").unwrap();
+    let made = || fs::read_to_string(&archive).unwrap();
+    // Nothing has changed, or nothing that the library knows: the archive is not made again.
     assert_eq!(run(&folder, SECOND), (true, String::new()));
-    assert_eq!(fs::read_to_string(&archive).unwrap(), "second\n");
+    write(&folder, "beside", "two");
+    assert_eq!(run(&folder, SECOND), (true, String::new()));
+    assert_eq!(made(), "first\n");
+    write(&folder, "limits", "two");
+    let said = "  1 of 4: ivs_c proved\n";
+    assert_eq!(run(&folder, SECOND), (true, said.to_string()));
+    assert_eq!(made(), "second\n");
 }
 
 fn what_is_not_proved() {
     let folder = repository("first_run_fails");
-    let rt = "echo 'rt: laws proved (3 s)'\necho 'rt: ivs NOT PROVED (exit 1, 2 s)'\nexit 1\n";
+    let rt = "case $1 in\nversion) exit ;;\nesac\necho 'rt: chose --jobs 2 for laws'\n\
+              echo 'logic=proved functions=13'\necho 'rt: chose --jobs 2 for limits'\n\
+              echo 'logic=not-proved functions=2'\nexit 1\n";
     let (done, said) = run(&folder, rt);
     assert!(!done);
-    let end = "  1 of 3: laws proved (3 s)\nrt: ivs NOT PROVED (exit 1, 2 s)\n\
-               staticlib: 'rt check ivs' failed; run it to see more\n";
+    let end = "  1 of 4: laws proved\nrt: chose --jobs 2 for laws\nlogic=proved functions=13\n\
+               rt: chose --jobs 2 for limits\nlogic=not-proved functions=2\n\
+               staticlib: 'rt lib' failed in crates/ivs_c; run it there to see more\n";
     assert!(said.ends_with(end), "{said}");
 }

@@ -1,6 +1,5 @@
 //! include/ivs.h beside what Rust says: the version, the refusals' numbers and names, and
 //! that the library has no memory of its own, on which calls from many threads rest.
-#![cfg(ivs_linked)]
 
 use std::fmt::Write;
 use std::fs;

@@ -1,37 +1,77 @@
-//! The library in two ways: linked, and by src/emulated.rs and src/served.c. On x86-64 both are
-//! Rattle's own archive, and the program needs no emulator. On Arm the linked one was compiled
-//! for that of Rattle's module (tools/native), and the other, which is Rattle's own under the
-//! kit's emulator, judges it. Every call goes both ways with the same memory, which held noise,
-//! and must answer the same and leave the same in every byte that is lent.
-#![cfg(ivs_linked)]
+//! The library in two ways: linked, and by served/emulated.rs and served/served.c. Where an
+//! archive for Arm was made of the same proofs (tools/staticlib), with Rattle's kit to link it
+//! and Debian's emulator to run it, that one answers beside the linked one; else the linked one
+//! answers twice. Every call goes both ways with the same memory, which held noise, and must
+//! answer the same and leave the same in every byte that is lent.
 
-#[path = "../src/emulated.rs"]
+#[path = "served/emulated.rs"]
 mod emulated;
 
 use ivs::{Lent, Pair, Profile};
 use jobs::Rng;
 use std::env;
+use std::fs;
 use std::path::{Path, PathBuf};
 use std::process::Command;
 
-/// The program: as build.rs made it for the emulator, or by its flags for x86-64 itself.
-fn program() -> Option<PathBuf> {
-    if cfg!(not(target_arch = "x86_64")) {
-        return option_env!("IVS_SERVER").map(PathBuf::from);
+/// What runs a program for Arm here: Debian's qemu-user.
+const EMULATOR: &str = "qemu-aarch64";
+
+/// What the archives were made of: both go by the same stamp.
+fn stamp(archive: &str) -> Option<String> {
+    let folder = Path::new(env!("CARGO_MANIFEST_DIR")).join("../../target/staticlib");
+    let stamp = folder.join(archive).with_extension("a.stamp");
+    fs::read_to_string(stamp).ok()
+}
+
+fn source() -> PathBuf {
+    Path::new(env!("CARGO_MANIFEST_DIR")).join("tests/served/served.c")
+}
+
+/// The program for Arm, by the compiler and the linker of Rattle's kit; none where something is
+/// lacking.
+fn on_arm() -> Option<PathBuf> {
+    let root = Path::new(env!("CARGO_MANIFEST_DIR")).join("../..");
+    if env::var_os("IVS_LIB").is_some() || stamp("aarch64/libivs.a")? != stamp("libivs.a")? {
+        return None;
     }
+    Command::new(EMULATOR).arg("--version").output().ok()?;
+    let page = Command::new("rt").arg("doc").output().ok()?.stdout;
+    let page = PathBuf::from(String::from_utf8(page).ok()?.trim());
+    let tools = page.parent()?.join("toolchain/bin");
+    let program = Path::new(env!("CARGO_TARGET_TMPDIR")).join("ivs-served-arm");
+    let object = program.with_extension("o");
+    let compiled = Command::new(tools.join("clang"))
+        .args(["--target=aarch64-unknown-linux-gnu", "-O2", "-Wall"])
+        .args(["-ffreestanding", "-fno-builtin", "-fno-stack-protector"])
+        .args(["-fno-pic", "-c", "-o"])
+        .args([&object, &source()])
+        .status();
+    assert!(compiled.ok()?.success());
+    let linked = Command::new(tools.join("ld.lld"))
+        .args(["-static", "-o"])
+        .args([&program, &object])
+        .arg(root.join("target/staticlib/aarch64/libivs.a"))
+        .status();
+    assert!(linked.ok()?.success());
+    Some(program)
+}
+
+/// The program with the archive that is linked here, too.
+fn here() -> PathBuf {
     let program = Path::new(env!("CARGO_TARGET_TMPDIR")).join("ivs-served");
     let made = Command::new("cc")
         .args(["-O2", "-Wall", "-Werror", "-ffreestanding", "-fno-builtin"])
         .args(["-fno-stack-protector", "-fno-pic", "-no-pie"])
         .args(["-static", "-nostdlib", "-o"])
         .arg(&program)
-        .arg(Path::new(env!("CARGO_MANIFEST_DIR")).join("src/served.c"))
+        .arg(source())
         .arg(ivs::ARCHIVE)
         .output()
         .expect("cc can be run, as Rust links by it");
     let said = String::from_utf8_lossy(&made.stderr);
     assert!(made.status.success(), "{said}");
-    Some(program)
+    program
 }
 
 /// Jobs with their axes: the examples, some at the limits, random ones, and of these some
@@ -154,9 +194,15 @@ impl Memory {
 /// One test, since the program is named by a variable of the whole process.
 #[test]
 fn the_same_both_ways() {
-    let Some(program) = program() else {
-        eprintln!("there is nothing to run Rattle's own archive with: only one way was gone");
-        return;
+    let program = match on_arm() {
+        Some(program) => {
+            env::set_var("IVS_EMULATOR", EMULATOR);
+            program
+        }
+        None => {
+            eprintln!("there is no archive for Arm, or nothing to run it with");
+            here()
+        }
     };
     env::set_var("IVS_SERVER", program);
     let rng = &mut Rng::new(28);

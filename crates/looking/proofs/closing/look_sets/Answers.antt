@@ -1,0 +1,34 @@
+use Rattle.looking.proofs.LookLaws.{look-refused, look-read, look-arrange, look-first, look-second, look-both}
+use Rattle.looking.proofs.SeenLaws.{reason-fit}
+use native.Mathlib.Omega.{arith}
+use borrow.Author.Rules.{rules}
+use Rattle.looking.proofs.closing.look_sets.Goals as goal
+
+pub returns-then-s-ne0 : goal.returns-then-s-ne0
+returns-then-s-ne0 c = λ axes job o mid r j. look-refused axes job o _ mid _ _ r c.if-s-ne0.true
+
+pub arrange-k-requires : goal.arrange-k-requires
+arrange-k-requires c = look-arrange c.requires c.if-s-ne0.false
+
+pub shape_of-work-then-e-first : goal.shape_of-work-then-e-first
+shape_of-work-then-e-first c = search rules
+
+pub returns-then-e-first : goal.returns-then-e-first
+returns-then-e-first c = λ axes job o mid r j. look-first (c.arrange-k.ensures axes 0 job o mid r j) _ _ (omega arith)
+
+pub shape_of-work-then-e-second : goal.shape_of-work-then-e-second
+shape_of-work-then-e-second c = search rules
+
+pub returns-then-e-second : goal.returns-then-e-second
+returns-then-e-second c = λ axes job o mid r j. look-second (c.arrange-k.ensures axes 0 job o mid r j) _ _ (omega arith) (omega arith)
+
+pub reason_of-requires : goal.reason_of-requires
+reason_of-requires c =
+    let f = c.requires in
+    reason-fit (c.arrange-k.ensures f.fits.axes 0 f.job f.fits.outcome f.fits.mid (look-read f) f.fits.joined) (λ i. omega (arith, c.slice_known-2-1.given i)) _ _ (omega arith) (omega arith)
+
+pub shape_of-work : goal.shape_of-work
+shape_of-work c = search rules
+
+pub returns : goal.returns
+returns c = λ axes job o mid r j. look-both (c.arrange-k.ensures axes 0 job o mid r j) _ _ (omega arith) (omega arith) _ c.reason_of.ensures

@@ -1,3 +1,0 @@
-pub mod ToldLaws
--- For the walk: its calls.
-pub mod Calls

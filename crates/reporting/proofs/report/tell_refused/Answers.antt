@@ -1,0 +1,73 @@
+use mathlib.Core.Path.{refl}
+use Rattle.reporting.specs.Answers.{filled, refused_words}
+use borrow.Author.Rules.{rules}
+use Rattle.reporting.proofs.report.tell_refused.Goals as goal
+
+-- src/report.rt:12:5
+pub bounds-report-0 : goal.bounds-report-0
+bounds-report-0 c = search rules
+
+-- src/report.rt:13:5
+pub bounds-report-1 : goal.bounds-report-1
+bounds-report-1 c = search rules
+
+-- src/report.rt:14:5
+pub bounds-report-2 : goal.bounds-report-2
+bounds-report-2 c = search rules
+
+-- src/report.rt:15:5
+pub bounds-report-3 : goal.bounds-report-3
+bounds-report-3 c = search rules
+
+-- src/report.rt:16:5
+pub bounds-report-4 : goal.bounds-report-4
+bounds-report-4 c = search rules
+
+-- src/report.rt:17:5
+pub bounds-report-5 : goal.bounds-report-5
+bounds-report-5 c = search rules
+
+-- src/report.rt:18:5
+pub bounds-report-6 : goal.bounds-report-6
+bounds-report-6 c = search rules
+
+-- src/report.rt:19:5
+pub bounds-report-7 : goal.bounds-report-7
+bounds-report-7 c = search rules
+
+-- src/report.rt:20:5
+pub bounds-report-8 : goal.bounds-report-8
+bounds-report-8 c = search rules
+
+-- src/report.rt:21:5
+pub bounds-report-9 : goal.bounds-report-9
+bounds-report-9 c = search rules
+
+-- src/report.rt:22:5
+pub bounds-report-10 : goal.bounds-report-10
+bounds-report-10 c = search rules
+
+-- src/report.rt:23:5
+pub bounds-report-11 : goal.bounds-report-11
+bounds-report-11 c = search rules
+
+-- src/report.rt:24:5
+pub bounds-report-12 : goal.bounds-report-12
+bounds-report-12 c = search rules
+
+-- src/report.rt:25:5
+pub bounds-report-13 : goal.bounds-report-13
+bounds-report-13 c = search rules
+
+-- src/report.rt:26:5
+pub bounds-report-14 : goal.bounds-report-14
+bounds-report-14 c = search rules
+
+-- src/report.rt:27:5
+pub bounds-report-15 : goal.bounds-report-15
+bounds-report-15 c = search rules
+
+-- src/report.rt:9:1
+pub returns : goal.returns
+unfolding filled refused_words
+returns c = refl

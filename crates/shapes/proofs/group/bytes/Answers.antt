@@ -1,0 +1,19 @@
+use Rattle.laws.proofs.Products.{product}
+use borrow.Author.Rules.{rules}
+use native.Mathlib.Omega.{arith}
+use Rattle.shapes.proofs.group.bytes.Goals as goal
+
+pub overhead-requires : goal.overhead-requires
+overhead-requires c = search rules
+
+pub overflow_cast-result : goal.overflow_cast-result
+overflow_cast-result c = search rules
+
+pub overflow_mul-result : goal.overflow_mul-result
+overflow_mul-result c = omega (arith, product 262144 8589934592 {a = c.args.row} {b = c.args.sets} (omega arith) (omega arith))
+
+pub overflow_add-result : goal.overflow_add-result
+overflow_add-result c = omega (arith, product 262144 8589934592 {a = c.args.row} {b = c.args.sets} (omega arith) (omega arith))
+
+pub returns : goal.returns
+returns c = record { value = omega arith; upper_bound = omega (arith, product 262144 8589934592 {a = c.args.row} {b = c.args.sets} (omega arith) (omega arith)) }
