@@ -8,7 +8,7 @@ ghost use Rattle.std.specs.Prelude.{◌≡◌, unsigned_abs};
 
 use crate::lines::{Place, more, start};
 use reader::Reading;
-use std::io::{self, BufReader, Read};
+use std::io::{self, Read};
 
 // How far a number is from zero.
 fn size(v: i32) -> u64
@@ -60,7 +60,7 @@ fn step<R: Print>(rt: &R, case: &mut [u8; 4096], at: Place, b: u8) -> io::Result
 fn main(rt: HostRuntime) -> io::Result<()> {
     let mut case = [0u8; 4096];
     let mut at = start();
-    for b in BufReader::new(rt.alloc(), rt.reader().take(65536))?.bytes() {
+    for b in rt.reader().take(65536).bytes() {
         let Ok(b) = b else {
             break;
         };

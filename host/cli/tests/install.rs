@@ -18,6 +18,10 @@ fn said(command: &mut Command) -> String {
 
 /// A program compiled against an installed library, by what pkg-config says of it alone.
 fn linked(prefix: &Path, source: &str) -> PathBuf {
+    compiled(&mut Command::new("cc"), prefix, source)
+}
+
+fn compiled(compiler: &mut Command, prefix: &Path, source: &str) -> PathBuf {
     let asked = ["--cflags", "--libs", "ivs"];
     let flags = said(
         Command::new("pkg-config")
@@ -26,7 +30,7 @@ fn linked(prefix: &Path, source: &str) -> PathBuf {
     );
     let program = prefix.join("program");
     said(
-        Command::new("cc")
+        compiler
             .args(["-std=c99", "-Wall", "-Wextra", "-pedantic", "-Werror", "-o"])
             .arg(&program)
             .arg(root().join("examples").join(source))
@@ -84,23 +88,16 @@ fn without_the_prover() {
     if Command::new("rt").arg("version").output().is_err() {
         return;
     }
-    let mut dist = Command::new(root().join("tools/dist"));
-    let tar = said(dist.arg(&folder).arg(ivs::ARCHIVE));
-    said(
-        Command::new("tar")
-            .arg("-xzf")
-            .arg(tar.trim_end())
-            .current_dir(&folder),
-    );
-    let (version, machine) = (env!("CARGO_PKG_VERSION"), std::env::consts::ARCH);
-    let name = format!("ivs-{version}-{machine}-linux");
-    let unpacked = folder.join(name);
-
-    let page = fs::read_to_string(unpacked.join("WHAT-IS-PROVED.md")).unwrap();
+    let machine = std::env::consts::ARCH;
+    let (unpacked, page) = unpacked(&folder, Path::new(ivs::ARCHIVE), machine);
     let kit = said(Command::new("rt").arg("version"));
     assert!(page.contains(&format!("| kit (`rt version`) | {} |\n", kit.trim_end())));
     assert!(page.contains("\n    ivs: ") && page.contains("| commit | "));
-    assert!(page.contains("| lib/libivs.a is compiled | by Rattle, for x86-64 |\n"));
+    let compiled = match machine {
+        "x86_64" => "by Rattle, for x86-64",
+        _ => "by Rattle, for Arm (aarch64)",
+    };
+    assert!(page.contains(&format!("| lib/libivs.a is compiled | {compiled} |\n")));
     let proved = fs::read_to_string(root().join("docs/PROVED.md")).unwrap();
     assert!(proved
         .lines()
@@ -123,6 +120,22 @@ fn without_the_prover() {
     assert_eq!(value, "set 1, light: -300\n");
 }
 
+/// The tar of an archive, unpacked, and its page.
+fn unpacked(folder: &Path, archive: &Path, machine: &str) -> (PathBuf, String) {
+    let mut dist = Command::new(root().join("tools/dist"));
+    let tar = said(dist.args([folder, archive]));
+    said(
+        Command::new("tar")
+            .arg("-xzf")
+            .arg(tar.trim_end())
+            .current_dir(folder),
+    );
+    let version = env!("CARGO_PKG_VERSION");
+    let unpacked = folder.join(format!("ivs-{version}-{machine}-linux"));
+    let page = fs::read_to_string(unpacked.join("WHAT-IS-PROVED.md")).unwrap();
+    (unpacked, page)
+}
+
 /// The command that builds `host/ivs` with a library that was made before, and runs an example.
 fn example(folder: &Path, library: &Path) -> Command {
     let mut command = Command::new(env!("CARGO"));
@@ -132,4 +145,22 @@ fn example(folder: &Path, library: &Path) -> Command {
         .env("IVS_LIB", library)
         .env("CARGO_TARGET_DIR", folder.join("target"));
     command
+}
+
+/// The tar for Arm, which is made here: a program for Arm links what is in it, and answers under
+/// Debian's emulator.
+#[test]
+fn emulated_where_there_is_no_other() {
+    // With a library that was made before there is no archive but that one.
+    if std::env::var_os("IVS_LIB").is_some() {
+        return;
+    }
+    let archive = root().join("target/staticlib/aarch64/libivs.a");
+    assert!(archive.is_file(), "`make -C host arm` makes {archive:?}");
+    let (unpacked, page) = unpacked(&folder("emulated"), &archive, "aarch64");
+    assert!(page.contains("| lib/libivs.a is compiled | by Rattle, for Arm (aarch64) |\n"));
+    let compiler = &mut Command::new("aarch64-linux-gnu-gcc");
+    let program = compiled(compiler.arg("-static"), &unpacked, "value.c");
+    let value = said(Command::new("qemu-aarch64").arg(program));
+    assert_eq!(value, "set 1, light: -300\n");
 }

@@ -44,16 +44,21 @@ fn run(folder: &Path, rt: &str) -> (bool, String) {
     (output.status.success(), said)
 }
 
+/// Proves all crates, and leaves for each that its library stands there.
 const FIRST: &str = r#"
 case $1 in
 version) echo a kit ;;
-lib)
-    mkdir -p out
-    for crate in laws limits ivs ivs_c; do
-        echo "rt: chose --jobs 2 for $crate"
+all)
+    for crate in laws limits ivs beside ivs_c; do
+        echo "== $crate"
         echo "crate $crate: modules loaded=0 checked=40"
         echo "logic=proved functions=13"
+        mkdir -p crates/$crate/out/rlib
+        echo one >crates/$crate/out/rlib/stamp
     done
+    echo "== summary" ;;
+lib)
+    echo "logic=proved functions=13"
     echo first >out/libivs_c.a ;;
 esac
 "#;
@@ -61,10 +66,11 @@ esac
 const SECOND: &str = r#"
 case $1 in
 version) echo a kit ;;
-lib)
-    echo "rt: chose --jobs 2 for ivs_c"
-    echo "logic=proved functions=13"
-    echo second >out/libivs_c.a ;;
+all)
+    printf '== laws\n== limits\n'
+    echo "logic=proved functions=14"
+    printf '== ivs\nlogic=proved functions=13\n== beside\n== ivs_c\n== summary\n' ;;
+lib) echo second >out/libivs_c.a ;;
 esac
 "#;
 
@@ -78,9 +84,10 @@ fn what_is_said() {
 
 fn a_line_for_each_crate_and_then_none() {
     let folder = repository("first_run");
-    let said = "The library is proved before it is linked: once, 4 crates, some half an hour on \
-                four processors. The next run takes seconds.\n  1 of 4: laws proved\n  \
-                2 of 4: limits proved\n  3 of 4: ivs proved\n  4 of 4: ivs_c proved\n";
+    let said = "The library is proved before it is linked: once, 5 crates, some quarter of an \
+                hour on four processors. The next run takes seconds.\n  1 of 5: laws proved\n  \
+                2 of 5: limits proved\n  3 of 5: ivs proved\n  4 of 5: beside proved\n  \
+                5 of 5: ivs_c proved\n";
     assert_eq!(run(&folder, FIRST), (true, said.to_string()));
     let archive = folder.join("target/staticlib/libivs.a");
     let made = || fs::read_to_string(&archive).unwrap();
@@ -90,20 +97,27 @@ fn a_line_for_each_crate_and_then_none() {
     assert_eq!(run(&folder, SECOND), (true, String::new()));
     assert_eq!(made(), "first\n");
     write(&folder, "limits", "two");
-    let said = "  1 of 4: ivs_c proved\n";
+    let said = "  2 of 5: limits proved\n  3 of 5: ivs proved\n";
     assert_eq!(run(&folder, SECOND), (true, said.to_string()));
     assert_eq!(made(), "second\n");
 }
 
 fn what_is_not_proved() {
     let folder = repository("first_run_fails");
-    let rt = "case $1 in\nversion) exit ;;\nesac\necho 'rt: chose --jobs 2 for laws'\n\
-              echo 'logic=proved functions=13'\necho 'rt: chose --jobs 2 for limits'\n\
-              echo 'logic=not-proved functions=2'\nexit 1\n";
+    let rt =
+        "case $1 in\nversion) exit ;;\nesac\necho '== laws'\necho 'logic=proved functions=13'\n\
+              echo '== limits'\necho 'logic=not-proved functions=2'\nexit 1\n";
     let (done, said) = run(&folder, rt);
     assert!(!done);
-    let end = "  1 of 4: laws proved\nrt: chose --jobs 2 for laws\nlogic=proved functions=13\n\
-               rt: chose --jobs 2 for limits\nlogic=not-proved functions=2\n\
-               staticlib: 'rt lib' failed in crates/ivs_c; run it there to see more\n";
+    let end = "  1 of 5: laws proved\n== laws\nlogic=proved functions=13\n\
+               == limits\nlogic=not-proved functions=2\n\
+               staticlib: 'rt all check' failed in this repository; run it there to see more\n";
+    assert!(said.ends_with(end), "{said}");
+    // All is proved, and the archive cannot be made.
+    let rt = "case $1 in\nversion) exit ;;\nlib) echo 'no room' && exit 1 ;;\nesac\n";
+    let (done, said) = run(&folder, rt);
+    assert!(!done && !folder.join("target/staticlib/libivs.a").exists());
+    let end = "no room\n\
+               staticlib: 'rt lib --cpu x86-64' failed in crates/ivs_c; run it there to see more\n";
     assert!(said.ends_with(end), "{said}");
 }
