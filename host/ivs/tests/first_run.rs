@@ -49,6 +49,7 @@ const FIRST: &str = r#"
 case $1 in
 version) echo a kit ;;
 all)
+    [ "$2 $3" = "check --jobs" ] && [ "$4" -gt 0 ] || exit 2
     for crate in laws limits ivs beside ivs_c; do
         echo "== $crate"
         echo "crate $crate: modules loaded=0 checked=40"
