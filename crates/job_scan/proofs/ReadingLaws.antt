@@ -1,10 +1,16 @@
 -- The records of the sets: one of them, and the loop over all. Assumes nothing.
 use mathlib.Core.Path.{◌≡◌, refl, sym, ◌∙◌, subst}
-use mathlib.Core.Bool.{true}
+use mathlib.Core.Bool.{true, false}
 use mathlib.Core.List.{List, [], ◌∷◌}
 use Prim.Native.Nat.{ℕ, ◌+◌, ◌*◌, ◌/◌, ◌%◌, ◌≤◌, ◌<◌}
 use native.Mathlib.Omega.{arith}
 use lib.ListN.{length}
+use Rattle.std.specs.Prelude.{Result, Ok, Err}
+use Rattle.refusals.specs.declared.Refusal.{Refusal}
+use Rattle.refusals.specs.declared.Refusal.TheVariants.{Unfinished}
+use Rattle.refusals.specs.Refusals.{number, number_in}
+use Rattle.refusals.proofs.Numbers.{some_number}
+use Rattle.laws.proofs.Cases.{true-false}
 use Rattle.laws.specs.LentRange.{Only}
 use Rattle.laws.proofs.RangeLaws.{only-refl, only-trans}
 use Rattle.values.specs.declared.tables.SetTables.{SetTables}
@@ -15,9 +21,8 @@ use Rattle.said.specs.Sets.{region_list, first_like}
 use Rattle.said.specs.Job.{Said, in_sets, stop, on, unless, step, value_step, end_step, after_value, after_end, regions_only, refused, fine, ended, ended_sets}
 use Rattle.values.proofs.BegunLaws.{begun-few}
 use Rattle.values.specs.Lent.{Holds, TookValue, EndedSet}
-use Rattle.job_scan.specs.declared.reading.SetsEnd.{SetsEnd}
 use Rattle.job_scan.specs.declared.reading.SoFar.{SoFar}
-use Rattle.job_scan.specs.Lent.{Room, RecordFits, is_open, Reached, RecordOn, RecordRead, SetsRead, refused_end, stopped_by, begun_at, value_taken, end_taken}
+use Rattle.job_scan.specs.Lent.{Room, RecordFits, is_open, Reached, RecordRead, SetsRead, left_behind, begun_at}
 use Rattle.said.proofs.StepLaws.{unless-stop, unless-on, regions-from, form-stops, value-steps, end-steps}
 use Rattle.job_scan.proofs.WalkLaws.{left, turn-stop, turn_on, at-end}
 
@@ -25,76 +30,66 @@ use Rattle.job_scan.proofs.WalkLaws.{left, turn-stop, turn_on, at-end}
 
 module _ (axes mode : ℕ) (job : List ℕ) (i from : ℕ) (t : SetTables) (s : Said) (f : SoFar) (w : List ℕ) (h : Reached axes from w t s f) where
   -- refused, and nothing is written
-  stopped : (n : ℕ) → (n ≡ 0 → ⊥) → step axes mode job (record_at job i) i (in_sets s) ≡ stop n → (r : SoFar) → r ≡ stopped_by n
-      → RecordRead axes mode job i from t s f w w r
-  stopped n z e r d = subst (λ (x : SoFar). RecordRead axes mode job i from t s f w w x) (sym d) (record {
-    stops = λ _. e;
-    goes = λ y. absurd (z y);
-    only = only-refl ((0, t.first) ∷ []) w;
-  })
+  stopped : (x : Refusal) → step axes mode job (record_at job i) i (in_sets s) ≡ stop (number x) → RecordRead axes mode job i from t s f w w (Err x)
+  stopped x e = record { is = e; only = only-refl ((0, t.first) ∷ []) w }
 
-  pub form-read : (n : ℕ) → n ≡ form_refusal axes from true (record_at job i) → (n ≡ 0 → ⊥) → (r : SoFar) → r ≡ stopped_by n
-      → RecordRead axes mode job i from t s f w w r
-  form-read n e z = stopped n z (form-stops axes mode job (record_at job i) i from s h.regions-from n e z)
+  pub form-read : (x : Refusal) → number x ≡ form_refusal axes from true (record_at job i) → RecordRead axes mode job i from t s f w w (Err x)
+  form-read x e = stopped x (form-stops axes mode job (record_at job i) i from s h.regions-from (number x) e (some_number x))
 
   module _ (z : form_refusal axes from true (record_at job i) ≡ 0) where
-    module _ (k : kind (record_at job i) ≡ value_kind) (w' : List ℕ) (took : Took)
-        (p : TookValue (record_at job i) t s f.sets f.uses f.start f.count w w' took.no took.uses took.count) where
+    module _ (k : kind (record_at job i) ≡ value_kind) (w' : List ℕ) (took : Result Took Refusal)
+        (p : TookValue (record_at job i) t s f.sets f.uses f.start f.count w w' took) where
       is : step axes mode job (record_at job i) i (in_sets s)
-          ≡ unless took.no (on (in_sets (after_value s (first_like s.regions (region_number (record_at job i))) (value_as_word (record_at job i)))))
+          ≡ unless (number_in took) (on (in_sets (after_value s (first_like s.regions (region_number (record_at job i))) (value_as_word (record_at job i)))))
       unfolding value_step
-      is = value-steps axes mode job (record_at job i) i from s h.regions-from z k ∙ rw (← p.no-is)
+      is = value-steps axes mode job (record_at job i) i from s h.regions-from z k ∙ rw (← p.number_is)
 
-      value_on : took.no ≡ 0 → RecordOn axes mode job i from t s f w' (value_taken f took)
+      pub value-refused : (x : Refusal) → took ≡ Err x → RecordRead axes mode job i from t s f w w' (Err x)
+      value-refused x e = record { is = rw e at is ∙ unless-stop (number x) _ (some_number x); only = p.only }
+
+      pub value_read : (g : Took) → took ≡ Ok g
+          → RecordRead axes mode job i from t s f w w' (Ok (record { sets = f.sets; values = f.values + 1; uses = g.uses; start = f.start; count = g.count; begun = true }))
       unfolding after_value
-      value_on y = record {
-        said = after_value s (first_like s.regions (region_number (record_at job i))) (value_as_word (record_at job i));
-        is = is ∙ unless-on took.no _ y;
-        reached = record {
-          held = p.now-holds y;
-          opened = refl;
-          closed = λ e. absurd (omega arith);
-          values-are = omega (arith, h.values-are);
-          regions-from = h.regions-from;
+      value_read g e = record {
+        is = record {
+          said = after_value s (first_like s.regions (region_number (record_at job i))) (value_as_word (record_at job i));
+          is = rw e at is ∙ unless-on 0 _ refl;
+          reached = record {
+            held = rw e at p.now-holds;
+            opened = refl;
+            closed = λ e. absurd (true-false refl e);
+            values-are = omega (arith, h.values-are);
+            regions-from = h.regions-from;
+          };
+          one = omega arith;
+          uses-few = let u = rw e at p.uses-few in omega (arith, u);
+          body-few = let u = rw e at p.count-few in omega (arith, u);
         };
-        one = omega arith;
-        uses-few = omega (arith, p.uses-few);
-        body-few = omega (arith, p.count-few);
+        only = p.only;
       }
 
-      pub value_read : (r : SoFar) → r ≡ value_taken f took → RecordRead axes mode job i from t s f w w' r
-      value_read r d = subst (λ (x : SoFar). RecordRead axes mode job i from t s f w w' x) (sym d) (record {
-        stops = λ y. is ∙ unless-stop took.no _ y;
-        goes = λ y. value_on y;
-        only = p.only;
-      })
-
-    module _ (k : kind (record_at job i) ≡ value_kind → ⊥) (n : ℕ) (e : n ≡ end_refusal mode f.sets) where
-      ends : step axes mode job (record_at job i) i (in_sets s) ≡ unless n (on (in_sets (after_end s)))
+    module _ (k : kind (record_at job i) ≡ value_kind → ⊥) (end' : Result (Unit {0}) Refusal) (e : number_in end' ≡ end_refusal mode f.sets) where
+      ends : step axes mode job (record_at job i) i (in_sets s) ≡ unless (number_in end') (on (in_sets (after_end s)))
       unfolding end_step
       ends = end-steps axes mode job (record_at job i) i from s h.regions-from z k ∙ rw (h.held.sets-count, ← e)
 
-      pub full-read : (n ≡ 0 → ⊥) → (r : SoFar) → r ≡ stopped_by n → RecordRead axes mode job i from t s f w w r
-      full-read y = stopped n y (ends ∙ unless-stop n _ y)
+      pub full-read : (x : Refusal) → end' ≡ Err x → RecordRead axes mode job i from t s f w w (Err x)
+      full-read x y = stopped x (rw y at ends ∙ unless-stop (number x) _ (some_number x))
 
-      end_on : n ≡ 0 → (w' : List ℕ) → EndedSet t s f.sets f.uses f.start f.count w w' → RecordOn axes mode job i from t s f w' (end_taken f)
+      pub end_read : (u : Unit {0}) → end' ≡ Ok u → (w' : List ℕ) → EndedSet t s f.sets f.uses f.start f.count w w'
+          → RecordRead axes mode job i from t s f w w' (Ok (record { sets = f.sets + 1; values = f.values; uses = f.uses; start = f.start + 2 * f.count; count = 0; begun = false }))
       unfolding after_end
-      end_on y w' p = record {
-        said = after_end s;
-        is = ends ∙ unless-on n _ y;
-        reached = record { held = p.now-holds; opened = refl; closed = λ _. refl; values-are = h.values-are; regions-from = h.regions-from };
-        one = omega arith;
-        uses-few = omega arith;
-        body-few = omega arith;
-      }
-
-      pub end_read : n ≡ 0 → (w' : List ℕ) → EndedSet t s f.sets f.uses f.start f.count w w' → (r : SoFar) → r ≡ end_taken f
-          → RecordRead axes mode job i from t s f w w' r
-      end_read y w' p r d = subst (λ (x : SoFar). RecordRead axes mode job i from t s f w w' x) (sym d) (record {
-        stops = λ g. absurd (g refl);
-        goes = λ _. end_on y w' p;
+      end_read u y w' p = record {
+        is = record {
+          said = after_end s;
+          is = rw y at ends ∙ unless-on 0 _ refl;
+          reached = record { held = p.now-holds; opened = refl; closed = λ _. refl; values-are = h.values-are; regions-from = h.regions-from };
+          one = omega arith;
+          uses-few = omega arith;
+          body-few = omega arith;
+        };
         only = p.only;
-      })
+      }
 
 -- ---- the loop: record i is next, and work holds what the records before it say
 
@@ -106,7 +101,7 @@ pub record Stands (axes mode : ℕ) (job : List ℕ) (records from : ℕ) (t : S
   pub uses-few : f.uses ≤ f.values
   pub body-few : f.start + 2 * f.count ≤ t.body + 2 * f.values
   pub only : Only ((0, t.first) ∷ []) old w
-  pub rest : left axes mode job records i (in_sets said) ≡ left axes mode job records from (in_sets (regions_only (region_list axes (from / axes) job)))
+  pub rest : left axes mode job records i (in_sets said) ≡ left_behind axes mode job records from
 
 module _ (axes mode : ℕ) (job : List ℕ) (records from : ℕ) (t : SetTables) (old : List ℕ) (room : Room t records (length old)) where
   pub stands-start : from ≤ records → from % axes ≡ 0 → Holds old t (regions_only (region_list axes (from / axes) job)) 0 0 t.body 0
@@ -149,10 +144,10 @@ module _ (axes mode : ℕ) (job : List ℕ) (records from : ℕ) (t : SetTables)
       few = omega (arith, n.few, room.few);
     }
 
-    module _ (l : i < records) (w' : List ℕ) (r : SoFar) (p : RecordRead axes mode job i from t n.said f w w' r) where
-      pub stands-more : r.no ≡ 0 → Stands axes mode job records from t old w' (i + 1) r
-      stands-more z =
-          let g = p.goes z in
+    module _ (l : i < records) (w' : List ℕ) where
+      pub stands-more : (g : SoFar) → RecordRead axes mode job i from t n.said f w w' (Ok g) → Stands axes mode job records from t old w' (i + 1) g
+      stands-more r p =
+          let g = p.is in
           record {
             said = g.said;
             reached = g.reached;
@@ -164,38 +159,40 @@ module _ (axes mode : ℕ) (job : List ℕ) (records from : ℕ) (t : SetTables)
             rest = sym (turn_on axes mode job records i l (in_sets n.said) (in_sets g.said) g.is) ∙ n.rest;
           }
 
-      pub read-stopped : (r.no ≡ 0 → ⊥) → SetsRead axes mode job records from t old w' r.no i 0 0 0
-      read-stopped z = record {
-        bad = λ _. sym n.rest ∙ turn-stop axes mode job records i l (in_sets n.said) r.no (p.stops z);
-        good = λ y. absurd (z y);
+      pub read-stopped : (x : Refusal) → RecordRead axes mode job i from t n.said f w w' (Err x)
+          → SetsRead axes mode job records from t old w' (Err (record { refusal = x; place = i }))
+      read-stopped x p = record {
+        is = sym n.rest ∙ turn-stop axes mode job records i l (in_sets n.said) (number x) p.is;
         only = only-trans n.only p.only;
       }
 
-    ended-open : (m : List ℕ) → (is_open m ≡ 0 → ⊥) → ended_sets i n.said m ≡ refused unfinished i
-    unfolding ended_sets
-    ended-open [] h = absurd (h refl)
-    ended-open (q ∷ m) h = refl
+  module _ {w : List ℕ} {i : ℕ} {f : SoFar} (m : Stands axes mode job records from t old w i f) (l : records ≤ i) where
+    n : Stands axes mode job records from t old w records f
+    n = let e : i ≡ records = omega (arith, m.within) in subst (λ (x : ℕ). Stands axes mode job records from t old w x f) e m
 
-    ended-shut : (m : List ℕ) → is_open m ≡ 0 → ended_sets i n.said m ≡ fine n.said
+    ended-open : (q : List ℕ) → is_open q ≡ true → ended_sets records n.said q ≡ refused unfinished records
+    unfolding ended_sets
+    ended-open [] h = absurd (true-false h refl)
+    ended-open (q ∷ r) h = refl
+
+    ended-shut : (q : List ℕ) → is_open q ≡ false → ended_sets records n.said q ≡ fine n.said
     unfolding ended_sets
     ended-shut [] h = refl
-    ended-shut (q ∷ m) h = absurd (omega arith)
+    ended-shut (q ∷ r) h = absurd (true-false refl h)
 
-    pub read-open : records ≤ i → (f.begun ≡ 0 → ⊥) → SetsRead axes mode job records from t old w unfinished i 0 0 0
+    pub read-open : f.begun ≡ true → SetsRead axes mode job records from t old w (Err (record { refusal = Unfinished; place = records }))
     unfolding ended
-    read-open l d = record {
-      bad = λ _. sym n.rest ∙ at-end axes mode job records i (in_sets n.said) l ∙ ended-open n.said.named (λ e. d (n.reached.opened ∙ e));
-      good = λ y. absurd (omega arith);
+    read-open d = record {
+      is = sym n.rest ∙ at-end axes mode job records records (in_sets n.said) (omega arith) ∙ ended-open n.said.named (sym n.reached.opened ∙ d);
       only = n.only;
     }
 
-    pub read-fine : records ≤ i → f.begun ≡ 0 → SetsRead axes mode job records from t old w 0 0 f.sets f.values f.uses
+    pub read-fine : f.begun ≡ false → SetsRead axes mode job records from t old w (Ok (record { sets = f.sets; values = f.values; uses = f.uses }))
     unfolding ended
-    read-fine l z = record {
-      bad = λ y. absurd (y refl);
-      good = λ _. record {
+    read-fine z = record {
+      is = record {
         said = n.said;
-        is = sym n.rest ∙ at-end axes mode job records i (in_sets n.said) l ∙ ended-shut n.said.named (sym n.reached.opened ∙ z);
+        is = sym n.rest ∙ at-end axes mode job records records (in_sets n.said) (omega arith) ∙ ended-shut n.said.named (sym n.reached.opened ∙ z);
         values-are = n.reached.values-are;
         start = f.start;
         held = rw (← n.reached.closed z) n.reached.held;
@@ -204,9 +201,3 @@ module _ (axes mode : ℕ) (job : List ℕ) (records from : ℕ) (t : SetTables)
       };
       only = n.only;
     }
-
--- by the answer that `refuse` gives
-pub refused_as : (axes mode : ℕ) (job : List ℕ) (records from : ℕ) (t : SetTables) {old w : List ℕ} (r : SetsEnd) (n i : ℕ) → r ≡ refused_end n i
-    → SetsRead axes mode job records from t old w n i 0 0 0 → SetsRead axes mode job records from t old w r.no r.at r.sets r.values r.uses
-refused_as axes mode job records from t {old} {w} r n i e f =
-    subst (λ (x : SetsEnd). SetsRead axes mode job records from t old w x.no x.at x.sets x.values x.uses) (sym e) f

@@ -1,5 +1,5 @@
 -- One turn of the records_from along a job's records, by what its record is. Assumes nothing.
-use mathlib.Core.Path.{◌≡◌, refl, sym, ap, ◌∙◌}
+use mathlib.Core.Path.{◌≡◌, sym, ap, ◌∙◌, subst}
 use mathlib.Core.Bool.{false}
 use mathlib.Core.List.{List}
 use Prim.Native.Nat.{ℕ, suc, ◌+◌, ◌-◌, ◌/◌, ◌%◌, ◌≤◌, ◌<◌}
@@ -8,8 +8,13 @@ use native.Mathlib.Omega.{arith}
 use lib.ListN.{drop}
 use lib.Seq.{drop-drop}
 use borrow.Author.Tests.{eq-eqb, ne_eqb}
+use Rattle.std.specs.Prelude.{Ok, Err}
+use Rattle.refusals.specs.declared.Refusal.{Refusal}
+use Rattle.refusals.specs.declared.Refusal.TheVariants.{Unfinished}
+use Rattle.refusals.specs.Refusals.{number}
+use Rattle.refusals.proofs.Numbers.{some_number}
 use Rattle.said.specs.Records.{record_bytes, record_start, record_at, after_record, kind, axis_kind, is_axis}
-use Rattle.said.specs.Refusals.{unfinished, form_refusal}
+use Rattle.said.specs.Refusals.{form_refusal}
 use Rattle.said.specs.Sets.{region_list}
 use Rattle.said.specs.Job.{State, in_axes, in_sets, Step, stop, on, regions_only, axes_before, is_late, kind_step, step, Outcome, refused, ended, ended_sets, follow, records_from}
 use Rattle.said.proofs.StepLaws.{unless-stop, unless-on, whole_before, begin-step}
@@ -81,37 +86,29 @@ module _ {axes : ℕ} {job : List ℕ} {records i : ℕ} (r : Reading axes job r
   pub reading-more : i < records → form_refusal axes i false (record_at job i) ≡ 0 → kind (record_at job i) ≡ axis_kind → Reading axes job records (i + 1)
   reading-more h z k = record { within = omega arith; rest = λ mode. sym (axis-on axes mode job records i h z k) ∙ r.rest mode }
 
-  pub read-bad : (n : ℕ) → i < records → n ≡ form_refusal axes i false (record_at job i) → (n ≡ 0 → ⊥) → AxesRead axes job records n i
-  read-bad n h e z = record {
-    within = omega arith;
-    bad = λ _ mode. sym (r.rest mode) ∙ axis-stop axes mode job records i h n e z;
-    whole = λ y. absurd (z y);
-    good = λ y. absurd (z y);
-  }
+  pub read-bad : (x : Refusal) → i < records → number x ≡ form_refusal axes i false (record_at job i) → AxesRead axes job records (Err (record { refusal = x; place = i }))
+  read-bad x h e = (omega arith, λ mode. sym (r.rest mode) ∙ axis-stop axes mode job records i h (number x) e (some_number x))
 
-  pub read_whole : i < records → form_refusal axes i false (record_at job i) ≡ 0 → (kind (record_at job i) ≡ axis_kind → ⊥) → AxesRead axes job records 0 i
+  pub read_whole : i < records → form_refusal axes i false (record_at job i) ≡ 0 → (kind (record_at job i) ≡ axis_kind → ⊥) → AxesRead axes job records (Ok i)
   read_whole h z k = record {
     within = omega arith;
-    bad = λ y. absurd (y refl);
-    whole = λ _. behind-whole axes 0 job records i h z k;
-    good = λ _ mode. sym (r.rest mode) ∙ begin axes mode job records i h z k;
+    whole = behind-whole axes 0 job records i h z k;
+    good = λ mode. sym (r.rest mode) ∙ begin axes mode job records i h z k;
   }
 
-  pub read-open : records ≤ i → (i % axes ≡ 0 → ⊥) → AxesRead axes job records unfinished i
+module _ {axes : ℕ} {job : List ℕ} {records i : ℕ} (s : Reading axes job records i) (l : records ≤ i) where
+  r : Reading axes job records records
+  r = let e : i ≡ records = omega (arith, s.within) in subst (λ (x : ℕ). Reading axes job records x) e s
+
+  pub read-open : (records % axes ≡ 0 → ⊥) → AxesRead axes job records (Err (record { refusal = Unfinished; place = records }))
   unfolding ended
-  read-open h p = record {
-    within = r.within;
-    bad = λ _ mode. sym (r.rest mode) ∙ at-end axes mode job records i in_axes h ∙ rw (ne_eqb (i % axes) 0 p);
-    whole = λ y. absurd (omega arith);
-    good = λ y. absurd (omega arith);
-  }
+  read-open p = (r.within, λ mode. sym (r.rest mode) ∙ at-end axes mode job records records in_axes (omega arith) ∙ rw (ne_eqb (records % axes) 0 p))
 
-  pub read_all : records ≤ i → i % axes ≡ 0 → AxesRead axes job records 0 i
+  pub read_all : records % axes ≡ 0 → AxesRead axes job records (Ok records)
   unfolding ended ended_sets regions_only
-  read_all h p = record {
+  read_all p = record {
     within = r.within;
-    bad = λ y. absurd (y refl);
-    whole = λ _. p;
-    good = λ _ mode. sym (r.rest mode) ∙ at-end axes mode job records i in_axes h ∙ rw (eq-eqb (i % axes) 0 p)
-        (sym (at-end axes mode job records i (in_sets (regions_only (region_list axes (i / axes) job))) h));
+    whole = p;
+    good = λ mode. sym (r.rest mode) ∙ at-end axes mode job records records in_axes (omega arith) ∙ rw (eq-eqb (records % axes) 0 p)
+        (sym (at-end axes mode job records records (in_sets (regions_only (region_list axes (records / axes) job))) (omega arith)));
   }

@@ -1,18 +1,20 @@
 -- What lent words hold of a job's regions, and of its sets: the promises of `src/`, which no reader of docs/RULES.md
 -- needs.
-use Rattle.std.specs.Prelude.{◌≡◌, List, [], ◌∷◌, ℕ, suc, ◌+◌, ◌-◌, ◌*◌, ◌/◌, ◌≤◌, ◌<◌, length, get_or}
+use Rattle.std.specs.Prelude.{◌≡◌, Bool, true, false, List, [], ◌∷◌, ℕ, suc, ◌+◌, ◌-◌, ◌*◌, ◌/◌, ◌≤◌, ◌<◌, length, get_or, Result, MatchResult}
+use Rattle.refusals.specs.declared.Refusal.{Refusal}
+use Rattle.refusals.specs.declared.Refused.{Refused}
+use Rattle.refusals.specs.Refusals.{number}
 use Rattle.laws.specs.Every.{All}
 use Rattle.laws.specs.LentRange.{Only}
 use Rattle.sets.specs.Set.{Set}
 use Rattle.sets.specs.Lent.{entries, entries_at, count_of}
 use Rattle.said.specs.Records.{record_at, region_from}
-use Rattle.said.specs.Job.{Said, in_sets, stop, on, regions_only, step, refused, fine, records_from}
+use Rattle.said.specs.Job.{Said, in_sets, stop, on, regions_only, step, Outcome, refused, fine, records_from}
 use Rattle.values.specs.declared.tables.SetTables.{SetTables}
-use Rattle.values.specs.declared.values.Took.{Took}
 use Rattle.said.specs.Sets.{Region, coordinates, region_list, first_like}
 use Rattle.values.specs.Lent.{Holds, ValueFits}
 use Rattle.limits.specs.Limits.{most_records}
-use Rattle.job_scan.specs.declared.reading.SetsEnd.{SetsEnd}
+use Rattle.job_scan.specs.declared.reading.SetCounts.{SetCounts}
 use Rattle.job_scan.specs.declared.reading.SoFar.{SoFar}
 
 -- a region as a set: its coordinates by their numbers, from k on
@@ -51,39 +53,29 @@ pub record Room (t : SetTables) (n long : ℕ) : Type 0 where
   pub regions-few : t.regions ≤ most_records
   pub long-few : t.first + t.regions ≤ 4294967295
 
--- The records of the sets, from record `from` on, are refused by `no` at `at`, or (no is 0) held: where axis records have said the regions,
--- what is left of the job answers so.
-pub record SetsHeld (axes mode : ℕ) (job : List ℕ) (records from : ℕ) (t : SetTables) (new : List ℕ) (sets values uses : ℕ) : Type 0 where
+-- what is left of a job behind the axis records that have said its regions
+abbrev pub left_behind : (axes mode : ℕ) (job : List ℕ) (records from : ℕ) → Outcome
+left_behind axes mode job records from = records_from axes mode job (record_at job from) (records - from) from (in_sets (regions_only (region_list axes (from / axes) job)))
+
+-- the records of the sets, from record `from` on, are held
+pub record SetsHeld (axes mode : ℕ) (job : List ℕ) (records from : ℕ) (t : SetTables) (new : List ℕ) (c : SetCounts) : Type 0 where
   pub said : Said
-  pub is : records_from axes mode job (record_at job from) (records - from) from (in_sets (regions_only (region_list axes (from / axes) job))) ≡ fine said
-  pub values-are : said.values ≡ values
+  pub is : left_behind axes mode job records from ≡ fine said
+  pub values-are : said.values ≡ c.values
   pub start : ℕ
-  pub held : Holds new t said sets uses start 0
+  pub held : Holds new t said c.sets c.uses start 0
   pub start-in : start ≤ t.used
-  pub uses-few : uses ≤ records
+  pub uses-few : c.uses ≤ records
 
-pub record SetsRead (axes mode : ℕ) (job : List ℕ) (records from : ℕ) (t : SetTables) (old new : List ℕ) (no at sets values uses : ℕ) : Type 0 where
-  pub bad : (no ≡ 0 → ⊥) → records_from axes mode job (record_at job from) (records - from) from (in_sets (regions_only (region_list axes (from / axes) job))) ≡ refused no at
-  pub good : no ≡ 0 → SetsHeld axes mode job records from t new sets values uses
+-- they are held, or refused as what is left of the job is
+pub record SetsRead (axes mode : ℕ) (job : List ℕ) (records from : ℕ) (t : SetTables) (old new : List ℕ) (r : Result SetCounts Refused) : Type 0 where
+  pub is : MatchResult r (λ c. SetsHeld axes mode job records from t new c) (λ x. left_behind axes mode job records from ≡ refused (number x.refusal) x.place)
   pub only : Only ((0, t.first) ∷ []) old new
-
--- a refusal has no counts
-abbrev pub refused_end : ℕ → ℕ → SetsEnd
-refused_end n i = record { no = n; at = i; sets = 0; values = 0; uses = 0 }
-
-abbrev pub stopped_by : ℕ → SoFar
-stopped_by n = record { no = n; sets = 0; values = 0; uses = 0; start = 0; count = 0; begun = 0 }
 
 -- ---- one record of the sets
 
 abbrev pub begun_at : ℕ → SoFar
-begun_at start = record { no = 0; sets = 0; values = 0; uses = 0; start = start; count = 0; begun = 0 }
-
-abbrev pub value_taken : SoFar → Took → SoFar
-value_taken f k = record { no = k.no; sets = f.sets; values = f.values + 1; uses = k.uses; start = f.start; count = k.count; begun = 1 }
-
-abbrev pub end_taken : SoFar → SoFar
-end_taken f = record { no = 0; sets = f.sets + 1; values = f.values; uses = f.uses; start = f.start + 2 * f.count; count = 0; begun = 0 }
+begun_at start = record { sets = 0; values = 0; uses = 0; start = start; count = 0; begun = false }
 
 -- what the end of a set asks of the tables
 pub record EndFits (w : List ℕ) (t : SetTables) (sets start count : ℕ) : Type 0 where
@@ -102,16 +94,16 @@ pub record RecordFits (w : List ℕ) (t : SetTables) (f : SoFar) : Type 0 where
   pub end_fits : EndFits w t f.sets f.start f.count
   pub few : f.sets + f.values < most_records
 
--- 0 for no region, else 1: what the code keeps of the regions that a set has named
-abbrev pub is_open : List ℕ → ℕ
-is_open [] = 0
-is_open (q ∷ named) = 1
+-- what the code keeps of the regions that a set has named: whether there are any
+abbrev pub is_open : List ℕ → Bool
+is_open [] = false
+is_open (q ∷ named) = true
 
 -- work and counts are what s says, behind `from` axis records
 pub record Reached (axes from : ℕ) (w : List ℕ) (t : SetTables) (s : Said) (f : SoFar) : Type 0 where
   pub held : Holds w t s f.sets f.uses f.start f.count
   pub opened : f.begun ≡ is_open s.named
-  pub closed : f.begun ≡ 0 → f.count ≡ 0
+  pub closed : f.begun ≡ false → f.count ≡ 0
   pub values-are : s.values ≡ f.values
   pub regions-from : axes * length s.regions ≡ from
 
@@ -124,8 +116,7 @@ pub record RecordOn (axes mode : ℕ) (job : List ℕ) (i from : ℕ) (t : SetTa
   pub uses-few : r.uses + f.values ≤ f.uses + r.values
   pub body-few : r.start + 2 * r.count + 2 * f.values ≤ f.start + 2 * f.count + 2 * r.values
 
--- record i is refused by a number, or (it is 0) leads on
-pub record RecordRead (axes mode : ℕ) (job : List ℕ) (i from : ℕ) (t : SetTables) (s : Said) (f : SoFar) (old new : List ℕ) (r : SoFar) : Type 0 where
-  pub stops : (r.no ≡ 0 → ⊥) → step axes mode job (record_at job i) i (in_sets s) ≡ stop r.no
-  pub goes : r.no ≡ 0 → RecordOn axes mode job i from t s f new r
+-- record i leads on, or is refused
+pub record RecordRead (axes mode : ℕ) (job : List ℕ) (i from : ℕ) (t : SetTables) (s : Said) (f : SoFar) (old new : List ℕ) (r : Result SoFar Refusal) : Type 0 where
+  pub is : MatchResult r (λ g. RecordOn axes mode job i from t s f new g) (λ x. step axes mode job (record_at job i) i (in_sets s) ≡ stop (number x))
   pub only : Only ((0, t.first) ∷ []) old new

@@ -3,37 +3,27 @@ ghost use Rattle.std.specs.Prelude.{◌≡◌, ℕ, ◌+◌, ◌*◌, ◌<◌, �
 ghost use Rattle.said.specs.Records.{record_start};
 ghost use Rattle.job_scan.specs.LentAxes.{AxesRead};
 
-use records::{Kind, form_at, kind_at};
-use said::Refusal;
+use records::{Kind, check_record, is_kind};
+use refusals::{Refusal, Refused};
 
-// A refusal number with its place; or 0, and the record that the axis records end before.
-#[derive(Clone, Copy)]
-pub struct AxesEnd {
-    pub no: usize,
-    pub at: usize,
-}
-
-// Checks the axis records.
-pub fn axes_end(job: &[u8], axes: usize, records: usize) -> AxesEnd
+// Checks the axis records: the record that they end before.
+pub fn axes_end(job: &[u8], axes: usize, records: usize) -> Result<usize, Refused>
     requires { (0 < axes) × (record_start records ≤ length job.now) }
-    ensures { AxesRead axes job.now records result.no result.at }
+    ensures { AxesRead axes job.now records result }
 {
-    let mut i: usize = 0;
-    while i < records {
-        let no = form_at(job, axes, i, i, false);
-        if no != 0 {
-            return AxesEnd { no, at: i };
+    for i in 0..records {
+        if let Err(refusal) = check_record(job, axes, i, i, false) {
+            return Err(Refused { refusal, place: i });
         }
-        if kind_at(job, i) != Kind::AXIS {
-            return AxesEnd { no: 0, at: i };
+        if !is_kind(job, i, Kind::Axis) {
+            return Ok(i);
         }
-        i += 1;
     }
-    if i % axes != 0 {
-        return AxesEnd {
-            no: Refusal::UNFINISHED,
-            at: i,
-        };
+    if records % axes != 0 {
+        return Err(Refused {
+            refusal: Refusal::Unfinished,
+            place: records,
+        });
     }
-    AxesEnd { no: 0, at: i }
+    Ok(records)
 }

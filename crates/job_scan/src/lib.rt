@@ -5,6 +5,6 @@ mod axes;
 mod reading;
 mod regions;
 
-pub use axes::{AxesEnd, axes_end};
-pub use reading::{SetsEnd, read_sets};
+pub use axes::axes_end;
+pub use reading::{SetCounts, read_sets};
 pub use regions::find_firsts;

@@ -1,68 +1,38 @@
 // The records of the sets: each refused at its place, or its set held in work.
 ghost use Rattle.std.specs.Prelude.{◌≡◌, List, ℕ, ◌+◌, ◌*◌, ◌/◌, ◌%◌, ◌<◌, ◌≤◌, length};
 ghost use Rattle.limits.specs.Limits.{most_records};
+ghost use Rattle.refusals.specs.Refusals.{number_in};
 ghost use Rattle.said.specs.Records.{record_start};
 ghost use Rattle.said.specs.Refusals.{end_refusal};
 ghost use Rattle.said.specs.Sets.{region_list};
 ghost use Rattle.said.specs.Job.{Said, regions_only};
 ghost use Rattle.values.specs.Lent.{Holds, EndedSet};
-ghost use Rattle.job_scan.specs.Lent.{Room, EndFits, RecordFits, Reached, RecordRead, SetsRead, refused_end, stopped_by, begun_at, value_taken, end_taken};
+ghost use Rattle.job_scan.specs.Lent.{Room, EndFits, RecordFits, Reached, RecordRead, SetsRead, begun_at};
 
 use entries::sort_entries;
 use limits::Limits;
-use records::{Kind, form_at, kind_at};
-use said::Refusal;
-use values::{SetTables, Took, take_value};
+use records::{Kind, check_record, is_kind};
+use refusals::{Refusal, Refused, ensure};
+use values::{SetTables, take_value};
 
-// A refusal number with its place, or 0 and the counts.
-#[derive(Clone, Copy)]
-pub struct SetsEnd {
-    pub no: usize,
-    pub at: usize,
+// What the records of the sets say, in numbers: the sets, the values, the regions in use.
+#[derive(Clone, Copy, Debug, PartialEq, Eq)]
+pub struct SetCounts {
     pub sets: usize,
     pub values: usize,
     pub uses: usize,
 }
 
-// A refusal number, or 0 and how far the sets are read: how many have ended, the values, the regions in use; where the entries of the set that
-// has not ended start, how many there are, and 1 if it has named a region.
-#[derive(Clone, Copy)]
+// How far the sets are read: how many have ended, the values, the regions in use; where the entries of the set that has not ended start, how
+// many there are, and whether it has named a region.
+#[derive(Clone, Copy, Debug, PartialEq, Eq)]
 pub struct SoFar {
-    pub no: usize,
     pub sets: usize,
     pub values: usize,
     pub uses: usize,
     pub start: usize,
     pub count: usize,
-    pub begun: usize,
-}
-
-// A refusal: it has no counts.
-fn refuse(no: usize, at: usize) -> SetsEnd
-    ensures { result ≡ refused_end no at }
-{
-    SetsEnd {
-        no,
-        at,
-        sets: 0,
-        values: 0,
-        uses: 0,
-    }
-}
-
-// The same of one record.
-fn stop(no: usize) -> SoFar
-    ensures { result ≡ stopped_by no }
-{
-    SoFar {
-        no,
-        sets: 0,
-        values: 0,
-        uses: 0,
-        start: 0,
-        count: 0,
-        begun: 0,
-    }
+    pub begun: bool,
 }
 
 // Before the first record of the sets.
@@ -70,58 +40,21 @@ fn begin(start: usize) -> SoFar
     ensures { result ≡ begun_at start }
 {
     SoFar {
-        no: 0,
         sets: 0,
         values: 0,
         uses: 0,
         start,
         count: 0,
-        begun: 0,
-    }
-}
-
-// One value more, by what became of it.
-fn value_more(f: SoFar, k: Took) -> SoFar
-    requires { f.values < most_records }
-    ensures { result ≡ value_taken f k }
-{
-    SoFar {
-        no: k.no,
-        sets: f.sets,
-        values: f.values + 1,
-        uses: k.uses,
-        start: f.start,
-        count: k.count,
-        begun: 1,
-    }
-}
-
-// One set more.
-fn end_more(f: SoFar) -> SoFar
-    requires { (f.sets < most_records) × (f.start + 2 * f.count ≤ 4294967295) }
-    ensures { result ≡ end_taken f }
-{
-    SoFar {
-        no: 0,
-        sets: f.sets + 1,
-        values: f.values,
-        uses: f.uses,
-        start: f.start + 2 * f.count,
-        count: 0,
-        begun: 0,
+        begun: false,
     }
 }
 
 // Refusal 9, of an end after so many others.
-fn end_no(mode: u32, sets: usize) -> usize
-    ensures { result ≡ end_refusal mode sets }
+#[tactic(auto, unfolding(said::specs::Refusals::end_refusal, said::specs::Refusals::first_failed))]
+fn check_end(mode: u32, sets: usize) -> Result<(), Refusal>
+    ensures { number_in result ≡ end_refusal mode sets }
 {
-    if mode == 1 {
-        if sets == Limits::ITEMS {
-            return Refusal::SETS_FULL;
-        }
-    }
-    0
+    ensure(!(mode == 1 && sets == Limits::ITEMS), Refusal::SetsFull)
 }
 
 // Ends a set: its entries are sorted, with the words behind the stamps for scratch, and its row is written.
@@ -147,34 +80,32 @@ fn read_record(
     work: &mut [u32],
     t: SetTables,
     f: SoFar,
-) -> SoFar
+) -> Result<SoFar, Refusal>
     requires axes_nonzero { (0 < axes) × (record_start (i + 1) ≤ length job.now) × (from % axes ≡ 0) }
     requires record_fits { RecordFits work.old t f }
     ensures { (s : Said) → Reached axes from work.old t s f → RecordRead axes mode job.now i from t s f work.old work.new result }
 {
-    let no = form_at(job, axes, i, from, true);
-    if no != 0 {
-        return stop(no);
+    check_record(job, axes, i, from, true)?;
+    if is_kind(job, i, Kind::Value) {
+        let mark = (f.sets + 1) as u32;
+        let k = take_value(job, i, work, t, mark, f.uses, f.start, f.count)?;
+        return Ok(SoFar {
+            values: f.values + 1,
+            uses: k.uses,
+            count: k.count,
+            begun: true,
+            ..f
+        });
     }
-    if kind_at(job, i) == Kind::VALUE {
-        let k = take_value(
-            job,
-            i,
-            work,
-            t,
-            (f.sets + 1) as u32,
-            f.uses,
-            f.start,
-            f.count,
-        );
-        return value_more(f, k);
-    }
-    let full = end_no(mode, f.sets);
-    if full != 0 {
-        return stop(full);
-    }
+    check_end(mode, f.sets)?;
     end_set(work, t, f.sets, f.start, f.count);
-    end_more(f)
+    Ok(SoFar {
+        sets: f.sets + 1,
+        start: f.start + 2 * f.count,
+        count: 0,
+        begun: false,
+        ..f
+    })
 }
 
 // Reads the records from record `from` on, which follow the axis records of so many regions of `axes` axes.
@@ -186,29 +117,28 @@ pub fn read_sets(
     mode: u32,
     work: &mut [u32],
     t: SetTables,
-) -> SetsEnd
+) -> Result<SetCounts, Refused>
     requires from_le_records { (from ≤ records) × (record_start records ≤ length job.now) × (0 < axes) × (from % axes ≡ 0) }
     requires room { Room t records (length work.old) }
     requires holds { Holds work.old t (regions_only (region_list axes (from / axes) job.now)) 0 0 t.body 0 }
-    ensures { SetsRead axes mode job.now records from t work.old work.new result.no result.at result.sets result.values result.uses }
+    ensures { SetsRead axes mode job.now records from t work.old work.new result }
 {
     let mut f = begin(t.body);
-    let mut i = from;
-    while i < records {
-        f = read_record(job, axes, i, from, mode, work, t, f);
-        if f.no != 0 {
-            return refuse(f.no, i);
+    for i in from..records {
+        match read_record(job, axes, i, from, mode, work, t, f) {
+            Ok(next) => f = next,
+            Err(refusal) => return Err(Refused { refusal, place: i }),
         }
-        i += 1;
     }
-    if f.begun != 0 {
-        return refuse(Refusal::UNFINISHED, i);
+    if f.begun {
+        return Err(Refused {
+            refusal: Refusal::Unfinished,
+            place: records,
+        });
     }
-    SetsEnd {
-        no: 0,
-        at: 0,
+    Ok(SetCounts {
         sets: f.sets,
         values: f.values,
         uses: f.uses,
-    }
+    })
 }

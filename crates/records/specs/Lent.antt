@@ -1,5 +1,5 @@
 -- What the clauses of private functions cite. Assumes nothing.
-use Rattle.std.specs.Prelude.{List, [], ◌∷◌, ℕ, ◌+◌, ◌-◌, ◌%◌, get_or, eqb}
+use Rattle.std.specs.Prelude.{List, [], ◌∷◌, ℕ, ◌-◌, ◌%◌, eqb}
 use Rattle.laws.specs.Bounded.{tabulate}
 use Rattle.said.specs.Refusals.{first_failed, region_unfinished}
 
@@ -7,18 +7,15 @@ use Rattle.said.specs.Refusals.{first_failed, region_unfinished}
 abbrev pub between : ℕ → ℕ → List ℕ
 between a b = tabulate a (b - a) (λ k. k)
 
--- the bytes of an axis record, of a value record and of an end record that must be 0, added up
-abbrev pub axis_rest_sum : List ℕ → ℕ
-axis_rest_sum r = get_or r 10 0 + get_or r 11 0
+-- the bytes of an axis record, of a value record and of an end record that must be 0
+abbrev pub axis_zeros : List ℕ
+axis_zeros = 10 ∷ 11 ∷ []
 
-abbrev pub value_rest_sum : List ℕ → ℕ
-value_rest_sum r = get_or r 2 0 + get_or r 8 0 + get_or r 9 0 + get_or r 10 0 + get_or r 11 0
+abbrev pub value_zeros : List ℕ
+value_zeros = 2 ∷ 8 ∷ 9 ∷ 10 ∷ 11 ∷ []
 
-abbrev pub end_rest_sum : List ℕ → ℕ
-end_rest_sum r =
-    (get_or r 1 0 + get_or r 2 0 + get_or r 3 0 + get_or r 4 0 + get_or r 5 0)
-    + (get_or r 6 0 + get_or r 7 0 + get_or r 8 0 + get_or r 9 0 + get_or r 10 0)
-    + get_or r 11 0
+abbrev pub end_zeros : List ℕ
+end_zeros = 1 ∷ 2 ∷ 3 ∷ 4 ∷ 5 ∷ 6 ∷ 7 ∷ 8 ∷ 9 ∷ 10 ∷ 11 ∷ []
 
 -- R34 alone, of a value record or an end record behind so many axis records
 abbrev pub part_refusal : ℕ → ℕ → ℕ

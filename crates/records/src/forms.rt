@@ -1,25 +1,24 @@
 // The form of one record, by the bytes from its first one on: the byte that must be 0 and is not, and refusals 30 to 34.
-ghost use Rattle.std.specs.Prelude.{◌≡◌, true, ◌++◌, ℕ, ◌%◌, ◌<◌, ◌≤◌, length};
-ghost use Rattle.said.specs.Records.{record_bytes, kind, axis_kind, first_not_zero, first_wrong_byte};
+ghost use Rattle.std.specs.Prelude.{◌≡◌, true, ◌++◌, ℕ, ◌%◌, ◌<◌, ◌≤◌, length, eqb};
+ghost use Rattle.refusals.specs.Refusals.{number_in};
+ghost use Rattle.said.specs.Records.{record_bytes, first_not_zero, first_wrong_byte};
 ghost use Rattle.said.specs.Refusals.{in_turn, form_refusal};
-ghost use Rattle.records.specs.Lent.{between, axis_rest_sum, value_rest_sum, end_rest_sum, part_refusal};
+ghost use Rattle.records.specs.Lent.{between, axis_zeros, value_zeros, end_zeros, part_refusal};
 
-use crate::nth::Kind;
-use crate::{byte_wide, region_of, word};
+use crate::kinds::Kind;
+use crate::region_of;
 use limits::Limits;
-use said::Refusal;
+use refusals::{Refusal, ensure};
 
 // The first byte from `from` up to `to` that is not 0; 0 where all are.
 fn not_zero(rec: &[u8], from: usize, to: usize) -> usize
     requires { to ≤ length rec.now }
     ensures { result ≡ first_not_zero rec.now (between from to) }
 {
-    let mut b = from;
-    while b < to {
+    for b in from..to {
         if rec[b] != 0 {
             return b;
         }
-        b += 1;
     }
     0
 }
@@ -37,113 +36,84 @@ fn not_zero_in(rec: &[u8], from: usize, to: usize, then: usize, end: usize) -> u
 }
 
 // The first byte that must be 0 and is not; 0 where all are.
+#[tactic(auto, unfolding(said::specs::Records::first_wrong_byte, said::specs::Records::must_be_zero, said::specs::Records::first_not_zero, laws::specs::Bounded::tabulate))]
 pub fn wrong_byte(rec: &[u8]) -> usize
     requires { record_bytes ≤ length rec.now }
     ensures { result ≡ first_wrong_byte rec.now }
 {
-    let kind = rec[0];
-    if kind == Kind::VALUE {
-        return not_zero_in(rec, 2, 3, 8, 12);
+    match Kind::try_from(rec[0]) {
+        Ok(Kind::Value) => not_zero_in(rec, 2, 3, 8, 12),
+        Ok(Kind::End) => not_zero(rec, 1, 12),
+        Ok(Kind::Axis) => not_zero(rec, 10, 12),
+        Err(_) => 0,
     }
-    if kind == Kind::END {
-        return not_zero(rec, 1, 12);
-    }
-    if kind == Kind::AXIS {
-        return not_zero(rec, 10, 12);
-    }
-    0
 }
 
-// What the bytes that must be 0 add up to: whether all are is told at once, without a walk along them.
-fn axis_rest(rec: &[u8]) -> u32
+// Whether the bytes that must be 0 are: told at once by their sum, without a walk along them.
+#[tactic(auto, unfolding(said::specs::Records::first_not_zero))]
+fn axis_clean(rec: &[u8]) -> bool
     requires { record_bytes ≤ length rec.now }
-    ensures { result ≡ axis_rest_sum rec.now }
+    ensures { result ≡ eqb (first_not_zero rec.now axis_zeros) 0 }
 {
-    word(rec[10]) + word(rec[11])
+    rec[10] as u32 + rec[11] as u32 == 0
 }
 
-fn value_rest(rec: &[u8]) -> u32
+#[tactic(auto, unfolding(said::specs::Records::first_not_zero))]
+fn value_clean(rec: &[u8]) -> bool
     requires { record_bytes ≤ length rec.now }
-    ensures { result ≡ value_rest_sum rec.now }
+    ensures { result ≡ eqb (first_not_zero rec.now value_zeros) 0 }
 {
-    word(rec[2]) + word(rec[8]) + word(rec[9]) + word(rec[10]) + word(rec[11])
+    rec[2] as u32 + rec[8] as u32 + rec[9] as u32 + rec[10] as u32 + rec[11] as u32 == 0
 }
 
-fn end_rest(rec: &[u8]) -> u32
+#[tactic(auto, unfolding(said::specs::Records::first_not_zero))]
+fn end_clean(rec: &[u8]) -> bool
     requires { record_bytes ≤ length rec.now }
-    ensures { result ≡ end_rest_sum rec.now }
+    ensures { result ≡ eqb (first_not_zero rec.now end_zeros) 0 }
 {
-    let front = word(rec[1]) + word(rec[2]) + word(rec[3]) + word(rec[4]) + word(rec[5]);
-    let back = word(rec[6]) + word(rec[7]) + word(rec[8]) + word(rec[9]) + word(rec[10]);
-    front + back + word(rec[11])
+    let front = rec[1] as u32 + rec[2] as u32 + rec[3] as u32 + rec[4] as u32 + rec[5] as u32;
+    let back = rec[6] as u32 + rec[7] as u32 + rec[8] as u32 + rec[9] as u32 + rec[10] as u32;
+    front + back + rec[11] as u32 == 0
 }
 
 // An axis record is the next one after so many.
+#[tactic(auto, unfolding(said::specs::Refusals::in_turn))]
 fn in_turn(rec: &[u8], axes: usize, before: usize) -> bool
     requires { (0 < axes) × (record_bytes ≤ length rec.now) }
     ensures { result ≡ in_turn axes before rec.now }
 {
     let region = region_of(rec);
-    if Limits::REGIONS <= region {
-        return false;
-    }
-    if region != before / axes {
-        return false;
-    }
-    byte_wide(rec[2]) == before % axes
-}
-
-// Refusals 31 to 33, of an axis record.
-fn axis_no(rec: &[u8], axes: usize, before: usize, late: bool) -> usize
-    requires { (0 < axes) × (record_bytes ≤ length rec.now) × (kind rec.now ≡ axis_kind) }
-    ensures { result ≡ form_refusal axes before late rec.now }
-{
-    if axis_rest(rec) != 0 {
-        return Refusal::NOT_ZERO;
-    }
-    if !in_turn(rec, axes, before) {
-        return Refusal::AXIS_OUT_OF_TURN;
-    }
-    if late {
-        return Refusal::AXIS_TOO_LATE;
-    }
-    0
+    region < Limits::REGIONS && region == before / axes && rec[2] as usize == before % axes
 }
 
 // Refusal 34. A value or an end stands only behind whole regions, so that one that is late need not divide.
-fn part_no(axes: usize, before: usize, late: bool) -> usize
+#[tactic(auto, unfolding(said::specs::Refusals::first_failed))]
+fn whole_regions(axes: usize, before: usize, late: bool) -> Result<(), Refusal>
     requires { (0 < axes) × (late ≡ true → before % axes ≡ 0) }
-    ensures { result ≡ part_refusal axes before }
+    ensures { number_in result ≡ part_refusal axes before }
 {
-    if late {
-        return 0;
-    }
-    if before % axes != 0 {
-        return Refusal::REGION_UNFINISHED;
-    }
-    0
+    ensure(late || before % axes == 0, Refusal::RegionUnfinished)
 }
 
 // Refusals 30 to 34, by the kind: nearly all records of a job are values.
-pub fn form_no(rec: &[u8], axes: usize, before: usize, late: bool) -> usize
+#[tactic(auto, unfolding(said::specs::Refusals::form_refusal, said::specs::Refusals::first_failed, said::specs::Records::first_wrong_byte, said::specs::Records::must_be_zero))]
+pub fn check_form(rec: &[u8], axes: usize, before: usize, late: bool) -> Result<(), Refusal>
     requires { (0 < axes) × (record_bytes ≤ length rec.now) × (late ≡ true → before % axes ≡ 0) }
-    ensures { result ≡ form_refusal axes before late rec.now }
+    ensures { number_in result ≡ form_refusal axes before late rec.now }
 {
-    let kind = rec[0];
-    if kind == Kind::VALUE {
-        if value_rest(rec) != 0 {
-            return Refusal::NOT_ZERO;
+    match Kind::try_from(rec[0])? {
+        Kind::Value => {
+            ensure(value_clean(rec), Refusal::NotZero)?;
+            whole_regions(axes, before, late)
         }
-        return part_no(axes, before, late);
-    }
-    if kind == Kind::END {
-        if end_rest(rec) != 0 {
-            return Refusal::NOT_ZERO;
+        Kind::End => {
+            ensure(end_clean(rec), Refusal::NotZero)?;
+            whole_regions(axes, before, late)
         }
-        return part_no(axes, before, late);
+        Kind::Axis => {
+            ensure(axis_clean(rec), Refusal::NotZero)?;
+            ensure(in_turn(rec, axes, before), Refusal::AxisOutOfTurn)?;
+            ensure(!late, Refusal::AxisTooLate)
+        }
     }
-    if kind == Kind::AXIS {
-        return axis_no(rec, axes, before, late);
-    }
-    Refusal::UNKNOWN_KIND
 }

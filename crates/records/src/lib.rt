@@ -2,6 +2,7 @@
 #![tactic(auto)]
 
 mod forms;
+mod kinds;
 mod nth;
 mod places;
 
@@ -9,25 +10,13 @@ ghost use Rattle.std.specs.Prelude.{◌≡◌, ℕ, ◌+◌, ◌<◌, ◌≤◌,
 ghost use Rattle.laws.specs.Bytes.{be};
 ghost use Rattle.said.specs.Records.{record_bytes, region_number, value_as_word};
 
+pub use crate::kinds::Kind;
 pub use crate::nth::{
-    Kind, byte_at, end_at, form_at, kind_at, peak_at, region_at, start_at, word_at,
+    byte_at, check_record, end_at, is_kind, peak_at, region_at, start_at, word_at,
 };
 pub use crate::places::{
     COORDS_LONG, are_records, axis_coords, coordinate, coords_start, records_in, region_long,
 };
-
-// A byte as an index, and as a word.
-fn byte_wide(b: u8) -> usize
-    ensures { result ≡ b }
-{
-    b as usize
-}
-
-fn word(b: u8) -> u32
-    ensures { result ≡ b }
-{
-    b as u32
-}
 
 // The number of the two bytes from p on.
 fn two_bytes(rec: &[u8], p: usize) -> u32
@@ -35,7 +24,7 @@ fn two_bytes(rec: &[u8], p: usize) -> u32
     ensures value { result ≡ be 2 rec.now p }
     ensures upper_bound { result < 65536 }
 {
-    word(rec[p]) * 256 + word(rec[p + 1])
+    rec[p] as u32 * 256 + rec[p + 1] as u32
 }
 
 // The word of a value record's value: two's complement with the sign bit turned.
@@ -55,5 +44,5 @@ fn region_of(rec: &[u8]) -> usize
     requires { record_bytes ≤ length rec.now }
     ensures { result ≡ region_number rec.now }
 {
-    byte_wide(rec[3]) * 256 + byte_wide(rec[1])
+    rec[3] as usize * 256 + rec[1] as usize
 }

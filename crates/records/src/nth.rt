@@ -1,53 +1,51 @@
 // Record i of a job: its kind, its form, its region and its value.
-ghost use Rattle.std.specs.Prelude.{◌≡◌, true, ℕ, ◌+◌, ◌*◌, ◌%◌, ◌<◌, ◌≤◌, length};
+ghost use Rattle.std.specs.Prelude.{◌≡◌, true, ℕ, ◌+◌, ◌*◌, ◌%◌, ◌<◌, ◌≤◌, length, eqb};
+ghost use Rattle.refusals.specs.Refusals.{number, number_in};
 ghost use Rattle.said.specs.Records.{record_start, record_at, kind, region_number, start_of, peak_of, end_of, value_as_word};
 ghost use Rattle.said.specs.Refusals.{not_zero, form_refusal, byte_of};
+ghost use Rattle.records.specs.Kinds.{code_of};
 
-use crate::forms::{form_no, wrong_byte};
+use crate::forms::{check_form, wrong_byte};
+use crate::kinds::Kind;
 use crate::{region_of, two_bytes, value_word};
-use said::Refusal;
+use refusals::Refusal;
 
 // The bytes of a record.
 pub const BYTES: usize = 12;
 
-// The kinds of records.
-#[derive(Drop)]
-pub struct Kind {}
-
-impl Kind {
-    pub const AXIS: u8 = 1;
-
-    pub const VALUE: u8 = 2;
-
-    pub const END: u8 = 3;
-}
-
-pub fn kind_at(job: &[u8], i: usize) -> u8
+// Record i is of that kind.
+pub fn is_kind(job: &[u8], i: usize, wanted: Kind) -> bool
     requires { record_start (i + 1) ≤ length job.now }
-    ensures { result ≡ kind (record_at job.now i) }
+    ensures { result ≡ eqb (kind (record_at job.now i)) (code_of wanted) }
 {
-    job[BYTES * i]
+    job[BYTES * i] == wanted as u8
 }
 
 // Refusals 30 to 34, of a record behind so many axis records; `late` where a value or an end stands before it.
-pub fn form_at(job: &[u8], axes: usize, i: usize, before: usize, late: bool) -> usize
+pub fn check_record(
+    job: &[u8],
+    axes: usize,
+    i: usize,
+    before: usize,
+    late: bool,
+) -> Result<(), Refusal>
     requires { (0 < axes) × (record_start (i + 1) ≤ length job.now) × (late ≡ true → before % axes ≡ 0) }
-    ensures { result ≡ form_refusal axes before late (record_at job.now i) }
+    ensures { number_in result ≡ form_refusal axes before late (record_at job.now i) }
 {
-    form_no(&job[BYTES * i..], axes, before, late)
+    check_form(&job[BYTES * i..], axes, before, late)
 }
 
-// The byte that refusal `no` names within record `at`.
-pub fn byte_at(job: &[u8], no: usize, at: usize) -> usize
-    requires { no ≡ not_zero → record_start (at + 1) ≤ length job.now }
-    ensures { result ≡ byte_of no (record_at job.now at) }
+// The byte that a refusal names within record `at`.
+#[tactic(auto, unfolding(said::specs::Refusals::byte_of))]
+pub fn byte_at(job: &[u8], refusal: Refusal, at: usize) -> usize
+    requires { number refusal ≡ not_zero → record_start (at + 1) ≤ length job.now }
+    ensures { result ≡ byte_of (number refusal) (record_at job.now at) }
 {
-    if no != Refusal::NOT_ZERO {
-        return 0;
+    match refusal {
+        Refusal::NotZero => wrong_byte(&job[BYTES * at..]),
+        _ => 0,
     }
-    wrong_byte(&job[BYTES * at..])
 }
-
 // The region that a value record names.
 pub fn region_at(job: &[u8], i: usize) -> usize
     requires { record_start (i + 1) ≤ length job.now }

@@ -14,12 +14,17 @@ use Rattle.laws.specs.Signed.{zero_word}
 use Rattle.laws.proofs.Cases.{same_or_not}
 use Rattle.laws.proofs.RangeLaws.{only-refl, only-trans, only-weaken}
 use Rattle.sets.specs.Lent.{entries, entries_at, count_of, set_of}
+use Rattle.std.specs.Prelude.{Ok, Err}
+use Rattle.refusals.specs.declared.Refusal.{Refusal}
+use Rattle.refusals.specs.declared.Refusal.TheVariants.{UnknownRegion, RegionTwice}
+use Rattle.refusals.specs.Refusals.{number}
 use Rattle.values.specs.declared.tables.SetTables.{SetTables}
+use Rattle.values.specs.declared.values.Took.{Took}
 use Rattle.said.specs.Sets.{has, with_use, index_in, with_value, first_like}
 use Rattle.said.specs.Job.{Said, after_value}
 use Rattle.values.specs.Lent.{Stamps, Uses, UsedNow, PutEntry, Holds, ValueFits, PutValue, TookValue}
 use Rattle.said.specs.Records.{region_number, value_as_word}
-use Rattle.said.specs.Refusals.{unknown_region, region_twice, value_no}
+use Rattle.said.specs.Refusals.{value_no}
 use Rattle.said.proofs.RecordLaws.{value-unknown, value-twice, value-passed}
 use Rattle.entries.specs.Lent.{entries_in_order}
 use Rattle.entries.proofs.EntryLaws.{entries-kept}
@@ -145,10 +150,9 @@ module _ {t : SetTables} {s : Said} {sets uses start count : ℕ} {w : List ℕ}
           good = good-value s q v h.good n;
         }
 
-    pub zero-put : v ≡ zero_word → PutValue q v t s sets uses start count w w₂ 0 uses' count
+    pub zero-put : v ≡ zero_word → PutValue q v t s sets uses start count w w₂ (record { uses = uses'; count = count })
     unfolding with_value
     zero-put z = record {
-      no-is = refl;
       now-holds = λ n. after w₂ count n (λ j l. kept₂ j (omega (arith, f.body-in))) first₂ stamps₂ u.uses (rw (eq-eqb v zero_word z) begun₂);
       only = only₂;
       uses-few = uses-low;
@@ -171,10 +175,9 @@ module _ {t : SetTables} {s : Said} {sets uses start count : ℕ} {w : List ℕ}
         table = λ x l. kept₃ (t.used + x) (omega arith) ∙ u.uses.table x l;
       }
 
-      pub value-put : (v ≡ zero_word → ⊥) → PutValue q v t s sets uses start count w w₃ 0 uses' (count + 1)
+      pub value-put : (v ≡ zero_word → ⊥) → PutValue q v t s sets uses start count w w₃ (record { uses = uses'; count = count + 1 })
       unfolding with_value
       value-put z = record {
-        no-is = refl;
         now-holds = λ n. after w₃ (count + 1) n low₃ high₃
             (stamps-kept t.stamp t.regions (sets + 1) (q ∷ s.named) w₂ w₃ (λ j x y. kept₃ j (omega (arith, f.used-in, f.slot-to))) stamps₂)
             uses₃ (rw (ne_eqb v zero_word z) (ap entries_in_order p.is ∙ in-order-entry k v (entries start count w₂) ∙ rw (begun₂, u.index)));
@@ -186,36 +189,29 @@ module _ {t : SetTables} {s : Said} {sets uses start count : ℕ} {w : List ℕ}
 -- ---- a value record
 
 module _ {t : SetTables} {s : Said} {sets uses start count : ℕ} {w : List ℕ} (h : Holds w t s sets uses start count) (r : List ℕ) where
-  stopped : (nr : ℕ) → nr ≡ value_no r (length s.regions) (has (first_like s.regions (region_number r)) s.named) → (nr ≡ 0 → ⊥)
-      → TookValue r t s sets uses start count w w nr uses count
-  stopped nr e z = record {
-    no-is = e;
-    now-holds = λ y. absurd (z y);
-    only = only-refl ((0, t.first) ∷ []) w;
-    uses-few = omega arith;
-    count-few = omega arith;
-  }
+  stopped : (x : Refusal) → number x ≡ value_no r (length s.regions) (has (first_like s.regions (region_number r)) s.named)
+      → TookValue r t s sets uses start count w w (Err x)
+  stopped x e = record { number_is = e; now-holds = tt; only = only-refl ((0, t.first) ∷ []) w; uses-few = tt; count-few = tt }
 
-  pub took-unknown : t.regions ≤ region_number r → TookValue r t s sets uses start count w w unknown_region uses count
-  took-unknown l = stopped unknown_region (value-unknown r (length s.regions) _ (omega (arith, h.regions-are))) (λ e. omega arith)
+  pub took-unknown : t.regions ≤ region_number r → TookValue r t s sets uses start count w w (Err UnknownRegion)
+  took-unknown l = stopped UnknownRegion (value-unknown r (length s.regions) _ (omega (arith, h.regions-are)))
 
   module _ (l : region_number r < t.regions) (mark : ℕ) (m : mark ≡ sets + 1) (q : ℕ) (e : q ≡ get_or w (t.first + region_number r) 0) where
     named-is : eqb (get_or w (t.stamp + q) 0) mark ≡ has (first_like s.regions (region_number r)) s.named
     named-is = rw (m, e) (h.stamps.here (get_or w (t.first + region_number r) 0) (h.firsts-low (region_number r) l) ∙ rw (h.firsts (region_number r) l))
 
-    pub took-twice : get_or w (t.stamp + q) 0 ≡ mark → TookValue r t s sets uses start count w w region_twice uses count
-    took-twice y =
-        stopped region_twice (value-twice r (length s.regions) _ (omega (arith, h.regions-are)) (sym named-is ∙ eq-eqb (get_or w (t.stamp + q) 0) mark y)) (λ x. omega arith)
+    pub took-twice : get_or w (t.stamp + q) 0 ≡ mark → TookValue r t s sets uses start count w w (Err RegionTwice)
+    took-twice y = stopped RegionTwice (value-twice r (length s.regions) _ (omega (arith, h.regions-are)) (sym named-is ∙ eq-eqb (get_or w (t.stamp + q) 0) mark y))
 
     pub took-on : (get_or w (t.stamp + q) 0 ≡ mark → ⊥)
-        → (v : ℕ) → v ≡ value_as_word r → (w' : List ℕ) (nr uses' count' : ℕ) → PutValue q v t s sets uses start count w w' nr uses' count'
-        → TookValue r t s sets uses start count w w' nr uses' count'
-    took-on d v x w' nr uses' count' p =
+        → (v : ℕ) → v ≡ value_as_word r → (w' : List ℕ) (k : Took) → PutValue q v t s sets uses start count w w' k
+        → TookValue r t s sets uses start count w w' (Ok k)
+    took-on d v x w' k p =
         let f : q ≡ first_like s.regions (region_number r) = e ∙ h.firsts (region_number r) l in
         let n : has (first_like s.regions (region_number r)) s.named ≡ false = sym named-is ∙ ne_eqb (get_or w (t.stamp + q) 0) mark d in
         record {
-          no-is = p.no-is ∙ value-passed r (length s.regions) _ (omega (arith, h.regions-are)) n;
-          now-holds = λ _. rw (← x, ← f) (p.now-holds (rw f n));
+          number_is = value-passed r (length s.regions) _ (omega (arith, h.regions-are)) n;
+          now-holds = rw (← x, ← f) (p.now-holds (rw f n));
           only = p.only;
           uses-few = p.uses-few;
           count-few = p.count-few;

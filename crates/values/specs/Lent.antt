@@ -1,5 +1,5 @@
 -- What lent words hold of a job so far: the promises of `src/`, which no reader of docs/RULES.md needs.
-use Rattle.std.specs.Prelude.{◌≡◌, false, List, [], ◌∷◌, ◌++◌, ℕ, suc, ◌+◌, ◌*◌, ◌≤◌, ◌<◌, length, get_or, eqb}
+use Rattle.std.specs.Prelude.{◌≡◌, false, List, [], ◌∷◌, ◌++◌, ℕ, suc, ◌+◌, ◌*◌, ◌≤◌, ◌<◌, length, get_or, eqb, Result, IfOk}
 use Rattle.laws.specs.Pick.{pick}
 use Rattle.laws.specs.Every.{All, EachTwo}
 use Rattle.laws.specs.LentRange.{Only}
@@ -9,7 +9,10 @@ use Rattle.said.specs.Records.{region_number, value_as_word}
 use Rattle.said.specs.Refusals.{value_no}
 use Rattle.said.specs.Job.{Said, after_value, after_end}
 use Rattle.limits.specs.Limits.{most_records}
+use Rattle.refusals.specs.declared.Refusal.{Refusal}
+use Rattle.refusals.specs.Refusals.{number_in}
 use Rattle.values.specs.declared.tables.SetTables.{SetTables}
+use Rattle.values.specs.declared.values.Took.{Took}
 use Rattle.said.specs.Sets.{first_like, has, with_use, index_in}
 use Rattle.said.specs.LentGood.{SetsGood}
 
@@ -70,21 +73,20 @@ pub record ValueFits (w : List ℕ) (t : SetTables) (uses start count : ℕ) : T
   pub few : uses < 4294967295
   pub regions-few : t.regions ≤ most_records
 
--- a value record of the bytes r was refused by `no`, or (no is 0) is held now
-pub record TookValue (r : List ℕ) (t : SetTables) (s : Said) (sets uses start count : ℕ) (old new : List ℕ) (no uses' count' : ℕ) : Type 0 where
-  pub no-is : no ≡ value_no r (length s.regions) (has (first_like s.regions (region_number r)) s.named)
-  pub now-holds : no ≡ 0 → Holds new t (after_value s (first_like s.regions (region_number r)) (value_as_word r)) sets uses' start count'
+-- a value record of the bytes r was refused, or is held now
+pub record TookValue (r : List ℕ) (t : SetTables) (s : Said) (sets uses start count : ℕ) (old new : List ℕ) (k : Result Took Refusal) : Type 0 where
+  pub number_is : number_in k ≡ value_no r (length s.regions) (has (first_like s.regions (region_number r)) s.named)
+  pub now-holds : IfOk k (λ k. Holds new t (after_value s (first_like s.regions (region_number r)) (value_as_word r)) sets k.uses start k.count)
   pub only : Only ((0, t.first) ∷ []) old new
-  pub uses-few : uses' ≤ uses + 1
-  pub count-few : count' ≤ count + 1
+  pub uses-few : IfOk k (λ k. k.uses ≤ uses + 1)
+  pub count-few : IfOk k (λ k. k.count ≤ count + 1)
 
 -- the word v of a value of region q, which the set has not named, is held now
-pub record PutValue (q v : ℕ) (t : SetTables) (s : Said) (sets uses start count : ℕ) (old new : List ℕ) (no uses' count' : ℕ) : Type 0 where
-  pub no-is : no ≡ 0
-  pub now-holds : has q s.named ≡ false → Holds new t (after_value s q v) sets uses' start count'
+pub record PutValue (q v : ℕ) (t : SetTables) (s : Said) (sets uses start count : ℕ) (old new : List ℕ) (k : Took) : Type 0 where
+  pub now-holds : has q s.named ≡ false → Holds new t (after_value s q v) sets k.uses start k.count
   pub only : Only ((0, t.first) ∷ []) old new
-  pub uses-few : uses' ≤ uses + 1
-  pub count-few : count' ≤ count + 1
+  pub uses-few : k.uses ≤ uses + 1
+  pub count-few : k.count ≤ count + 1
 
 -- what a use changes, and that an index is a word
 pub record UseKept (slot used regions count : ℕ) (old new : List ℕ) (r : ℕ) : Type 0 where

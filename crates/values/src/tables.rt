@@ -2,11 +2,9 @@
 ghost use Rattle.std.specs.Prelude.{◌≡◌, List, ℕ, ◌+◌, ◌*◌, ◌<◌, ◌≤◌, length};
 ghost use Rattle.values.specs.Lent.{Uses, UsedNow, UseKept, PutEntry};
 
-use laws::wide;
-
 // Where the tables stand in work: rows and entries of the sets; regions in use by index; for each region its index and one, the last set
 // that named it, and the first region like it.
-#[derive(Clone, Copy)]
+#[derive(Clone, Copy, Debug, PartialEq, Eq)]
 pub struct SetTables {
     pub rows: usize,
     pub body: usize,
@@ -31,7 +29,7 @@ pub fn use_region(
     ensures by_index { (l : List ℕ) → length l ≡ count → Uses work.old slot used regions l → UsedNow slot used regions count q l work.old work.new result }
     ensures use_kept { UseKept slot used regions count work.old work.new result }
 {
-    let s = wide(work[slot + q]);
+    let s = work[slot + q] as usize;
     if s != 0 {
         return s - 1;
     }

@@ -5,17 +5,15 @@ ghost use Rattle.said.specs.Job.{Said};
 ghost use Rattle.values.specs.Lent.{Holds, ValueFits, PutValue, TookValue};
 
 use crate::tables::{SetTables, put_entry, use_region};
-use laws::wide;
 use records::{region_at, word_at};
-use said::Refusal;
+use refusals::Refusal;
 
 // The word of zero, which sets drop.
 const ZERO: u32 = 0x8000_0000;
 
-// A refusal number, or 0; the regions in use then, and the entries of the set.
-#[derive(Clone, Copy)]
+// The regions in use with a value, and the entries of its set.
+#[derive(Clone, Copy, Debug, PartialEq, Eq)]
 pub struct Took {
-    pub no: usize,
     pub uses: usize,
     pub count: usize,
 }
@@ -46,21 +44,19 @@ fn put_value(
     requires value_fits { ValueFits work.old t uses start count }
     requires q_lt_regions { q < t.regions }
     ensures { (s : Said) (sets : ℕ) → mark ≡ sets + 1 → Holds work.old t s sets uses start count
-        → PutValue q v t s sets uses start count work.old work.new result.no result.uses result.count }
+        → PutValue q v t s sets uses start count work.old work.new result }
 {
     let stamp = t.stamp;
     work[stamp + q] = mark;
     let k = use_region(work, t.slot, t.regions, t.used, uses, q);
     if v == ZERO {
         return Took {
-            no: 0,
             uses: grown(uses, k),
             count,
         };
     }
     put_entry(work, start, count, k as u32, v);
     Took {
-        no: 0,
         uses: grown(uses, k),
         count: count + 1,
     }
@@ -76,29 +72,21 @@ pub fn take_value(
     uses: usize,
     start: usize,
     count: usize,
-) -> Took
+) -> Result<Took, Refusal>
     requires i_in_bounds { record_start (i + 1) ≤ length job.now }
     requires value_fits { ValueFits work.old t uses start count }
     ensures { (s : Said) (sets : ℕ) → mark ≡ sets + 1 → Holds work.old t s sets uses start count
-        → TookValue (record_at job.now i) t s sets uses start count work.old work.new result.no result.uses result.count }
+        → TookValue (record_at job.now i) t s sets uses start count work.old work.new result }
 {
     let r = region_at(job, i);
     if t.regions <= r {
-        return Took {
-            no: Refusal::UNKNOWN_REGION,
-            uses,
-            count,
-        };
+        return Err(Refusal::UnknownRegion);
     }
     let first = t.first;
-    let q = wide(work[first + r]);
+    let q = work[first + r] as usize;
     let stamp = t.stamp;
     if work[stamp + q] == mark {
-        return Took {
-            no: Refusal::REGION_TWICE,
-            uses,
-            count,
-        };
+        return Err(Refusal::RegionTwice);
     }
-    put_value(work, t, q, word_at(job, i), mark, uses, start, count)
+    Ok(put_value(work, t, q, word_at(job, i), mark, uses, start, count))
 }
