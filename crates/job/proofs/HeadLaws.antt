@@ -1,8 +1,9 @@
 -- The run of axis records at a job's head, counted record by record. Assumes nothing.
-use mathlib.Core.Path.{◌≡◌, refl, ap, ◌∙◌}
-use mathlib.Core.Logic.{◌≢◌}
+use mathlib.Core.Path.{◌≡◌, refl, sym, ap, ◌∙◌}
+use Rattle.std.proofs.lemmas.Grind.{div_ceil_times}
+use Rattle.std.proofs.lemmas.Nat.{div-mul-add}
 use mathlib.Core.List.{List}
-use Prim.Native.Nat.{ℕ, ◌+◌, ◌-◌, ◌*◌, ◌/◌, ◌≤◌, ◌<◌, min}
+use Prim.Native.Nat.{ℕ, ◌+◌, ◌-◌, ◌*◌, ◌/◌, ◌%◌, ◌≤◌, ◌<◌, min}
 use native.Mathlib.Omega.{arith}
 use lib.ListN.{drop}
 use lib.Seq.{drop-drop}
@@ -14,7 +15,7 @@ use Rattle.said.proofs.WorkLaws.{run-axis, run_ends, run-most}
 
 -- the first i records are axis records
 pub record Heading (job : List ℕ) (records i : ℕ) : Type 0 where
-  within : i ≤ records
+  pub within : i ≤ records
   is : axis_run job records ≡ i + axis_run (record_at job i) (records - i)
 
 next : (job : List ℕ) (i : ℕ) → after_record (record_at job i) ≡ record_at job (i + 1)
@@ -45,18 +46,16 @@ module _ {job : List ℕ} {records i : ℕ} (h : Heading job records i) where
 
 -- ---- the regions that the run is
 
-module _ (axes : ℕ) (job : List ℕ) where
-  pub no-axes : axes ≡ 0 → 0 ≡ regions_at_head axes job
-  unfolding regions_at_head
-  no-axes e = rw (eq-eqb axes 0 e) refl
+-- rounding up, as the definition writes it
+rounds : (a b : ℕ) → 0 < b → a / b + min 1 (a % b) ≡ (a + (b - 1)) / b
+rounds a b h =
+    let d = a / b + min 1 (a % b) in
+    let t = div_ceil_times a b h in
+    let s = a + (b - 1) - d * b in
+    let e : a + (b - 1) ≡ d * b + s = omega (arith, t.0, t.1) in
+    sym (ap (λ (x : ℕ). x / b) e ∙ div-mul-add d b s (omega (arith, t.0, t.1)))
 
-  module _ (some : axes ≢ 0) {wide run regions : ℕ} (w : wide ≡ axes) (r : run ≡ axis_run job (record_count job)) (q : regions ≡ (run + (wide - 1)) / wide) where
-    rounded : regions_at_head axes job ≡ min regions max_regions
-    unfolding regions_at_head
-    rounded = rw (ne_eqb axes 0 some, q, w, r) refl
-
-    pub too_many : max_regions < regions → max_regions ≡ regions_at_head axes job
-    too_many l = omega (arith, rounded)
-
-    pub not-many : (max_regions < regions → ⊥) → regions ≡ regions_at_head axes job
-    not-many l = omega (arith, rounded)
+pub head_is : (axes : ℕ) (job : List ℕ) → (axes ≡ 0 → ⊥) → {run regions : ℕ} → run ≡ axis_run job (record_count job) → regions ≡ run / axes + min 1 (run % axes)
+    → min regions max_regions ≡ regions_at_head axes job
+unfolding regions_at_head
+head_is axes job h {run} r q = rw (ne_eqb axes 0 h, ← r, q, rounds run axes (omega arith)) refl

@@ -15,7 +15,10 @@ use Rattle.sets.proofs.HeldLaws.{sets-length, sets-at}
 use Rattle.values.specs.declared.tables.SetTables.{SetTables}
 use Rattle.said.specs.Sets.{region_list, first_like, has}
 use Rattle.said.specs.Job.{regions_only}
-use Rattle.job_scan.specs.LentAxes.{AxesRead}
+use Rattle.std.specs.Prelude.{Result, Ok, Err}
+use Rattle.refusals.specs.declared.Refused.{Refused}
+use Rattle.job_scan.specs.declared.reading.SetCounts.{SetCounts}
+use Rattle.job_scan.specs.LentAxes.{AxesEnd, AxesRead}
 use Rattle.values.specs.Lent.{slot_in, Holds}
 use Rattle.job_scan.specs.Lent.{FirstsOf, Room, SetsHeld, SetsRead}
 use Rattle.limits.specs.Limits.{most_records}
@@ -99,23 +102,24 @@ regions-fit a b records h = omega (arith, div-le_self a b)
 
 -- ---- after the last record
 
-module _ (axes mode : ℕ) (job : List ℕ) (records nr at : ℕ) (old mid new : List ℕ) (a : AxesRead axes job records nr at) (p : Prepared axes (at / axes) records job old mid) where
+module _ (axes mode : ℕ) (job : List ℕ) (records at : ℕ) (old mid new : List ℕ) (a : AxesEnd axes job records at) (p : Prepared axes (at / axes) records job old mid) where
   abbrev tables : SetTables
   tables = set_tables_at records axes (at / axes)
 
-  module _ (nr' at' sets values uses : ℕ) (r : SetsRead axes mode job records at tables mid new nr' at' sets values uses) (g : nr ≡ 0)
+  module _ (long : length new ≡ length mid)
       (room : 16 * records ≤ length old) (small : at / axes * (6 * axes) ≤ 6 * records) (fits : at / axes ≤ records) where
-    job-held : SetsHeld axes mode job records at tables new sets values uses → JobHeld axes mode job records new (at / axes) sets values uses
+    job-held : (c : SetCounts) → SetsHeld axes mode job records at tables new c
+        → JobHeld axes mode job records new (record { regions = at / axes; sets = c.sets; values = c.values; uses = c.uses })
     unfolding set_tables_at
-    job-held s = record {
+    job-held c s = let sets = c.sets in let uses = c.uses in record {
       said = s.said;
-      is = a.good g mode ∙ s.is;
+      is = a.good mode ∙ s.is;
       regions-are = s.held.regions-are;
       sets-are = ext_get_or [] (sets_in 0 sets new) s.said.sets (sets-length 0 sets new ∙ sym s.held.sets-count)
           (λ k l. let q : k < sets = omega (arith, sets-length 0 sets new) in sets-at 0 sets new k q ∙ s.held.rows_are k q);
       values-are = s.values-are;
       used-are =
-          let long : 4 * records + uses ≤ length new = (let x = length-new in let y = uses-few s in omega arith) in
+          let long : 4 * records + uses ≤ length new = (let x = length-new in let y = s.uses-few in omega arith) in
           ext_get_or 0 (seg (4 * records) uses new) s.said.used (length-seg (4 * records) uses new long ∙ sym s.held.uses-count)
           (λ k l.
           let q : k < uses = omega (arith, length-seg (4 * records) uses new long) in
@@ -131,22 +135,26 @@ module _ (axes mode : ℕ) (job : List ℕ) (records nr at : ℕ) (old mid new :
     }
       where
         length-new : length new ≡ length old
-        length-new = r.only.long ∙ p.only.long
+        length-new = long ∙ p.only.long
 
-        uses-few : SetsHeld axes mode job records at tables new sets values uses → uses ≤ records
-        uses-few h = h.uses-few
-
-    pub job_read : JobRead axes mode job records old new nr' at' (at / axes) sets values uses
+    pub job_read : (r : Result SetCounts Refused) → SetsRead axes mode job records at tables mid new r
+        → (c : SetCounts) → r ≡ Ok c → JobRead axes mode job records old new (Ok (record { regions = at / axes; sets = c.sets; values = c.values; uses = c.uses }))
     unfolding set_tables_at
-    job_read = record {
-      bad = λ d. a.good g mode ∙ r.bad d;
-      good = λ e. job-held (r.good e);
-      only = only-trans p.only (only-weaken (λ j o. (record { apart = λ q. omega (arith, o.0.apart (omega arith)) }, tt)) r.only);
+    job_read r h c e = record {
+      is = job-held c (rw e at h.is);
+      only = only-trans p.only (only-weaken (λ j o. (record { apart = λ q. omega (arith, o.0.apart (omega arith)) }, tt)) h.only);
     }
 
-pub job-refused : (axes mode : ℕ) (job : List ℕ) (records nr at : ℕ) (old : List ℕ) → AxesRead axes job records nr at → (nr ≡ 0 → ⊥)
-    → JobRead axes mode job records old old nr at 0 0 0 0
-job-refused axes mode job records nr at old a z = record { bad = λ d. a.bad d mode; good = λ e. absurd (z e); only = only-refl ((0, 16 * records) ∷ []) old }
+  pub sets-refused : (r : Result SetCounts Refused) → SetsRead axes mode job records at tables mid new r → (x : Refused) → r ≡ Err x → JobRead axes mode job records old new (Err x)
+  unfolding set_tables_at
+  sets-refused r h x e = record {
+    is = a.good mode ∙ (rw e at h.is);
+    only = only-trans p.only (only-weaken (λ j o. (record { apart = λ q. omega (arith, o.0.apart (omega arith)) }, tt)) h.only);
+  }
+
+pub axes-refused : (axes mode : ℕ) (job : List ℕ) (records : ℕ) (old : List ℕ) (r : Result ℕ Refused) (x : Refused) → AxesRead axes job records r → r ≡ Err x
+    → JobRead axes mode job records old old (Err x)
+axes-refused axes mode job records old r x a e = record { is = (rw e at a).1 mode; only = only-refl ((0, 16 * records) ∷ []) old }
 
 -- the tables as the code makes them
 pub ready : (t : SetTables) (axes regions records : ℕ) (job old new : List ℕ) → t ≡ set_tables_at records axes regions → Prepared axes regions records job old new
@@ -154,15 +162,6 @@ pub ready : (t : SetTables) (axes regions records : ℕ) (job old new : List ℕ
 unfolding set_tables_at
 ready t axes regions records job old new e p =
     subst (λ (x : SetTables). Room x records (length new) × Holds new x (regions_only (region_list axes regions job)) 0 0 x.body 0) (sym e) (p.room, p.holds)
-
-pub job-read-by : (t : SetTables) (axes mode : ℕ) (job : List ℕ) (records nr at : ℕ) (old mid new : List ℕ) → t ≡ set_tables_at records axes (at / axes)
-    → AxesRead axes job records nr at → Prepared axes (at / axes) records job old mid
-    → (nr' at' sets values uses : ℕ) → SetsRead axes mode job records at t mid new nr' at' sets values uses → nr ≡ 0 → 16 * records ≤ length old
-    → JobRead axes mode job records old new nr' at' (at / axes) sets values uses
-job-read-by t axes mode job records nr at old mid new e a p nr' at' sets values uses r g room =
-    job_read axes mode job records nr at old mid new a p nr' at' sets values uses
-    (subst (λ (x : SetTables). SetsRead axes mode job records at x mid new nr' at' sets values uses) e r) g room
-    (omega (arith, span at axes 6, a.within)) (regions-fit at axes records a.within)
 
 -- the published work has the words of the tables
 pub work-enough : (n r work : ℕ) → published_work n r ≤ work → 16 * n ≤ work

@@ -1,14 +1,25 @@
 -- What looking at a job answers, and what it leaves in work (RULES R1 to R9, L2).
-use Rattle.std.specs.Prelude.{List, ℕ, eqb, length, replicate}
+use Rattle.std.specs.Prelude.{List, ℕ, eqb, length, replicate, Result, Ok, Err}
+use Rattle.refusals.specs.declared.Refused.{Refused}
+use Rattle.refusals.specs.Refusals.{number}
 use Rattle.laws.specs.Pick.{pick}
 use Rattle.said.specs.Refusals.{early_refusal}
 use Rattle.said.specs.Job.{Outcome, refused, fine}
-use Rattle.job.specs.declared.checking.Checked.{Checked}
-use Rattle.job.specs.declared.checking.Checked.TheVariants.{Refused, Sound}
+use Rattle.job.specs.declared.whole.JobCounts.{JobCounts}
+
+-- a refusal's number and place, or the numbers of regions, sets and values
+pub data Checked : Type 0 where
+  turned_down : ℕ → ℕ → Checked
+  sound : ℕ → ℕ → ℕ → Checked
+
+-- of what the code answers
+unfoldable pub checked : Result JobCounts Refused → Checked
+checked (Ok c) = sound c.regions c.sets c.values
+checked (Err x) = turned_down (number x.refusal) x.place
 
 unfoldable pub checked_of : Outcome → Checked
-checked_of (refused n i) = Refused n i
-checked_of (fine s) = Sound (length s.regions) (length s.sets) s.values
+checked_of (refused n i) = turned_down n i
+checked_of (fine s) = sound (length s.regions) (length s.sets) s.values
 
 -- work is left by R1 to R4, and all zeros after any other answer (L2)
 unfoldable pub work_left : (axes mode : ℕ) (job : List ℕ) (pairs : ℕ) (work : List ℕ) → List ℕ

@@ -1,9 +1,12 @@
 -- What lent words hold of a whole job: the promises of `src/`, which no reader of docs/RULES.md needs.
-use Rattle.std.specs.Prelude.{◌≡◌, List, [], ◌∷◌, ℕ, ◌+◌, ◌*◌, length}
+use Rattle.std.specs.Prelude.{◌≡◌, List, [], ◌∷◌, ℕ, ◌+◌, ◌*◌, length, Result, MatchResult}
+use Rattle.refusals.specs.declared.Refused.{Refused}
+use Rattle.refusals.specs.Refusals.{number}
 use Rattle.laws.specs.LentRange.{Only, seg}
 use Rattle.sets.specs.Lent.{Held, sets_in}
 use Rattle.said.specs.Job.{Said, in_axes, regions_only, refused, fine, records_from}
 use Rattle.values.specs.declared.tables.SetTables.{SetTables}
+use Rattle.job.specs.declared.whole.JobCounts.{JobCounts}
 use Rattle.said.specs.Sets.{region_list}
 use Rattle.values.specs.Lent.{Holds}
 use Rattle.job_scan.specs.Lent.{Room}
@@ -20,21 +23,21 @@ set_tables_at n axes regions = record {
   regions = regions;
 }
 
--- The records of a job are refused by `no` at `at`, or (no is 0) work holds what they say: the sets below word 4 n, sorted and without
--- zeros, and from there on by region index the regions in use.
-pub record JobHeld (axes mode : ℕ) (job : List ℕ) (records : ℕ) (new : List ℕ) (regions sets values uses : ℕ) : Type 0 where
+-- What the records of a job say is held in work: the sets below word 4 n, sorted and without zeros, and from there on by region index the
+-- regions in use.
+pub record JobHeld (axes mode : ℕ) (job : List ℕ) (records : ℕ) (new : List ℕ) (c : JobCounts) : Type 0 where
   pub said : Said
   pub is : records_from axes mode job job records 0 in_axes ≡ fine said
-  pub regions-are : length said.regions ≡ regions
-  pub sets-are : sets_in 0 sets new ≡ said.sets
-  pub values-are : said.values ≡ values
-  pub used-are : seg (4 * records) uses new ≡ said.used
-  pub uses-are : length said.used ≡ uses
-  pub held : Held new 0 sets uses (4 * records)
+  pub regions-are : length said.regions ≡ c.regions
+  pub sets-are : sets_in 0 c.sets new ≡ said.sets
+  pub values-are : said.values ≡ c.values
+  pub used-are : seg (4 * records) c.uses new ≡ said.used
+  pub uses-are : length said.used ≡ c.uses
+  pub held : Held new 0 c.sets c.uses (4 * records)
 
-pub record JobRead (axes mode : ℕ) (job : List ℕ) (records : ℕ) (old new : List ℕ) (no at regions sets values uses : ℕ) : Type 0 where
-  pub bad : (no ≡ 0 → ⊥) → records_from axes mode job job records 0 in_axes ≡ refused no at
-  pub good : no ≡ 0 → JobHeld axes mode job records new regions sets values uses
+-- it is held, or the records are refused
+pub record JobRead (axes mode : ℕ) (job : List ℕ) (records : ℕ) (old new : List ℕ) (r : Result JobCounts Refused) : Type 0 where
+  pub is : MatchResult r (λ c. JobHeld axes mode job records new c) (λ x. records_from axes mode job job records 0 in_axes ≡ refused (number x.refusal) x.place)
   pub only : Only ((0, 16 * records) ∷ []) old new
 
 -- the tables hold the firsts of so many regions, and no sets

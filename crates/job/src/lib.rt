@@ -6,7 +6,7 @@ mod early;
 mod head;
 mod whole;
 
-pub use checking::{Checked, check};
-pub use early::{clear_work, early_no, work_words};
+pub use checking::check;
+pub use early::{check_early, work_words};
 pub use head::head_regions;
-pub use whole::{JobEnd, read_job};
+pub use whole::{JobCounts, read_job};

@@ -9,13 +9,12 @@ ghost use Rattle.job.specs.Lent.{Prepared, set_tables_at, JobRead};
 
 use job_scan::{axes_end, find_firsts, read_sets};
 use laws::zero_part;
+use refusals::Refused;
 use values::SetTables;
 
-// A refusal number with its place, or 0 and the counts.
-#[derive(Clone, Copy)]
-pub struct JobEnd {
-    pub no: usize,
-    pub at: usize,
+// What a job says, in numbers: its regions, its sets, its values, the regions in use.
+#[derive(Clone, Copy, Debug, PartialEq, Eq)]
+pub struct JobCounts {
     pub regions: usize,
     pub sets: usize,
     pub values: usize,
@@ -49,32 +48,25 @@ fn tables_at(records: usize, axes: usize, regions: usize) -> SetTables
 }
 
 // Reads a job's records: the earliest bad one answers, or work holds its sets.
-pub fn read_job(job: &[u8], axes: usize, mode: u32, records: usize, work: &mut [u32]) -> JobEnd
+pub fn read_job(
+    job: &[u8],
+    axes: usize,
+    mode: u32,
+    records: usize,
+    work: &mut [u32],
+) -> Result<JobCounts, Refused>
     requires { (record_start records ≤ length job.now) × (0 < axes) × (axes ≤ most_axes) × (records ≤ most_records) × (16 * records ≤ length work.old) }
-    ensures { JobRead axes mode job.now records work.old work.new result.no result.at result.regions result.sets result.values result.uses }
+    ensures { JobRead axes mode job.now records work.old work.new result }
 {
-    let a = axes_end(job, axes, records);
-    let from = a.at;
-    if a.no != 0 {
-        return JobEnd {
-            no: a.no,
-            at: from,
-            regions: 0,
-            sets: 0,
-            values: 0,
-            uses: 0,
-        };
-    }
+    let from = axes_end(job, axes, records)?;
     let regions = from / axes;
     prepare(job, axes, regions, records, work);
     let t = tables_at(records, axes, regions);
-    let s = read_sets(job, axes, records, from, mode, work, t);
-    JobEnd {
-        no: s.no,
-        at: s.at,
+    let counts = read_sets(job, axes, records, from, mode, work, t)?;
+    Ok(JobCounts {
         regions,
-        sets: s.sets,
-        values: s.values,
-        uses: s.uses,
-    }
+        sets: counts.sets,
+        values: counts.values,
+        uses: counts.uses,
+    })
 }

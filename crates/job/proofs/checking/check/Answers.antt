@@ -1,28 +1,34 @@
-use Rattle.job.proofs.CheckLaws.{room, refused-early, left-early, left-zeros, refused-record, sound-all}
+use mathlib.Core.Path.{sym, ap}
 use native.Mathlib.Omega.{arith}
+use Rattle.std.proofs.Common.{rules}
+use Rattle.refusals.proofs.Passing.{passed}
+use Rattle.job.specs.Check.{checked, checked_of}
+use Rattle.job.proofs.CheckLaws.{room, refused-early, left-early, left-zeros, checked_as}
 use Rattle.job.proofs.checking.check.Goals as goal
 
-pub returns-then-no-ne0 : goal.returns-then-no-ne0
-returns-then-no-ne0 c =
+pub returns-in_err-check_early-clause-value : goal.returns-in_err-check_early-clause-value
+unfolding checked checked_of
+returns-in_err-check_early-clause-value c =
     let a = c.args in
-    let n = c.early_no-no in
-    record { value = refused-early a.axes a.mode a.job.now a.work.now a.pairs n.result n.ensures.value c.if-no-ne0.true; work_after = left-early a.axes a.mode a.job.now a.work.now a.pairs n.result n.ensures.value c.if-no-ne0.true }
+    rw (passed c.from_residual.result c.from_residual.ensures.1)
+    (sym (ap checked_of (refused-early a.axes a.mode a.job.now a.work.now a.pairs c.in_err-check_early.field-0.0 c.in_err-check_early.ensures.value)))
 
-pub read_job-r-requires : goal.read_job-r-requires
-read_job-r-requires c =
-    let o = c.early_no-no.ensures.fact c.if-no-ne0.false in
-    omega (arith, o.some, o.most, o.few, o.whole, room _ _ _ _ _ o, c.wide-a.ensures, c.records_in.ensures)
-
-pub returns-then-r-ne0 : goal.returns-then-r-ne0
-returns-then-r-ne0 c =
+pub returns-in_err-check_early-clause-work_after : goal.returns-in_err-check_early-clause-work_after
+returns-in_err-check_early-clause-work_after c =
     let a = c.args in
-    let n = c.early_no-no in
-    let z = c.if-no-ne0.false in
-    record { value = refused-record a.axes a.mode a.job.now a.work.now a.pairs n.result n.ensures.value z c.wide-a.ensures c.records_in.ensures c.read_job-r.ensures c.if-r-ne0.true; work_after = left-zeros a.axes a.mode a.job.now a.work.now a.pairs n.result n.ensures.value z _ _ c.read_job-r.ensures.only.long c.clear_work.ensures }
+    left-early a.axes a.mode a.job.now a.work.now a.pairs c.in_err-check_early.field-0.0 c.in_err-check_early.ensures.value
 
-pub returns : goal.returns
-returns c =
+pub read_job-answer-requires : goal.read_job-answer-requires
+read_job-answer-requires c =
+    let o = c.in_ok-check_early.ensures.fact in
+    omega (arith, o.some, o.most, o.few, o.whole, room _ _ _ _ _ o, c.records_in.ensures)
+
+pub returns-clause-value : goal.returns-clause-value
+returns-clause-value c =
     let a = c.args in
-    let n = c.early_no-no in
-    let z = c.if-no-ne0.false in
-    record { value = sound-all a.axes a.mode a.job.now a.work.now a.pairs n.result n.ensures.value z c.wide-a.ensures c.records_in.ensures c.read_job-r.ensures c.if-r-ne0.false; work_after = left-zeros a.axes a.mode a.job.now a.work.now a.pairs n.result n.ensures.value z _ _ c.read_job-r.ensures.only.long c.clear_work.ensures }
+    checked_as a.axes a.mode a.job.now a.work.now a.pairs c.in_ok-check_early.ensures.value c.read_job-answer.result c.records_in.ensures c.read_job-answer.ensures
+
+pub returns-clause-work_after : goal.returns-clause-work_after
+returns-clause-work_after c =
+    let a = c.args in
+    left-zeros a.axes a.mode a.job.now a.work.now a.pairs c.in_ok-check_early.ensures.value _ (search (rules, c.read_job-answer.ensures.only.long))
