@@ -15,7 +15,7 @@ use Rattle.said.specs.Refusals.{long_value, bad_region, first_failed}
 use Rattle.said.specs.Job.{Said, Outcome, refused, fine}
 use Rattle.panel.specs.declared.Profile.{Profile}
 use Rattle.panel.specs.declared.Profile.TheVariants.{Plain, Panel}
-use Rattle.panel.specs.declared.records_of.Odd.{Odd}
+use Rattle.panel.specs.Panelled.{Odd}
 use Rattle.panel.specs.Taken.{has_short_value, has_sound_axis, panel_refusal}
 use Rattle.panel.specs.Panelled.{none_odd, first_of, odd_of, read_records, odd_else, panelled}
 use Rattle.panel.specs.LentOdd.{AllTaken, FirstOdd}

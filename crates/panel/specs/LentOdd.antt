@@ -1,8 +1,8 @@
 -- What the laws of odd records say of a job: which records the panel's reader takes, and the first that it does not. Assumes nothing.
 use Rattle.std.specs.Prelude.{◌≡◌, List, ℕ, ◌<◌}
 use Rattle.said.specs.Records.{record_at}
-use Rattle.panel.specs.declared.records_of.Odd.{Odd}
 use Rattle.panel.specs.Taken.{panel_refusal}
+use Rattle.panel.specs.Panelled.{Odd}
 
 -- it takes each of the first n records
 abbrev pub AllTaken : List ℕ → ℕ → Type 0

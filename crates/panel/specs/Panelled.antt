@@ -1,16 +1,27 @@
 -- A job as a profile takes it: the earliest bad record answers, and at one record the checks that every build makes come before the profile's (RULES T2, T7). What is
 -- read is as without it. Assumes nothing.
-use Rattle.std.specs.Prelude.{List, ℕ, zero, suc, ◌+◌, eqb}
+use Rattle.std.specs.Prelude.{List, ℕ, zero, suc, ◌+◌, eqb, Result, Ok, Err}
 use Rattle.laws.specs.Pick.{pick}
 use Rattle.said.specs.Records.{after_record, record_count}
 use Rattle.said.specs.Job.{Outcome, refused, fine}
 use Rattle.panel.specs.declared.Profile.{Profile}
 use Rattle.panel.specs.declared.Profile.TheVariants.{Plain, Panel}
-use Rattle.panel.specs.declared.records_of.Odd.{Odd}
+use Rattle.refusals.specs.declared.Refused.{Refused}
+use Rattle.refusals.specs.Refusals.{number}
 use Rattle.panel.specs.Taken.{panel_refusal}
+
+-- a refusal's number and the record's place; the number is 0 where all are taken
+pub record Odd : Type 0 where
+  pub no : ℕ
+  pub at : ℕ
 
 abbrev pub none_odd : Odd
 none_odd = record { no = 0; at = 0 }
+
+-- what the code answers
+abbrev pub odd_in : Result (Unit {0}) Refused → Odd
+odd_in (Ok u) = none_odd
+odd_in (Err x) = record { no = number x.refusal; at = x.place }
 
 -- of so many records from record i on, the first that the panel's reader does not take; r are the bytes from that record on
 unfoldable pub first_of : (r : List ℕ) (left i : ℕ) → Odd

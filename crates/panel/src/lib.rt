@@ -5,10 +5,10 @@
 mod coordinates;
 mod records_of;
 
-pub use crate::records_of::{Odd, first_odd};
+pub use crate::records_of::check_records;
 
 // What a caller builds for: any reader, or the panel's.
-#[derive(Clone, Copy)]
+#[derive(Clone, Copy, Debug, PartialEq, Eq)]
 pub enum Profile {
     Plain,
     Panel,

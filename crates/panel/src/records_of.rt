@@ -1,20 +1,14 @@
 // The records of a job that the profile does not take.
 ghost use Rattle.std.specs.Prelude.{◌≡◌, ℕ, ◌+◌, ◌≤◌, length};
+ghost use Rattle.refusals.specs.Refusals.{number_in};
 ghost use Rattle.said.specs.Records.{record_start, record_at};
 ghost use Rattle.panel.specs.Taken.{has_short_value, has_sound_axis, panel_refusal};
-ghost use Rattle.panel.specs.Panelled.{first_of, odd_of};
+ghost use Rattle.panel.specs.Panelled.{odd_in, first_of, odd_of};
 
 use crate::Profile;
 use crate::coordinates::{coordinate_word, sound_axis};
-use records::{Kind, end_at, kind_at, peak_at, start_at, word_at};
-use said::Refusal;
-
-// A refusal's number and the record's place; the number is 0 where all are taken.
-#[derive(Clone, Copy)]
-pub struct Odd {
-    pub no: usize,
-    pub at: usize,
-}
+use records::{Kind, end_at, is_kind, peak_at, start_at, word_at};
+use refusals::{Refusal, Refused, ensure};
 
 // The value of record i is one of 16 bits.
 fn is_short(job: &[u8], i: usize) -> bool
@@ -42,50 +36,43 @@ fn is_sound(job: &[u8], i: usize) -> bool
     sound_axis(start, peak, end)
 }
 
-// The number that the panel's reader refuses record i by, 0 where it takes it.
-fn panel_no(job: &[u8], i: usize) -> usize
+// Refusals 70 and 71, of record i.
+#[tactic(auto, unfolding(crate::specs::Taken::panel_refusal, said::specs::Refusals::first_failed))]
+fn check_taken(job: &[u8], i: usize) -> Result<(), Refusal>
     requires { record_start (i + 1) ≤ length job.now }
-    ensures { result ≡ panel_refusal (record_at job.now i) }
+    ensures { number_in result ≡ panel_refusal (record_at job.now i) }
 {
-    let kind = kind_at(job, i);
-    if kind == Kind::VALUE {
-        if is_short(job, i) {
-            return 0;
-        }
-        return Refusal::LONG_VALUE;
-    }
-    if kind == Kind::AXIS {
-        if is_sound(job, i) {
-            return 0;
-        }
-        return Refusal::BAD_REGION;
-    }
-    0
+    ensure(
+        !is_kind(job, i, Kind::Value) || is_short(job, i),
+        Refusal::LongValue,
+    )?;
+    ensure(
+        !is_kind(job, i, Kind::Axis) || is_sound(job, i),
+        Refusal::BadRegion,
+    )
 }
 
-// The first of so many records that the panel's reader does not take.
-fn first_of(job: &[u8], limit: usize) -> Odd
+// Looks for the first of so many records that the panel's reader does not take.
+fn check_all(job: &[u8], limit: usize) -> Result<(), Refused>
     requires { record_start limit ≤ length job.now }
-    ensures { result ≡ first_of job.now limit 0 }
+    ensures { odd_in result ≡ first_of job.now limit 0 }
 {
-    let mut i = 0;
-    while i < limit {
-        let no = panel_no(job, i);
-        if no != 0 {
-            return Odd { no, at: i };
+    for i in 0..limit {
+        if let Err(refusal) = check_taken(job, i) {
+            return Err(Refused { refusal, place: i });
         }
-        i += 1;
     }
-    Odd { no: 0, at: 0 }
+    Ok(())
 }
 
-// The first of so many records that the profile does not take.
-pub fn first_odd(profile: Profile, job: &[u8], limit: usize) -> Odd
+// Looks for the first of so many records that the profile does not take.
+#[tactic(auto, unfolding(crate::specs::Panelled::odd_of))]
+pub fn check_records(profile: Profile, job: &[u8], limit: usize) -> Result<(), Refused>
     requires { record_start limit ≤ length job.now }
-    ensures { result ≡ odd_of profile job.now limit }
+    ensures { odd_in result ≡ odd_of profile job.now limit }
 {
     match profile {
-        Profile::Plain => Odd { no: 0, at: 0 },
-        Profile::Panel => first_of(job, limit),
+        Profile::Plain => Ok(()),
+        Profile::Panel => check_all(job, limit),
     }
 }
