@@ -35,7 +35,7 @@ use Rattle.said.proofs.SoundLaws.{Bytes, Coordinates, WellSaid, well-said, fine-
 use Rattle.sets.specs.Ids.{distinct}
 use Rattle.encoder.specs.Packed.{Packed, is_ahead, home_of, origins_of, shared, own}
 use Rattle.finishing.specs.declared.answers.Report.{Report}
-use Rattle.finishing.specs.declared.answers.Built.TheVariants.{Done}
+use Rattle.finishing.specs.Answers.{Done}
 use Rattle.finishing.specs.Buffers.{Buffers, Lengths, lengths}
 use Rattle.finishing.specs.Late.{store_for, origin_words, late_no, report_of, written, buffers_left}
 use Rattle.finishing.proofs.LoopLaws.{told-long}

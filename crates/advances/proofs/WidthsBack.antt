@@ -27,7 +27,7 @@ use Rattle.widths.specs.Reading.{width_reading}
 use Rattle.widths.specs.Back.{word_for, said}
 use Rattle.widths.proofs.DoneLaws.{store-inside, done-back}
 use Rattle.finishing.specs.declared.answers.Report.{Report}
-use Rattle.finishing.specs.declared.answers.Built.TheVariants as built
+use Rattle.finishing.specs.Answers as built
 use Rattle.call.specs.Lending.{Lending}
 use Rattle.call.specs.Build.{answer_of, after}
 use Rattle.accepted.proofs.Accepted.{accepted}

@@ -14,7 +14,7 @@ use Rattle.encoder.specs.declared.places.Places.{Places}
 use Rattle.encoder.specs.Packed.{Packed, own, one_cost}
 use Rattle.encoder.specs.Lent.{relabel, origins_in, FinalIn, PackedAt}
 use Rattle.encoder.specs.LentPlaces.{scratch_at}
-use Rattle.finishing.specs.declared.answers.Built.{Built}
+use Rattle.finishing.specs.Answers.{Built}
 use Rattle.finishing.specs.Buffers.{Buffers}
 use Rattle.finishing.specs.declared.answers.Report.{Report}
 use Rattle.finishing.specs.declared.measuring.Packing.{Packing}

@@ -10,7 +10,7 @@ use Rattle.said.specs.Refusals.{shapes_full, first_failed}
 use Rattle.groups.specs.Groups.{groups_of, max_shapes}
 use borrow.Author.Tests.{eq-eqb, le-leb, lt-leb, ne_eqb}
 use Rattle.encoder.specs.Packed.{Packed, shared}
-use Rattle.finishing.specs.declared.answers.Built.TheVariants.{Refused}
+use Rattle.finishing.specs.Answers.{Refused}
 use Rattle.finishing.specs.Late.{report_of, size_told, late_forecast, late_no, late_answer, buffers_left}
 use Rattle.call.specs.Foretold.{foretold_from}
 use Rattle.call.specs.Build.{coords_in_use, packed_of}

@@ -8,8 +8,8 @@ use Rattle.said.specs.Refusals.{early_refusal}
 use Rattle.said.specs.Sets.{Region}
 use Rattle.said.specs.Job.{Said, Outcome, refused, fine, outcome}
 use Rattle.encoder.specs.Packed.{Packed, shared, own}
-use Rattle.finishing.specs.declared.answers.Built.{Built}
-use Rattle.finishing.specs.declared.answers.Built.TheVariants.{Refused}
+use Rattle.finishing.specs.Answers.{Built}
+use Rattle.finishing.specs.Answers.{Refused}
 use Rattle.job.specs.Check.{work_left}
 use Rattle.finishing.specs.Buffers.{Buffers, Lengths, lengths}
 use Rattle.finishing.specs.Late.{late_answer, buffers_left}

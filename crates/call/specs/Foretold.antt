@@ -2,8 +2,8 @@
 -- job. Assumes nothing.
 use Rattle.std.specs.Prelude.{ℕ}
 use Rattle.said.specs.Job.{Outcome, refused, fine}
-use Rattle.finishing.specs.declared.answers.Built.{Built}
-use Rattle.finishing.specs.declared.answers.Built.TheVariants.{Refused}
+use Rattle.finishing.specs.Answers.{Built}
+use Rattle.finishing.specs.Answers.{Refused}
 use Rattle.finishing.specs.Late.{late_forecast}
 use Rattle.call.specs.Lending.{Lending}
 use Rattle.call.specs.Build.{coords_in_use, packed_of, outcome_of}

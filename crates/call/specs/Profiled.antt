@@ -8,8 +8,8 @@ use Rattle.panel.specs.declared.Profile.{Profile}
 use Rattle.panel.specs.Panelled.{panelled}
 use Rattle.narrow.specs.Columns.{is_too_wide}
 use Rattle.encoder.specs.Packed.{Packed}
-use Rattle.finishing.specs.declared.answers.Built.{Built}
-use Rattle.finishing.specs.declared.answers.Built.TheVariants.{Refused}
+use Rattle.finishing.specs.Answers.{Built}
+use Rattle.finishing.specs.Answers.{Refused}
 use Rattle.finishing.specs.Buffers.{Buffers, Lengths, lengths}
 use Rattle.call.specs.Lending.{Lending, Left}
 use Rattle.call.specs.Build.{packed_of, answer_from, left_from, outcome_of, after}

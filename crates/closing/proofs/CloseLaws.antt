@@ -22,8 +22,8 @@ use Rattle.encoder.specs.Packed.{Packed, shared, own}
 use Rattle.encoder.specs.Lent.{PackedAt}
 use Rattle.encoder.proofs.ReadyLaws.{idle}
 use Rattle.store.specs.Lent as store
-use Rattle.finishing.specs.declared.answers.Built.{Built}
-use Rattle.finishing.specs.declared.answers.Built.TheVariants.{Refused, Done}
+use Rattle.finishing.specs.Answers.{Built}
+use Rattle.finishing.specs.Answers.{Refused, Done}
 use Rattle.finishing.specs.declared.answers.Report.{Report}
 use Rattle.finishing.specs.declared.measuring.Packing.{Packing}
 use Rattle.finishing.specs.Late.{report_of, size_told}

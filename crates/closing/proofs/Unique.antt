@@ -2,7 +2,7 @@
 use mathlib.Core.Path.{◌≡◌, sym, ◌∙◌}
 use mathlib.Core.List.{List}
 use Prim.Native.Nat.{ℕ}
-use Rattle.finishing.specs.declared.answers.Built.{Built}
+use Rattle.finishing.specs.Answers.{Built}
 use Rattle.finishing.specs.Buffers.{Buffers}
 use Rattle.panel.specs.declared.Profile.{Profile}
 use Rattle.closing.specs.LentClosed.{Closed, Foreseen}

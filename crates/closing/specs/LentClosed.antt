@@ -3,7 +3,7 @@ use Rattle.std.specs.Prelude.{◌≡◌, List, ℕ, length}
 use Rattle.merging.specs.declared.optimizing.Merged.{Merged}
 use Rattle.said.specs.Job.{Outcome, outcome}
 use Rattle.job.specs.Check.{work_left}
-use Rattle.finishing.specs.declared.answers.Built.{Built}
+use Rattle.finishing.specs.Answers.{Built}
 use Rattle.call.specs.Foretold.{foretold_from}
 use Rattle.opening.specs.declared.opening.Stage.{Stage}
 use Rattle.finishing.specs.Buffers.{Buffers, lengths}

@@ -9,7 +9,7 @@ use Rattle.said.specs.Records.{record_count}
 use Rattle.said.specs.Job.{Said, refused, fine}
 use Rattle.job.specs.Check.{work_left}
 use Rattle.finishing.specs.declared.answers.Report.{Report}
-use Rattle.finishing.specs.declared.answers.Built.TheVariants.{Refused, Done}
+use Rattle.finishing.specs.Answers.{Refused, Done}
 use Rattle.finishing.specs.Late.{buffers_left}
 use Rattle.call.specs.Lending.{Lending, no_pair}
 use Rattle.call.specs.Build.{left_from, pairs_left, outcome_of, answer_of, after}

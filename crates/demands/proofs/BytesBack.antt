@@ -22,7 +22,7 @@ use Rattle.said.proofs.SoundLaws.{Bytes}
 use Rattle.told.specs.Told.{ValueIn, coordinates_at, index_of, Told}
 use Rattle.told.proofs.Bytes.{told}
 use Rattle.finishing.specs.declared.answers.Report.{Report}
-use Rattle.finishing.specs.declared.answers.Built.TheVariants.{Done}
+use Rattle.finishing.specs.Answers.{Done}
 use Rattle.call.specs.Lending.{Lending}
 use Rattle.call.specs.Build.{region_bytes, coords_in_use, answer_of, after}
 use Rattle.demands.specs.SetsRead.{listed, named_by, value_at, InStore, SetRead, SetsRead}

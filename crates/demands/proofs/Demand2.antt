@@ -21,7 +21,7 @@ use Rattle.said.specs.Job.{Said}
 use Rattle.said.proofs.SoundLaws.{Bytes}
 use Rattle.encoder.specs.Packed.{Packed, shared, own}
 use Rattle.finishing.specs.declared.answers.Report.{Report}
-use Rattle.finishing.specs.declared.answers.Built.TheVariants.{Done}
+use Rattle.finishing.specs.Answers.{Done}
 use Rattle.said.specs.Refusals.{most_bytes}
 use Rattle.finishing.specs.Late.{store_for}
 use Rattle.call.specs.Lending.{Lending}

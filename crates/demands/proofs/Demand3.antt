@@ -26,7 +26,7 @@ use Rattle.said.specs.Job.{Said}
 use Rattle.sizes.specs.Sizes.{group_at, shapes_joined}
 use Rattle.encoder.specs.Packed.{Packed, origins_of, shared, own, is_ahead, final_of, finals_of, one_cost}
 use Rattle.finishing.specs.declared.answers.Report.{Report}
-use Rattle.finishing.specs.declared.answers.Built.TheVariants.{Done}
+use Rattle.finishing.specs.Answers.{Done}
 use Rattle.finishing.specs.Late.{store_for, origin_words, report_of}
 use Rattle.call.specs.Lending.{Lending}
 use Rattle.call.specs.Build.{coords_in_use, packed_of, answer_of}

@@ -11,7 +11,7 @@ use borrow.Author.Tests.{ltb-true, ltb-false, leb-true, leb-false, eqb-true, eqb
 use Rattle.laws.proofs.Cases.{and-true}
 use Rattle.said.specs.Records.{whole_records_in, record_count, spare_bytes, most_records}
 use Rattle.said.specs.Refusals.{first_failed, job_work, pair_records, early_refusal}
-use Rattle.finishing.specs.declared.answers.Built.TheVariants.{Refused}
+use Rattle.finishing.specs.Answers.{Refused}
 use Rattle.call.specs.Lending.{Lending}
 use Rattle.call.specs.Build.{answer_of}
 use Rattle.refusing.specs.Exactly.{Exactly}

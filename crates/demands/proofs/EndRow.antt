@@ -7,7 +7,7 @@ use lib.ListN.{length}
 use Rattle.said.specs.Records.{record_count}
 use Rattle.said.specs.Refusals.{early_refusal}
 use Rattle.said.specs.Job.{Said, State, Outcome, refused, fine, ended}
-use Rattle.finishing.specs.declared.answers.Built.TheVariants.{Refused}
+use Rattle.finishing.specs.Answers.{Refused}
 use Rattle.call.specs.Lending.{Lending}
 use Rattle.call.specs.Build.{outcome_of, answer_of}
 use Rattle.refusing.specs.Exactly.{Exactly}

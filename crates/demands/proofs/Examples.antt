@@ -38,8 +38,8 @@ use Rattle.said.specs.Job as job
 use Rattle.job.specs.Check.{work_left}
 use Rattle.encoder.specs.Packed as packed
 use Rattle.finishing.specs.declared.answers.Report.{Report}
-use Rattle.finishing.specs.declared.answers.Built.{Built}
-use Rattle.finishing.specs.declared.answers.Built.TheVariants.{Done}
+use Rattle.finishing.specs.Answers.{Built}
+use Rattle.finishing.specs.Answers.{Done}
 use Rattle.pairs.specs.declared.Pair.{Pair}
 use Rattle.finishing.specs.Buffers.{Buffers, buffers, lengths}
 use Rattle.finishing.specs.Late.{store_for, regions_kept, origin_words, late_no, report_of, late_answer, written, buffers_left}

@@ -12,7 +12,7 @@ use Rattle.said.specs.Refusals.{most_bytes, shapes_full, store_too_big}
 use Rattle.said.specs.Job.{Said, Outcome, refused, fine, outcome}
 use Rattle.said.proofs.SoundLaws.{Bytes}
 use Rattle.finishing.specs.declared.answers.Report.{Report}
-use Rattle.finishing.specs.declared.answers.Built.TheVariants.{Refused, Done}
+use Rattle.finishing.specs.Answers.{Refused, Done}
 use Rattle.finishing.specs.Buffers.{Buffers, lengths}
 use Rattle.finishing.specs.Late.{report_of, size_told, late_forecast}
 use Rattle.call.specs.Lending.{Lending}

@@ -16,7 +16,7 @@ use Rattle.said.specs.Job.{Said, fine}
 use Rattle.told.proofs.Bytes.{told}
 use Rattle.encoder.specs.Packed.{Packed, shared, own}
 use Rattle.finishing.specs.declared.answers.Report.{Report}
-use Rattle.finishing.specs.declared.answers.Built.TheVariants.{Refused, Done}
+use Rattle.finishing.specs.Answers.{Refused, Done}
 use Rattle.finishing.specs.Buffers.{Lengths, lengths}
 use Rattle.finishing.specs.Late.{late_no, store_for, report_of}
 use Rattle.call.specs.Lending.{Lending}

@@ -8,7 +8,7 @@ use Rattle.said.specs.Refusals.{most_bytes, shapes_full, store_too_big}
 use Rattle.said.specs.Job.{Said, fine, outcome}
 use Rattle.said.proofs.SoundLaws.{Bytes}
 use Rattle.encoder.specs.Packed.{Packed, shared}
-use Rattle.finishing.specs.declared.answers.Built.TheVariants.{Refused, Done}
+use Rattle.finishing.specs.Answers.{Refused, Done}
 use Rattle.finishing.specs.Late.{store_for, report_of}
 use Rattle.call.specs.Lending.{Lending}
 use Rattle.call.specs.Build.{coords_in_use, packed_of, outcome_of}

@@ -10,7 +10,7 @@ use Rattle.laws.proofs.Cases.{lt-or-ge, same_or_not}
 use Rattle.said.specs.Records.{record_count}
 use Rattle.said.specs.Refusals.{early_refusal}
 use Rattle.said.specs.Job.{Said, in_axes, Outcome, refused, fine, records_from, outcome, outcome_from}
-use Rattle.finishing.specs.declared.answers.Built.TheVariants.{Refused, Done}
+use Rattle.finishing.specs.Answers.{Refused, Done}
 use Rattle.finishing.specs.Buffers.{Lengths, lengths}
 use Rattle.finishing.specs.Late.{late_no, late_answer, report_of}
 use Rattle.call.specs.Lending.{Lending}

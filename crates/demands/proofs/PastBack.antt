@@ -3,7 +3,7 @@ use mathlib.Core.Path.{◌≡◌, sym}
 use lib.ListN.{length}
 use Rattle.told.proofs.Bytes.{told}
 use Rattle.finishing.specs.declared.answers.Report.{Report}
-use Rattle.finishing.specs.declared.answers.Built.TheVariants.{Done}
+use Rattle.finishing.specs.Answers.{Done}
 use Rattle.call.specs.Lending.{Lending}
 use Rattle.call.specs.Build.{answer_of}
 use Rattle.accepted.proofs.Accepted.{accepted}

@@ -14,7 +14,7 @@ use Rattle.told.specs.Told.{count_kind, ends_before}
 use Rattle.told.proofs.WordLaws.{count-here, count_past}
 use Rattle.told.proofs.Bytes.{told}
 use Rattle.finishing.specs.declared.answers.Report.{Report}
-use Rattle.finishing.specs.declared.answers.Built.TheVariants.{Done}
+use Rattle.finishing.specs.Answers.{Done}
 use Rattle.call.specs.Lending.{Lending}
 use Rattle.call.specs.Build.{answer_of}
 use Rattle.accepted.proofs.Accepted.{accepted}

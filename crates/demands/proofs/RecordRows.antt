@@ -8,7 +8,7 @@ use lib.ListN.{length}
 use Rattle.said.specs.Job.{State, Step, stop, on, step, refused}
 use Rattle.said.specs.Records.{record_at, record_count}
 use Rattle.said.specs.Refusals.{not_zero, byte_of}
-use Rattle.finishing.specs.declared.answers.Built.TheVariants.{Refused}
+use Rattle.finishing.specs.Answers.{Refused}
 use Rattle.call.specs.Lending.{Lending}
 use Rattle.call.specs.Build.{answer_of}
 use Rattle.refusing.specs.Exactly.{Exactly}

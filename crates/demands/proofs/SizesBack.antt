@@ -11,7 +11,7 @@ use Rattle.encoder.specs.Packed.{Packed, shared}
 use Rattle.sizes.specs.Sizes.{cost_of}
 use Rattle.sizes.proofs.Counted.{sizes}
 use Rattle.finishing.specs.declared.answers.Report.{Report}
-use Rattle.finishing.specs.declared.answers.Built.TheVariants.{Done}
+use Rattle.finishing.specs.Answers.{Done}
 use Rattle.call.specs.Lending.{Lending}
 use Rattle.call.specs.Build.{answer_of}
 use Rattle.demands.specs.Sized.{Sized}

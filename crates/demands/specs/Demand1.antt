@@ -7,8 +7,8 @@ use Rattle.said.specs.Refusals as refusals
 use Rattle.said.specs.Refusals.{job_work, pair_records, most_bytes, bad_axes, bad_mode, bad_job_length, work_short, unknown_region, region_twice, sets_full, shapes_full, ids_short, map_short, log_short, origins_short, store_too_big, out_short, unknown_kind, not_zero, axis_out_of_turn, axis_too_late, region_unfinished}
 use Rattle.said.specs.Job.{Said, fine}
 use Rattle.finishing.specs.declared.answers.Report.{Report}
-use Rattle.finishing.specs.declared.answers.Built.{Built}
-use Rattle.finishing.specs.declared.answers.Built.TheVariants.{Refused, Done}
+use Rattle.finishing.specs.Answers.{Built}
+use Rattle.finishing.specs.Answers.{Refused, Done}
 use Rattle.finishing.specs.Late.{report_of}
 use Rattle.call.specs.Lending.{Lending, Left, no_pair}
 use Rattle.call.specs.Build.{coords_in_use, packed_of, outcome_of, answer_of, after}

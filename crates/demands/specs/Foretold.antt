@@ -7,7 +7,7 @@ use Rattle.said.specs.Refusals.{store_too_big}
 use Rattle.said.specs.Job.{Said, fine}
 use Rattle.limits.specs.Limits.{max_shapes}
 use Rattle.finishing.specs.declared.answers.Report.{Report}
-use Rattle.finishing.specs.declared.answers.Built.TheVariants.{Refused, Done}
+use Rattle.finishing.specs.Answers.{Refused, Done}
 use Rattle.finishing.specs.Buffers.{Buffers}
 use Rattle.finishing.specs.Late.{store_for}
 use Rattle.call.specs.Lending.{Lending, lending}

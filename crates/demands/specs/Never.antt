@@ -1,7 +1,7 @@
 -- In mode 0 no store is too big: STORE_TOO_BIG (R60) is never given, by a build or by a forecast. Assumes nothing.
 use Rattle.std.specs.Prelude.{◌≡◌, ℕ}
 use Rattle.said.specs.Refusals.{store_too_big}
-use Rattle.finishing.specs.declared.answers.Built.TheVariants.{Refused}
+use Rattle.finishing.specs.Answers.{Refused}
 use Rattle.call.specs.Lending.{Lending}
 use Rattle.call.specs.Build.{answer_of}
 use Rattle.call.specs.Foretold.{foretold}

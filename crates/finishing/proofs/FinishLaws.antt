@@ -31,7 +31,7 @@ use Rattle.encoder.specs.Packed.{Packed}
 use Rattle.encoder.specs.Lent.{relabel, origins_in, PackedAt}
 use Rattle.finishing.specs.declared.answers.Report.{Report}
 use Rattle.finishing.specs.declared.measuring.Packing.{Packing}
-use Rattle.finishing.specs.declared.answers.Built.TheVariants.{Refused, Done}
+use Rattle.finishing.specs.Answers.{Refused, Done}
 use Rattle.finishing.specs.Buffers.{Buffers, Lengths, lengths}
 use Rattle.finishing.specs.Late.{store_for, regions_kept, origin_words, late_no, report_of, late_answer, written, buffers_left}
 use Rattle.finishing.specs.Lent.{FinishFit, Finished, MeasuredAs, RoomFor, WordsFit, WordsWritten, report_in, short_no, store_in}

@@ -10,8 +10,8 @@ use Rattle.said.specs.Refusals.{first_failed, most_bytes, shapes_full, ids_short
 use Rattle.encoder.specs.Packed.{Packed}
 use Rattle.finishing.specs.Buffers.{Buffers, Lengths, lengths}
 use Rattle.finishing.specs.declared.answers.Report.{Report}
-use Rattle.finishing.specs.declared.answers.Built.{Built}
-use Rattle.finishing.specs.declared.answers.Built.TheVariants.{Refused, Done}
+use Rattle.finishing.specs.Answers.{Built}
+use Rattle.finishing.specs.Answers.{Refused, Done}
 
 -- below, `coords` are the coordinates of the regions by region index, as bytes
 

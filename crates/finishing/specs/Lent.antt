@@ -13,7 +13,7 @@ use Rattle.encoder.specs.declared.encoded.Encoded.{Encoded}
 use Rattle.limits.specs.Limits.{most_axes, max_shapes}
 use Rattle.finishing.specs.declared.answers.Report.{Report}
 use Rattle.finishing.specs.declared.measuring.Packing.{Packing}
-use Rattle.finishing.specs.declared.answers.Built.{Built}
+use Rattle.finishing.specs.Answers.{Built}
 use Rattle.finishing.specs.Buffers.{Buffers, lengths}
 use Rattle.finishing.specs.Late.{origin_words, late_answer, buffers_left}
 

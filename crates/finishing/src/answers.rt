@@ -1,7 +1,7 @@
-// What a build answers.
+// What a done build answers.
 
 // Store bytes, subtables, regions kept, distinct ids, N, merges, pairs weighed, the modelled size before and after merging, the forecast.
-#[derive(Clone, Copy)]
+#[derive(Clone, Copy, Debug, PartialEq, Eq)]
 pub struct Report {
     pub bytes: usize,
     pub subtables: usize,
@@ -13,11 +13,4 @@ pub struct Report {
     pub before: u64,
     pub after: u64,
     pub forecast: u64,
-}
-
-// A refusal's number and place, or done.
-#[derive(Clone, Copy)]
-pub enum Built {
-    Refused(usize, usize),
-    Done(Report),
 }

@@ -6,15 +6,18 @@ ghost use Rattle.store.specs.Lent.{Planned, coords_in};
 ghost use Rattle.encoder.specs.Packed.{Packed};
 ghost use Rattle.encoder.specs.Lent.{PackedAt};
 ghost use Rattle.encoder.specs.LentPlaces.{scratch_at};
+ghost use Rattle.refusals.specs.Refusals.{number_in};
+ghost use Rattle.finishing.specs.Answers.{built};
 ghost use Rattle.finishing.specs.Buffers.{buffers};
 ghost use Rattle.finishing.specs.Lent.{FinishFit, Finished, OriginsFit, RowsNamed, WordsFit, WordsWritten, origins_told, short_no, store_in};
 ghost use Rattle.limits.specs.Limits.{max_shapes};
 
-use crate::answers::{Built, Report};
+use crate::answers::Report;
 use crate::measuring::{Packing, measure};
 use encoder::{Encoded, Places, log_words};
 use planning::Plan;
-use said::{Refusal, STORE_BYTES};
+use refusals::{Refusal, Refused, ensure};
+use said::STORE_BYTES;
 use store::{Coords, Finals};
 use writing::{write_map, write_store};
 
@@ -24,14 +27,10 @@ fn name_rows(work: &mut [u32], rows: usize, n: usize, ids: usize)
     requires n_in_bounds { rows + n ≤ length work.old }
     ensures { RowsNamed rows n ids work.old work.new }
 {
-    let mut q: usize = 0;
-    while q < n {
+    for q in 0..n {
         let x = work[rows + q] as usize;
         if x < n {
             work[rows + q] = work[ids + x];
-            q += 1;
-        } else {
-            q += 1;
         }
     }
 }
@@ -42,11 +41,7 @@ fn copy_words(work: &[u32], from: usize, n: usize, to: &mut [u32])
     requires n_in_bounds_2 { n ≤ length to.old }
     ensures { to.new ≡ over to.old 0 n (seg from n work.now) }
 {
-    let mut i: usize = 0;
-    while i < n {
-        to[i] = work[from + i];
-        i += 1;
-    }
+    to[..n].copy_from_slice(&work[from..from + n]);
 }
 
 // Of each of so many starting groups its number and the place of its final group: two words, in starting order.
@@ -55,17 +50,16 @@ fn write_origins(work: &[u32], p: Places, groups: usize, to: &mut [u32])
     requires groups_in_bounds { 2 * groups ≤ length to.old }
     ensures { to.new ≡ over to.old 0 (2 * groups) (origins_told p groups work.now) }
 {
-    let mut i: usize = 0;
-    while i < groups {
+    for i in 0..groups {
         let slot = work[p.order + i] as usize;
         to[2 * i] = i as u32;
         to[2 * i + 1] = work[p.homes + slot];
-        i += 1;
     }
 }
 
-// The first of refusals 11 to 13, 61, 60 and 14 that applies, 0 where none does.
-fn short_no(
+// Refusals 11 to 13, 61, 60 and 14, in this order.
+#[tactic(auto, unfolding(crate::specs::Lent::short_no, said::specs::Refusals::first_failed))]
+fn check_lent(
     p: Places,
     e: Encoded,
     bytes: usize,
@@ -74,29 +68,16 @@ fn short_no(
     map: usize,
     log: usize,
     origins: usize,
-) -> usize
+) -> Result<(), Refusal>
     requires { e.groups ≤ max_shapes }
-    ensures { result ≡ short_no p.sets e.distinct e.groups bytes out ids map log origins }
+    ensures { number_in result ≡ short_no p.sets e.distinct e.groups bytes out ids map log origins }
 {
-    if ids < p.sets {
-        return Refusal::IDS_SHORT;
-    }
-    if map < e.distinct {
-        return Refusal::MAP_SHORT;
-    }
-    if log < log_words(e.groups) {
-        return Refusal::LOG_SHORT;
-    }
-    if origins < 2 * e.groups {
-        return Refusal::ORIGINS_SHORT;
-    }
-    if STORE_BYTES < bytes {
-        return Refusal::STORE_TOO_BIG;
-    }
-    if out < bytes {
-        return Refusal::OUT_SHORT;
-    }
-    0
+    ensure(p.sets <= ids, Refusal::IdsShort)?;
+    ensure(e.distinct <= map, Refusal::MapShort)?;
+    ensure(log_words(e.groups) <= log, Refusal::LogShort)?;
+    ensure(2 * e.groups <= origins, Refusal::OriginsShort)?;
+    ensure(bytes <= STORE_BYTES, Refusal::StoreTooBig)?;
+    ensure(bytes <= out, Refusal::OutShort)
 }
 
 // Writes the store of what is packed before `scratch`, as it was measured.
@@ -170,16 +151,16 @@ pub fn finish(
     map: &mut [u32],
     log: &mut [u32],
     origins: &mut [u32],
-) -> Built
+) -> Result<Report, Refused>
     requires finish_fit { FinishFit k.axes k.starts job.now k.places k.encoded work.old }
     requires regions_in_bounds { scratch_at k.places + 4 * k.places.regions ≤ length work.old }
-    ensures { (x : Packed) → PackedAt x k.places k.encoded work.old → Finished k.axes (coords_in job.now k.axes work.old k.starts k.places.regions) x result (buffers out.old ids.old map.old log.old origins.old) (buffers out.new ids.new map.new log.new origins.new) }
+    ensures { (x : Packed) → PackedAt x k.places k.encoded work.old → Finished k.axes (coords_in job.now k.axes work.old k.starts k.places.regions) x (built result) (buffers out.old ids.old map.old log.old origins.old) (buffers out.new ids.new map.new log.new origins.new) }
 {
     let p = k.places;
     let e = k.encoded;
     let scratch = p.rows + p.sets;
     let done = measure(work, k, scratch);
-    let no = short_no(
+    check_lent(
         p,
         e,
         done.bytes,
@@ -188,11 +169,8 @@ pub fn finish(
         map.len(),
         log.len(),
         origins.len(),
-    );
-    if no != 0 {
-        return Built::Refused(no, 0);
-    }
+    )?;
     write_out(out, job, work, k, scratch, done);
     write_words(&mut work[..scratch], p, e, ids, map, log, origins);
-    Built::Done(done)
+    Ok(done)
 }

@@ -5,6 +5,6 @@ mod answers;
 mod finishing;
 mod measuring;
 
-pub use answers::{Built, Report};
+pub use answers::Report;
 pub use finishing::finish;
 pub use measuring::{Packing, foretell};

@@ -20,8 +20,8 @@ use Rattle.finding.specs.Asked.{asked_refusal}
 use Rattle.finishing.specs.Buffers.{Buffers}
 use Rattle.finishing.specs.Late.{report_of}
 use Rattle.finishing.specs.declared.answers.Report.{Report}
-use Rattle.finishing.specs.declared.answers.Built.{Built}
-use Rattle.finishing.specs.declared.answers.Built.TheVariants as built
+use Rattle.finishing.specs.Answers.{Built}
+use Rattle.finishing.specs.Answers as built
 use Rattle.call.specs.Lending.{Lending, Left, lending, leaves, no_buffers, no_pair}
 use Rattle.call.specs.Build.{pairs_left, outcome_of, answer_of, after}
 use Rattle.packer.specs.Promised.{Obeys}

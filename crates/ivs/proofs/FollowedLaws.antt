@@ -12,9 +12,9 @@ use Rattle.said.specs.Refusals.{store_too_big}
 use Rattle.refusing.specs.Counts.{end_records}
 use Rattle.pairs.specs.declared.Pair.{Pair}
 use Rattle.finishing.specs.declared.answers.Report.{Report}
-use Rattle.finishing.specs.declared.answers.Built.{Built}
-use Rattle.finishing.specs.declared.answers.Built.TheVariants.{Refused, Done}
-use Rattle.finishing.specs.declared.answers.Built.TheVariants as built
+use Rattle.finishing.specs.Answers.{Built}
+use Rattle.finishing.specs.Answers.{Refused, Done}
+use Rattle.finishing.specs.Answers as built
 use Rattle.finishing.specs.Buffers.{Buffers}
 use Rattle.call.specs.Lending.{Lending, Left}
 use Rattle.call.specs.Build.{answer_of}

@@ -6,8 +6,8 @@ use Prim.Native.Nat.{ℕ}
 use native.Mathlib.Omega.{arith}
 use Rattle.said.specs.Refusals.{long_value, bad_region, wide_subtable}
 use Rattle.panel.specs.declared.Profile.TheVariants.{Panel}
-use Rattle.finishing.specs.declared.answers.Built.{Built}
-use Rattle.finishing.specs.declared.answers.Built.TheVariants.{Refused, Done}
+use Rattle.finishing.specs.Answers.{Built}
+use Rattle.finishing.specs.Answers.{Refused, Done}
 use Rattle.call.specs.Lending.{Lending, Left}
 use Rattle.call.specs.Build.{answer_of, after}
 use Rattle.call.specs.Profiled.{answer_by, after_by}

@@ -3,7 +3,7 @@ use mathlib.Core.Path.{◌≡◌, sym, ap, ◌∙◌}
 use mathlib.Core.List.{List}
 use Prim.Native.Nat.{ℕ}
 use Rattle.pairs.specs.declared.Pair.{Pair}
-use Rattle.finishing.specs.declared.answers.Built.{Built}
+use Rattle.finishing.specs.Answers.{Built}
 use Rattle.call.specs.Lending.{Lending, Left}
 use Rattle.reporting.specs.Answers.{number_of, report_words, filled}
 use Rattle.ivs.specs.Answered.{Answered, Forecasted}

@@ -1,7 +1,7 @@
 -- What a host is told of a build call, and of a forecast: the promise of each, with its answer as numbers. Assumes nothing.
 use Rattle.std.specs.Prelude.{◌≡◌, List, ℕ}
 use Rattle.pairs.specs.declared.Pair.{Pair}
-use Rattle.finishing.specs.declared.answers.Built.{Built}
+use Rattle.finishing.specs.Answers.{Built}
 use Rattle.call.specs.Lending.{Lending, Left}
 use Rattle.packer.specs.Promised.{Obeys, ObeysBy, Foretells}
 use Rattle.panel.specs.declared.Profile.TheVariants.{Panel}

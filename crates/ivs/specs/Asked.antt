@@ -1,7 +1,7 @@
 -- What a host is told of why two ids are where they are, and of the part that shows one: the promise of the build in mode 0, with the answer as
 -- numbers. Assumes nothing.
 use Rattle.std.specs.Prelude.{◌≡◌, List, ℕ}
-use Rattle.finishing.specs.declared.answers.Built.{Built}
+use Rattle.finishing.specs.Answers.{Built}
 use Rattle.call.specs.Lending.{Lending, Left}
 use Rattle.call.specs.Build.{outcome_of}
 use Rattle.packer.specs.Promised.{Obeys}

@@ -17,7 +17,7 @@ use Rattle.said.specs.Job.{Said}
 use Rattle.said.proofs.SoundLaws.{Bytes}
 use Rattle.encoder.specs.Packed.{Packed, is_ahead, shared}
 use Rattle.finishing.specs.declared.answers.Report.{Report}
-use Rattle.finishing.specs.declared.answers.Built.TheVariants.{Done}
+use Rattle.finishing.specs.Answers.{Done}
 use Rattle.finishing.specs.Late.{origin_words}
 use Rattle.call.specs.Lending.{Lending}
 use Rattle.call.specs.Build.{packed_of, answer_of, after}

@@ -28,7 +28,7 @@ use Rattle.said.specs.Job.{Said}
 use Rattle.said.proofs.SoundLaws.{Bytes}
 use Rattle.encoder.specs.Packed.{shared, own}
 use Rattle.finishing.specs.declared.answers.Report.{Report}
-use Rattle.finishing.specs.declared.answers.Built.TheVariants as built
+use Rattle.finishing.specs.Answers as built
 use Rattle.finishing.specs.Late.{store_for}
 use Rattle.call.specs.Lending.{Lending}
 use Rattle.call.specs.Build.{coords_in_use, packed_of, answer_of, after}

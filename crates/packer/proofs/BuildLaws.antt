@@ -7,7 +7,7 @@ use Rattle.merging.specs.declared.optimizing.Merged.{Merged}
 use Rattle.slots.specs.declared.tables.MergeTables.{MergeTables}
 use Rattle.merging.specs.LentOptimized.{Ready, Optimized}
 use Rattle.encoder.specs.LentArranged.{tables_of}
-use Rattle.finishing.specs.declared.answers.Built.{Built}
+use Rattle.finishing.specs.Answers.{Built}
 use Rattle.opening.specs.declared.opening.Stage.{Stage}
 use Rattle.pairs.specs.declared.Pair.{Pair}
 use Rattle.call.specs.Lending.{Lending, Left, lending, leaves, no_buffers}

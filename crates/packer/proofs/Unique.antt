@@ -3,7 +3,7 @@ use mathlib.Core.Path.{◌≡◌, sym, ◌∙◌}
 use mathlib.Core.List.{List}
 use Prim.Native.Nat.{ℕ}
 use Rattle.pairs.specs.declared.Pair.{Pair}
-use Rattle.finishing.specs.declared.answers.Built.{Built}
+use Rattle.finishing.specs.Answers.{Built}
 use Rattle.call.specs.Lending.{Lending, Left}
 use Rattle.panel.specs.declared.Profile.{Profile}
 use Rattle.packer.specs.Promised.{Obeys, ObeysBy, Foretells}

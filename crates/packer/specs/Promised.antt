@@ -1,7 +1,7 @@
 -- What is promised of a build call and of a forecast. Assumes nothing.
 use Rattle.std.specs.Prelude.{◌≡◌, List, ℕ}
 use Rattle.pairs.specs.declared.Pair.{Pair}
-use Rattle.finishing.specs.declared.answers.Built.{Built}
+use Rattle.finishing.specs.Answers.{Built}
 use Rattle.call.specs.Lending.{Lending, Left}
 use Rattle.call.specs.Build.{after, answer_of}
 use Rattle.call.specs.Foretold.{foretold}

@@ -20,7 +20,7 @@ use Rattle.narrow.specs.Columns.{most_columns, is_some_wide, is_too_wide}
 use Rattle.narrow.proofs.WideLaws.{all-narrow}
 use Rattle.encoder.specs.Packed.{Packed}
 use Rattle.finishing.specs.declared.answers.Report.{Report}
-use Rattle.finishing.specs.declared.answers.Built.TheVariants.{Refused, Done}
+use Rattle.finishing.specs.Answers.{Refused, Done}
 use Rattle.call.specs.Lending.{Lending, Left}
 use Rattle.call.specs.Build.{coords_in_use, packed_of, outcome_of}
 use Rattle.call.specs.Profiled.{is_wide, answer_by, after_by}

@@ -19,7 +19,7 @@ use Rattle.panel.specs.Panelled.{panelled}
 use Rattle.panel.proofs.PanelledLaws.{panelled-early}
 use Rattle.narrow.specs.Columns.{is_some_wide, is_too_wide}
 use Rattle.finishing.specs.declared.answers.Report.{Report}
-use Rattle.finishing.specs.declared.answers.Built.TheVariants.{Refused, Done}
+use Rattle.finishing.specs.Answers.{Refused, Done}
 use Rattle.finishing.specs.Buffers.{lengths}
 use Rattle.call.specs.Lending.{Lending, Left}
 use Rattle.call.specs.Build.{packed_of, answer_from, left_from, outcome_of, answer_of, after}

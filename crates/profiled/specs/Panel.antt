@@ -7,7 +7,7 @@ use Rattle.groups.specs.Groups.{max_shapes}
 use Rattle.panel.specs.declared.Profile.TheVariants.{Panel}
 use Rattle.narrow.specs.Columns.{is_some_wide}
 use Rattle.finishing.specs.declared.answers.Report.{Report}
-use Rattle.finishing.specs.declared.answers.Built.TheVariants.{Refused, Done}
+use Rattle.finishing.specs.Answers.{Refused, Done}
 use Rattle.call.specs.Lending.{Lending}
 use Rattle.call.specs.Build.{packed_of, outcome_of, answer_of, after}
 use Rattle.call.specs.Profiled.{answer_by, after_by}

@@ -7,8 +7,8 @@ use lib.ListN.{length, get_or, set, take, length-set}
 use lib.Seq.{take_all, take-suc-set, append_snoc}
 use Rattle.said.specs.Records.{must_be_zero, first_not_zero, first_wrong_byte}
 use Rattle.said.specs.Refusals.{not_zero, byte_of}
-use Rattle.finishing.specs.declared.answers.Built.{Built}
-use Rattle.finishing.specs.declared.answers.Built.TheVariants as built
+use Rattle.finishing.specs.Answers.{Built}
+use Rattle.finishing.specs.Answers as built
 use Rattle.reporting.specs.Answers.{byte_told, refused_words, done_words, report_words, filled}
 
 -- words put over the last ones leave those before

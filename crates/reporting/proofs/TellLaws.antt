@@ -6,8 +6,8 @@ use lib.ListN.{length}
 use Rattle.said.specs.Records.{record_at, record_start}
 use Rattle.said.specs.Refusals.{not_zero, byte_of}
 use Rattle.finishing.specs.declared.answers.Report.{Report}
-use Rattle.finishing.specs.declared.answers.Built.{Built}
-use Rattle.finishing.specs.declared.answers.Built.TheVariants.{Refused, Done}
+use Rattle.finishing.specs.Answers.{Built}
+use Rattle.finishing.specs.Answers.{Refused, Done}
 use Rattle.reporting.specs.Answers.{number_of, byte_told, refused_words, done_words, report_words, filled, number_few, byte_within}
 
 pub number-most : (b : Built) (n at : ℕ) → b ≡ Refused n at → number_few b → n ≤ 72

@@ -3,8 +3,8 @@ use Rattle.std.specs.Prelude.{List, [], ◌∷◌, ◌≡◌, ℕ, ◌+◌, ◌�
 use Rattle.said.specs.Records.{record_at, record_start}
 use Rattle.said.specs.Refusals.{not_zero, wide_subtable, byte_of}
 use Rattle.finishing.specs.declared.answers.Report.{Report}
-use Rattle.finishing.specs.declared.answers.Built.{Built}
-use Rattle.finishing.specs.declared.answers.Built.TheVariants as built
+use Rattle.finishing.specs.Answers.{Built}
+use Rattle.finishing.specs.Answers as built
 
 -- of a build: the refusal number, 0 for done
 unfoldable pub number_of : Built → ℕ

@@ -11,7 +11,7 @@ use Rattle.stores.specs.Coordinates.{is_row_there}
 use Rattle.store.specs.Placing.{all_runs, id_words, stored}
 use Rattle.said.specs.Refusals.{job_work, pair_records}
 use Rattle.said.specs.Job.{Said, fine}
-use Rattle.finishing.specs.declared.answers.Built.TheVariants.{Done}
+use Rattle.finishing.specs.Answers.{Done}
 use Rattle.finishing.specs.declared.answers.Report.{Report}
 use Rattle.pairs.specs.declared.Pair.{Pair}
 use Rattle.finishing.specs.Buffers.{Buffers}

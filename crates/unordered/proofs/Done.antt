@@ -18,7 +18,7 @@ use Rattle.said.proofs.SoundLaws.{Bytes, WellSaid, well-said}
 use Rattle.encoder.specs.Packed.{Packed, shared}
 use Rattle.encoder.proofs.DenseIds.{ids-length}
 use Rattle.finishing.specs.declared.answers.Report.{Report}
-use Rattle.finishing.specs.declared.answers.Built.TheVariants.{Done}
+use Rattle.finishing.specs.Answers.{Done}
 use Rattle.finishing.specs.Late.{store_for, origin_words, report_of}
 use Rattle.call.specs.Lending.{Lending}
 use Rattle.call.specs.Build.{coords_in_use, packed_of, outcome_of, answer_of, after}

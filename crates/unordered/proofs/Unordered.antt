@@ -14,7 +14,7 @@ use Rattle.said.specs.Job.{Said, fine}
 use Rattle.said.proofs.SoundLaws.{Bytes}
 use Rattle.encoder.specs.Packed.{Packed, shared}
 use Rattle.finishing.specs.declared.answers.Report.{Report}
-use Rattle.finishing.specs.declared.answers.Built.TheVariants.{Done}
+use Rattle.finishing.specs.Answers.{Done}
 use Rattle.finishing.specs.Late.{store_for, origin_words, report_of}
 use Rattle.call.specs.Lending.{Lending}
 use Rattle.call.specs.Build.{region_bytes, coords_in_use, packed_of, outcome_of, answer_of, after}

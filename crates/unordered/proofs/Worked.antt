@@ -43,7 +43,7 @@ use Rattle.said.specs.Job as job
 use Rattle.said.proofs.SoundLaws.{Bytes}
 use Rattle.encoder.specs.Packed as packed
 use Rattle.finishing.specs.declared.answers.Report.{Report}
-use Rattle.finishing.specs.declared.answers.Built.TheVariants.{Done}
+use Rattle.finishing.specs.Answers.{Done}
 use Rattle.pairs.specs.declared.Pair.{Pair}
 use Rattle.pairs.specs.LentQueue.{none}
 use Rattle.finishing.specs.Buffers.{Buffers, buffers, lengths}

@@ -14,8 +14,8 @@ use Rattle.said.specs.Job.{Said}
 use Rattle.said.proofs.SoundLaws.{Bytes}
 use Rattle.encoder.specs.Packed.{Packed}
 use Rattle.finishing.specs.declared.answers.Report.{Report}
-use Rattle.finishing.specs.declared.answers.Built.{Built}
-use Rattle.finishing.specs.declared.answers.Built.TheVariants as built
+use Rattle.finishing.specs.Answers.{Built}
+use Rattle.finishing.specs.Answers as built
 use Rattle.call.specs.Lending.{Lending, Left}
 use Rattle.call.specs.Build.{coords_in_use, packed_of, answer_of}
 use Rattle.accepted.proofs.PackedLaws.{WellPacked, shared-good}

@@ -4,8 +4,8 @@ use Rattle.laws.specs.Pick.{pick}
 use Rattle.finding.specs.Asked.{no_id, asked_refusal}
 use Rattle.reasons.specs.declared.reason.Reason.{Reason}
 use Rattle.reasons.specs.declared.reason.Reason.TheVariants as reason
-use Rattle.finishing.specs.declared.answers.Built.{Built}
-use Rattle.finishing.specs.declared.answers.Built.TheVariants as built
+use Rattle.finishing.specs.Answers.{Built}
+use Rattle.finishing.specs.Answers as built
 use Rattle.why_words.specs.declared.explained.Why.{Why}
 use Rattle.why_words.specs.declared.explained.Why.TheVariants.{Refused, Same, CutApart, NeverJoined}
 
