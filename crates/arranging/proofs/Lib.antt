@@ -1,4 +1,3 @@
 pub mod NoneLaws
 pub mod PackLaws
 pub mod StageLaws
-pub mod UsedLaws

@@ -16,6 +16,7 @@ use Rattle.encoder.proofs.ReadyLaws.{idle}
 use Rattle.opening.specs.declared.opening.Stage.{Stage}
 use Rattle.call.specs.Build.{coords_in_use, packed_of}
 use Rattle.opening.specs.LentCollected.{Collected}
+use Rattle.std.specs.Prelude.{Ok}
 use Rattle.opening.specs.LentOpened.{Grouped, Read}
 use Rattle.arranging.specs.LentArranged.{Joined, NullStage, ArrangedAs}
 use Rattle.limits.specs.Limits.{most_axes}
@@ -27,9 +28,9 @@ pub record SaidBy (axes mode : ℕ) (job : List ℕ) (o : Outcome) (s : Stage) (
   pub is : o ≡ fine said
   pub grouped : Grouped axes mode job said s w
 
-pub said-by : (axes mode : ℕ) (job : List ℕ) (o : Outcome) (s : Stage) (w : List ℕ) → Read axes mode job o s w → s.no ≡ 0 → SaidBy axes mode job o s w
-said-by axes mode job (refused n i) s w r z = absurd (r.2 (sym r.0 ∙ z))
-said-by axes mode job (fine x) s w r z = record { said = x; is = refl; grouped = r }
+pub said-by : (axes mode : ℕ) (job : List ℕ) (o : Outcome) (s : Stage) (w : List ℕ) → Read axes mode job o (Ok s) w → SaidBy axes mode job o s w
+said-by axes mode job (refused n i) s w r = absurd r
+said-by axes mode job (fine x) s w r = record { said = x; is = refl; grouped = r }
 
 -- ---- whether it is mode 1 without sets
 
@@ -42,24 +43,24 @@ null-none s d e = (λ _. (d, e), λ f. absurd (true-false refl f))
 pub null-some : (s : Stage) → (s.places.sets ≡ 0 → ⊥) → NullStage s false
 null-some s d = (λ f. absurd (true-false f refl), λ _ _. omega arith)
 
-module _ (axes mode : ℕ) (job : List ℕ) (s : Stage) {w : List ℕ} {m : Merged} (o : Outcome) (mid : List ℕ) (r : Read axes mode job o s mid) (j : Joined s m mid w) (z : s.no ≡ 0) where
+module _ (axes mode : ℕ) (job : List ℕ) (s : Stage) {w : List ℕ} {m : Merged} (o : Outcome) (mid : List ℕ) (r : Read axes mode job o (Ok s) mid) (j : Joined s m mid w) where
   abbrev by : SaidBy axes mode job o s mid
-  by = said-by axes mode job o s mid r z
+  by = said-by axes mode job o s mid r
 
-  held : Collected axes s.starts job s.places (said-by axes mode job o s mid r z).said mid
-  held = by.grouped.collected z
+  held : Collected axes s.starts job s.places (said-by axes mode job o s mid r).said mid
+  held = by.grouped.collected
 
   pub stage-few : s.axes ≤ most_axes
-  stage-few = omega (arith, by.grouped.axes-is z, held.axes-few)
+  stage-few = omega (arith, by.grouped.axes-is, held.axes-few)
 
   -- ---- mode 0
 
   module _ (v : s.mode ≡ 0) where
     zero : mode ≡ 0
-    zero = sym (by.grouped.mode-is z) ∙ v
+    zero = sym (by.grouped.mode-is) ∙ v
 
     joins : JoinFit s.places s.groups s.distinct mid
-    joins = by.grouped.joins z zero
+    joins = by.grouped.joins zero
 
     pub regroup-fit : RegroupFit s.places s.groups s.distinct m w
     regroup-fit = record { old = mid; fit = joins; joined = j }
@@ -67,15 +68,15 @@ module _ (axes mode : ℕ) (job : List ℕ) (s : Stage) {w : List ℕ} {m : Merg
     pub arranged-shared : {w' : List ℕ} {e : Encoded}
         → ((old : List ℕ) → JoinFit s.places s.groups s.distinct old → Optimized (tables_of s.places s.groups) m.merges m.weighed m.before m.after old w → JoinedGroups s.places old w' e)
         → ArrangedAs axes mode job o (record { axes = s.axes; starts = s.starts; places = s.places; encoded = e }) w'
-    arranged-shared f = shared-arranged held (f mid joins j) mode zero o by.is s.axes (by.grouped.axes-is z)
+    arranged-shared f = shared-arranged held (f mid joins j) mode zero o by.is s.axes (by.grouped.axes-is)
 
   -- ---- mode 1, for which merging did nothing
 
   module _ (v : s.mode ≡ 0 → ⊥) where
     other : mode ≡ 0 → ⊥
-    other q = v (by.grouped.mode-is z ∙ q)
+    other q = v (by.grouped.mode-is ∙ q)
 
-    alone : Collected axes s.starts job s.places (said-by axes mode job o s mid r z).said w
+    alone : Collected axes s.starts job s.places (said-by axes mode job o s mid r).said w
     alone = subst (λ (x : List ℕ). Collected axes s.starts job s.places by.said x) (sym (idle s.places s.groups j (by.grouped.alone other))) held
 
     pub alone-fit : Fit s.places w
@@ -83,8 +84,8 @@ module _ (axes mode : ℕ) (job : List ℕ) (s : Stage) {w : List ℕ} {m : Merg
 
     pub arranged-own : {w' : List ℕ} {e : Encoded} → OwnAt s.places w w' e
         → ArrangedAs axes mode job o (record { axes = s.axes; starts = s.starts; places = s.places; encoded = e }) w'
-    arranged-own f = own-arranged alone f mode other o by.is s.axes (by.grouped.axes-is z)
+    arranged-own f = own-arranged alone f mode other o by.is s.axes (by.grouped.axes-is)
 
     module _ (n : s.places.sets ≡ 0) where
-      pub none-packed : (packed_of mode (said-by axes mode job o s mid r z).said ≡ own 0 []) × (coords_in_use (said-by axes mode job o s mid r z).said ≡ [])
+      pub none-packed : (packed_of mode (said-by axes mode job o s mid r).said ≡ own 0 []) × (coords_in_use (said-by axes mode job o s mid r).said ≡ [])
       none-packed = none-own alone mode other n

@@ -1,5 +1,5 @@
 -- Where a build stands after merging, and what is left of its groups, arranged. Assumes nothing.
-use Rattle.std.specs.Prelude.{◌≡◌, Bool, true, false, List, ℕ, ◌+◌, ◌*◌, ◌≤◌, ◌<◌, length}
+use Rattle.std.specs.Prelude.{◌≡◌, Bool, true, false, List, ℕ, ◌+◌, ◌*◌, ◌≤◌, ◌<◌, length, Ok}
 use Rattle.merging.specs.declared.optimizing.Merged.{Merged}
 use Rattle.merging.specs.LentOptimized.{Optimized}
 use Rattle.said.specs.Job.{Said, Outcome, fine}
@@ -17,10 +17,6 @@ use Rattle.opening.specs.LentOpened.{Read, no_places}
 -- a build was opened and its groups joined
 abbrev pub Joined : Stage → Merged → List ℕ → List ℕ → Type 0
 Joined s m mid w = Optimized (tables_of s.places s.groups) m.merges m.weighed m.before m.after mid w
-
--- how many pair records are to be cleared: none where nothing was written yet
-abbrev pub PairsUsed : Stage → ℕ → ℕ → Type 0
-PairsUsed s pairs r = (s.early ≡ true → r ≡ 0) × (s.early ≡ false → r ≡ pairs)
 
 -- whether it is mode 1 without sets
 abbrev pub NullStage : Stage → Bool → Type 0
@@ -50,12 +46,11 @@ pub record PackFit (job : List ℕ) (s : Stage) (m : Merged) (w : List ℕ) : Ty
   pub mode : ℕ
   pub outcome : Outcome
   pub mid : List ℕ
-  pub read : Read axes mode job outcome s mid
+  pub read : Read axes mode job outcome (Ok s) mid
   pub joined : Joined s m mid w
 
--- which is not refused, and has sets to arrange
+-- which has sets to arrange
 pub record ArrangeFit (s : Stage) (m : Merged) (w : List ℕ) : Type 0 where
   pub job : List ℕ
   pub fits : PackFit job s m w
-  pub taken : s.no ≡ 0
   pub some : (s.mode ≡ 0 → ⊥) → 0 < s.places.sets

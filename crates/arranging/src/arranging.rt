@@ -1,8 +1,8 @@
 // What is left of the groups once merging is over, arranged by the mode: sets packed in work, for a build and for a forecast.
-ghost use Rattle.std.specs.Prelude.{◌≡◌, List, ℕ};
+ghost use Rattle.std.specs.Prelude.{◌≡◌, List, ℕ, Ok};
 ghost use Rattle.said.specs.Job.{Outcome};
 ghost use Rattle.opening.specs.LentOpened.{Read};
-ghost use Rattle.arranging.specs.LentArranged.{PairsUsed, Joined, NullStage, packing_of_null, ArrangeFit, ArrangedAs};
+ghost use Rattle.arranging.specs.LentArranged.{Joined, NullStage, packing_of_null, ArrangeFit, ArrangedAs};
 
 use encoder::{Encoded, own, regroup};
 use finishing::Packing;
@@ -46,7 +46,7 @@ pub fn null_packing(axes: usize) -> Packing
 // All other sets.
 pub fn arrange(work: &mut [u32], s: Stage, m: Merged) -> Packing
     requires { ArrangeFit s m work.old }
-    ensures { (axes mode : ℕ) (job : List ℕ) (o : Outcome) (mid : List ℕ) → Read axes mode job o s mid → Joined s m mid work.old → ArrangedAs axes mode job o result work.new }
+    ensures { (axes mode : ℕ) (job : List ℕ) (o : Outcome) (mid : List ℕ) → Read axes mode job o (Ok s) mid → Joined s m mid work.old → ArrangedAs axes mode job o result work.new }
 {
     let places = s.places;
     if s.mode == 0 {
@@ -65,14 +65,4 @@ pub fn arrange(work: &mut [u32], s: Stage, m: Merged) -> Packing
         places,
         encoded,
     }
-}
-
-// How many of so many pair records are to be cleared: all, unless nothing was written yet.
-pub fn pairs_used(s: Stage, pairs: usize) -> usize
-    ensures { PairsUsed s pairs result }
-{
-    if s.early {
-        return 0;
-    }
-    pairs
 }

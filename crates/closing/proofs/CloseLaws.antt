@@ -34,8 +34,11 @@ use Rattle.call.specs.Profiled.{is_wide, wide_of, answer_with, left_with}
 use Rattle.closing.proofs.WideLaws.{full-narrow, none-narrow, packed-wide}
 use Rattle.finishing.specs.Buffers.{Buffers}
 use Rattle.finishing.specs.Lent.{FinishFit, Finished}
-use Rattle.closing.specs.LentClosed.{RecordsBuilt, Closed, Foreseen}
-use Rattle.opening.specs.LentOpened.{Read, OpenedAt}
+use Rattle.closing.specs.LentClosed.{RecordsBuilt}
+use Rattle.std.specs.Prelude.{Ok, Err}
+use Rattle.refusals.specs.declared.Refused as refusals
+use Rattle.refusals.specs.Refusals.{number}
+use Rattle.opening.specs.LentOpened.{Read}
 use Rattle.arranging.specs.LentArranged.{Joined, ArrangedAs, PackFit}
 use Rattle.limits.specs.Limits.{most_axes}
 use Rattle.call.proofs.AnswerLaws.{pack-full, told-refused, told-sized, told-full}
@@ -59,38 +62,37 @@ records-wide h axes mode o s old e w = rw e (record { answer = rw w refl; left =
 
 -- ---- where the records are refused, or there are too many shapes
 
-pub foretell-refused : (axes mode : ℕ) (job : List ℕ) (o : Outcome) (s : Stage) (w : List ℕ) → Read axes mode job o s w → (s.no ≡ 0 → ⊥) → Refused s.no s.at ≡ foretold_from axes mode o
-foretell-refused axes mode job (refused n i) s w r z = told-refused axes mode (refused n i) s.no s.at (ap₂ refused (sym r.0) (sym r.1))
-foretell-refused axes mode job (fine x) s w r z = let f = r.full z in ap₂ Refused f.1 f.2 ∙ told-full axes mode x f.0 f.3
+pub foretell-refused : (axes mode : ℕ) (job : List ℕ) (o : Outcome) (r : refusals.Refused) (w : List ℕ) → Read axes mode job o (Err r) w → Refused (number r.refusal) r.place ≡ foretold_from axes mode o
+foretell-refused axes mode job (refused n i) r w e = told-refused axes mode (refused n i) (number r.refusal) r.place (ap₂ refused (sym e.0) (sym e.1))
+foretell-refused axes mode job (fine x) r w e = ap₂ Refused e.number_is e.place-is ∙ told-full axes mode x e.shared e.many
 
 many-groups : (mode : ℕ) (x : Said) → mode ≡ 0 → max_shapes < length (groups_of (length x.used) x.sets) → max_shapes < (packed_of mode x).groups
 unfolding packed_of shared
 many-groups mode x z many = rw (eq-eqb mode 0 z) many
 
-pub settle-refused : (h : Profile) (axes mode : ℕ) (job : List ℕ) (o : Outcome) (s : Stage) (w : List ℕ) → Read axes mode job o s w → (s.no ≡ 0 → ⊥) → (old : Buffers)
-    → RecordsBuilt h axes mode o (Refused s.no s.at) old old
-settle-refused h axes mode job (refused n i) s w r z old = records-refused h axes mode (refused n i) s.no s.at old (ap₂ refused (sym r.0) (sym r.1))
-settle-refused h axes mode job (fine x) s w r z old =
-    let f = r.full z in
-    subst (λ (b : Built). RecordsBuilt h axes mode (fine x) b old old) (ap₂ Refused (sym f.1) (sym f.2))
-    (records-built h axes mode (fine x) x (Refused shapes_full 0) old old refl (full-narrow h (packed_of mode x) (many-groups mode x f.0 f.3)) (pack-full axes mode x f.0 f.3 old))
+pub settle-refused : (h : Profile) (axes mode : ℕ) (job : List ℕ) (o : Outcome) (r : refusals.Refused) (w : List ℕ) → Read axes mode job o (Err r) w → (old : Buffers)
+    → RecordsBuilt h axes mode o (Refused (number r.refusal) r.place) old old
+settle-refused h axes mode job (refused n i) r w e old = records-refused h axes mode (refused n i) (number r.refusal) r.place old (ap₂ refused (sym e.0) (sym e.1))
+settle-refused h axes mode job (fine x) r w e old =
+    subst (λ (b : Built). RecordsBuilt h axes mode (fine x) b old old) (ap₂ Refused (sym e.number_is) (sym e.place-is))
+    (records-built h axes mode (fine x) x (Refused shapes_full 0) old old refl (full-narrow h (packed_of mode x) (many-groups mode x e.shared e.many)) (pack-full axes mode x e.shared e.many old))
 
 -- ---- mode 1 without sets
 
-module _ (axes mode : ℕ) (job : List ℕ) (s : Stage) {w : List ℕ} {m : Merged} (o : Outcome) (mid : List ℕ) (r : Read axes mode job o s mid) (j : Joined s m mid w) (z : s.no ≡ 0) where
+module _ (axes mode : ℕ) (job : List ℕ) (s : Stage) {w : List ℕ} {m : Merged} (o : Outcome) (mid : List ℕ) (r : Read axes mode job o (Ok s) mid) (j : Joined s m mid w) where
   abbrev by : SaidBy axes mode job o s mid
-  by = said-by axes mode job o s mid r z
+  by = said-by axes mode job o s mid r
 
   module _ (v : s.mode ≡ 0 → ⊥) (n : s.places.sets ≡ 0) where
-    empty : (packed_of mode (said-by axes mode job o s mid r z).said ≡ own 0 []) × (coords_in_use (said-by axes mode job o s mid r z).said ≡ [])
-    empty = none-packed axes mode job s o mid r j z v n
+    empty : (packed_of mode (said-by axes mode job o s mid r).said ≡ own 0 []) × (coords_in_use (said-by axes mode job o s mid r).said ≡ [])
+    empty = none-packed axes mode job s o mid r j v n
 
     pub none-built : (h : Profile) (b : Built) (old new : Buffers) → Finished s.axes [] (own 0 []) b old new → RecordsBuilt h axes mode o b old new
     none-built h b old new f =
         records-built h axes mode o by.said b old new by.is (subst (λ (x : Packed). is_wide h x ≡ false) (sym empty.0) (none-narrow h))
         (subst (λ (x : Packed). Finished axes (coords_in_use by.said) x b old new) (sym empty.0)
         (subst (λ (x : List (List ℕ)). Finished axes x (own 0 []) b old new) (sym empty.1)
-        (subst (λ (x : ℕ). Finished x [] (own 0 []) b old new) (by.grouped.axes-is z) f)))
+        (subst (λ (x : ℕ). Finished x [] (own 0 []) b old new) (by.grouped.axes-is) f)))
 
     pub none_told : (d : Report) → d ≡ report_of s.axes [] (own 0 []) → {b : Built} → b ≡ size_told d → b ≡ foretold_from axes mode o
     unfolding own
@@ -98,7 +100,7 @@ module _ (axes mode : ℕ) (job : List ℕ) (s : Stage) {w : List ℕ} {m : Merg
         let k = packed_of mode by.said in
         let few : k.groups ≤ max_shapes = subst (λ (x : Packed). x.groups ≤ max_shapes) (sym empty.0) (omega arith) in
         t
-        ∙ ap size_told (f ∙ ap (λ (a : ℕ). report_of a [] (own 0 [])) (by.grouped.axes-is z) ∙ ap₂ (report_of axes) (sym empty.1) (sym empty.0))
+        ∙ ap size_told (f ∙ ap (λ (a : ℕ). report_of a [] (own 0 [])) (by.grouped.axes-is) ∙ ap₂ (report_of axes) (sym empty.1) (sym empty.0))
         ∙ told-sized axes mode o by.said by.is few
 
 -- ---- from what is arranged
@@ -129,81 +131,3 @@ module _ {axes mode : ℕ} {job : List ℕ} {o : Outcome} {k : Packing} {w : Lis
       t
       ∙ ap size_told (f job x a.fit a.packed ∙ ap₂ (λ (n : ℕ) (l : List (List ℕ)). report_of n l x) a.axes-is a.coords-are)
       ∙ told-sized axes mode o a.said a.said-is (omega (arith, a.packed.groups-is, a.packed.groups-few))
-
--- ---- the whole
-
-module _ (axes mode : ℕ) (job : List ℕ) (work pairs n : ℕ) (e : n ≡ early_refusal axes mode job work pairs) where
-  pub outcome-early : (n ≡ 0 → ⊥) → outcome axes mode job work pairs ≡ refused n 0
-  unfolding outcome
-  outcome-early h =
-      ap (λ (k : ℕ). outcome_from k (records_from axes mode job job (record_count job) 0 in_axes)) (sym e) ∙ early-first n (records_from axes mode job job (record_count job) 0 in_axes) h
-
-  pub outcome-late : n ≡ 0 → outcome axes mode job work pairs ≡ records_from axes mode job job (record_count job) 0 in_axes
-  unfolding outcome
-  outcome-late z = none-early (early_refusal axes mode job work pairs) (records_from axes mode job job (record_count job) 0 in_axes) (sym e ∙ z)
-
-module _ {h : Profile} {axes mode : ℕ} {job w : List ℕ} {s : Stage} {m : Merged} (old : List ℕ) (pairs : ℕ) (mid : List ℕ) (p : OpenedAt h axes mode job old pairs mid s) (j : Joined s m mid w) where
-  abbrev records : Outcome
-  records = records_from axes mode job job (record_count job) 0 in_axes
-
-  abbrev whole : Outcome
-  whole = outcome axes mode job (length old) pairs
-
-  refused-early : s.early ≡ true → outcome axes mode job (length old) pairs ≡ refused s.no s.at
-  refused-early e =
-      let a = p.at_once e in
-      outcome-early axes mode job (length old) pairs s.no a.1 a.2 ∙ ap (refused s.no) (sym a.3)
-
-  -- no record stands before such a refusal
-  panelled-first : s.early ≡ true → panelled h job (outcome axes mode job (length old) pairs) ≡ refused s.no s.at
-  panelled-first e = panelled-early h job whole s.no s.at (refused-early e) (p.at_once e).3
-
-  work-early : s.early ≡ true → w ≡ work_left axes mode job pairs old
-  work-early e =
-      let a = p.at_once e in
-      idle s.places s.groups j a.4 ∙ a.0 ∙ left-early axes mode job old pairs s.no a.1 a.2
-
-  pub close-early : s.early ≡ true → (lent : Buffers) → Closed h axes mode job old pairs (Refused s.no s.at) lent lent w
-  close-early e lent = record { built = records-refused h axes mode (panelled h job whole) s.no s.at lent (panelled-first e); work-is = work-early e }
-
-  pub close-settle : s.early ≡ false → PackFit job s m w
-  close-settle e = record { axes = axes; mode = mode; outcome = panelled h job records; mid = mid; read = (p.after e).1; joined = j }
-
-  outcome-is : s.early ≡ false → outcome axes mode job (length old) pairs ≡ records_from axes mode job job (record_count job) 0 in_axes
-  outcome-is e = outcome-late axes mode job (length old) pairs 0 (sym (p.after e).0) refl
-
-  work-late : s.early ≡ false → (long : ℕ) → long ≡ length w → (w' : List ℕ) → w' ≡ replicate long 0 → w' ≡ work_left axes mode job pairs old
-  work-late e long l w' c = left-zeros axes mode job old pairs 0 (sym (p.after e).0) refl long w' (l ∙ j.only.long ∙ p.long) c
-
-  pub close_late : s.early ≡ false → (b : Built) (lent lent' : Buffers)
-      → ((a d : ℕ) (o : Outcome) (v : List ℕ) → Read a d job o s v → Joined s m v w → RecordsBuilt s.profile a d o b lent lent')
-      → (long : ℕ) → long ≡ length w → (w' : List ℕ) → w' ≡ replicate long 0 → Closed h axes mode job old pairs b lent lent' w'
-  close_late e b lent lent' f long l w' c = record {
-    built = subst (λ (o : Outcome). RecordsBuilt h axes mode (panelled h job o) b lent lent') (sym (outcome-is e))
-        (subst (λ (y : Profile). RecordsBuilt y axes mode (panelled h job records) b lent lent') p.profile-is (f axes mode (panelled h job records) mid (p.after e).1 j));
-    work-is = work-late e long l w' c;
-  }
-
--- a forecast has no profile
-module _ {axes mode : ℕ} {job w : List ℕ} {s : Stage} {m : Merged} (old : List ℕ) (pairs : ℕ) (mid : List ℕ) (p : OpenedAt Plain axes mode job old pairs mid s) (j : Joined s m mid w) where
-  pub foresee-early : s.early ≡ true → Foreseen axes mode job old pairs (Refused s.no s.at) w
-  foresee-early e = record { answer = told-refused axes mode (outcome axes mode job (length old) pairs) s.no s.at (refused-early old pairs mid p j e); work-is = work-early old pairs mid p j e }
-
-  pub foresee-late : s.early ≡ false → (b : Built) → ((a d : ℕ) (job : List ℕ) (o : Outcome) (v : List ℕ) → Read a d job o s v → Joined s m v w → b ≡ foretold_from a d o)
-      → (long : ℕ) → long ≡ length w → (w' : List ℕ) → w' ≡ replicate long 0 → Foreseen axes mode job old pairs b w'
-  foresee-late e b f long l w' c =
-      let records = records_from axes mode job job (record_count job) 0 in_axes in
-      record {
-        answer = f axes mode job (panelled Plain job records) mid (p.after e).1 j ∙ ap (foretold_from axes mode) (panelled-plain job records ∙ sym (outcome-is old pairs mid p j e));
-        work-is = work-late old pairs mid p j e long l w' c;
-      }
-
--- ---- the size of what was measured
-
-pub told-big : (d : Report) → most_bytes < d.bytes → Refused store_too_big 0 ≡ size_told d
-unfolding size_told
-told-big d h = simp (lt-leb d.bytes most_bytes h)
-
-pub told-small : (d : Report) → (most_bytes < d.bytes → ⊥) → Done d ≡ size_told d
-unfolding size_told
-told-small d h = let f : d.bytes ≤ most_bytes = omega arith in simp (le-leb d.bytes most_bytes f)

@@ -3,43 +3,26 @@ use Rattle.std.specs.Prelude.{◌≡◌, List, ℕ, length}
 use Rattle.merging.specs.declared.optimizing.Merged.{Merged}
 use Rattle.said.specs.Job.{Outcome, outcome}
 use Rattle.job.specs.Check.{work_left}
-use Rattle.finishing.specs.Answers.{Built}
+use Rattle.panel.specs.Panelled.{panelled}
 use Rattle.call.specs.Foretold.{foretold_from}
+use Rattle.finishing.specs.Answers.{Built}
 use Rattle.opening.specs.declared.opening.Stage.{Stage}
 use Rattle.finishing.specs.Buffers.{Buffers, lengths}
 use Rattle.panel.specs.declared.Profile.{Profile}
-use Rattle.panel.specs.Panelled.{panelled}
 use Rattle.call.specs.Profiled.{answer_with, left_with}
-use Rattle.opening.specs.LentOpened.{OpenedAt}
-use Rattle.arranging.specs.LentArranged.{Joined, PackFit}
+use Rattle.arranging.specs.LentArranged.{PackFit}
 
 -- what the records say is answered by the profile, and the buffers are as it says
 pub record RecordsBuilt (p : Profile) (axes mode : ℕ) (o : Outcome) (r : Built) (old new : Buffers) : Type 0 where
   pub answer : r ≡ answer_with p axes mode (lengths old) o
   pub left : new ≡ left_with p axes mode old o
 
--- ---- what it asks: a build that was opened and its groups joined
-
--- of some job
+-- what is asked: a build of some job that was opened, and its groups joined
 pub record ForetellFit (s : Stage) (m : Merged) (w : List ℕ) : Type 0 where
   pub job : List ℕ
   pub fits : PackFit job s m w
 
-pub record CloseFit (job : List ℕ) (s : Stage) (m : Merged) (w : List ℕ) : Type 0 where
-  pub profile : Profile
-  pub axes : ℕ
-  pub mode : ℕ
-  pub old : List ℕ
-  pub pairs : ℕ
-  pub mid : List ℕ
-  pub opened : OpenedAt profile axes mode job old pairs mid s
-  pub joined : Joined s m mid w
-
-pub record ForeseeFit (s : Stage) (m : Merged) (w : List ℕ) : Type 0 where
-  pub job : List ℕ
-  pub fits : CloseFit job s m w
-
--- ---- and what it leaves: what the build answers, the buffers and work
+-- ---- what a build and a forecast leave, once work is cleared: the answer, the buffers and work
 
 pub record Closed (p : Profile) (axes mode : ℕ) (job work : List ℕ) (pairs : ℕ) (r : Built) (old new : Buffers) (work' : List ℕ) : Type 0 where
   pub built : RecordsBuilt p axes mode (panelled p job (outcome axes mode job (length work) pairs)) r old new

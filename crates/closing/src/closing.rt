@@ -1,22 +1,22 @@
 // The last part of a build, once merging is over: what is left of the groups arranged, and everything written or refused.
-ghost use Rattle.std.specs.Prelude.{List, [], ℕ, ◌≤◌};
+ghost use Rattle.std.specs.Prelude.{List, [], ℕ, ◌≤◌, Ok};
 ghost use Rattle.said.specs.Job.{Outcome};
 ghost use Rattle.encoder.specs.Packed.{own};
+ghost use Rattle.finishing.specs.Answers.{built};
 ghost use Rattle.finishing.specs.Buffers.{buffers};
 ghost use Rattle.finishing.specs.Lent.{Finished};
 ghost use Rattle.limits.specs.Limits.{most_axes};
-ghost use Rattle.panel.specs.declared.Profile.{Profile};
-ghost use Rattle.opening.specs.LentOpened.{Read, OpenedAt};
+ghost use Rattle.opening.specs.LentOpened.{Read};
 ghost use Rattle.arranging.specs.LentArranged.{Joined, PackFit};
-ghost use Rattle.closing.specs.LentClosed.{RecordsBuilt, CloseFit, Closed};
+ghost use Rattle.closing.specs.LentClosed.{RecordsBuilt};
 
 use arranging::{arrange, is_null, null_packing};
-use finishing::{Built, finish};
-use job::clear_work;
+use finishing::{Report, finish};
 use merging::Merged;
 use narrow::too_wide;
 use opening::Stage;
-use said::Refusal;
+use panel::Profile;
+use refusals::{Refusal, Refused};
 use store::Finals;
 
 // Mode 1 without sets: the three words of its one group are these.
@@ -28,9 +28,9 @@ fn finish_none(
     map: &mut [u32],
     log: &mut [u32],
     origins: &mut [u32],
-) -> Built
+) -> Result<Report, Refused>
     requires { axes ≤ most_axes }
-    ensures { Finished axes [] (own 0 []) result (buffers out.old ids.old map.old log.old origins.old) (buffers out.new ids.new map.new log.new origins.new) }
+    ensures { Finished axes [] (own 0 []) (built result) (buffers out.old ids.old map.old log.old origins.old) (buffers out.new ids.new map.new log.new origins.new) }
 {
     let mut null = [0u32; 3];
     null[1] = 3;
@@ -46,8 +46,9 @@ fn finish_none(
     )
 }
 
-// Packs the sets by their mode, looks whether the profile takes the columns, and finishes.
-fn pack_sets(
+// Packs the sets of a job that was opened by a profile, looks whether it takes the columns, and finishes.
+pub fn close(
+    profile: Profile,
     job: &[u8],
     work: &mut [u32],
     s: Stage,
@@ -57,13 +58,10 @@ fn pack_sets(
     map: &mut [u32],
     log: &mut [u32],
     origins: &mut [u32],
-) -> Built
+) -> Result<Report, Refused>
     requires { PackFit job.now s m work.old }
-    ensures { (axes mode : ℕ) (o : Outcome) (mid : List ℕ) → Read axes mode job.now o s mid → Joined s m mid work.old → RecordsBuilt s.profile axes mode o result (buffers out.old ids.old map.old log.old origins.old) (buffers out.new ids.new map.new log.new origins.new) }
+    ensures { (axes mode : ℕ) (o : Outcome) (mid : List ℕ) → Read axes mode job.now o (Ok s) mid → Joined s m mid work.old → RecordsBuilt profile axes mode o (built result) (buffers out.old ids.old map.old log.old origins.old) (buffers out.new ids.new map.new log.new origins.new) }
 {
-    if s.no != 0 {
-        return Built::Refused(s.no, s.at);
-    }
     if is_null(s) {
         return finish_none(job, s.axes, out, ids, map, log, origins);
     }
@@ -76,32 +74,11 @@ fn pack_sets(
         count: e.count,
         index: 0,
     };
-    let profile = s.profile;
     if too_wide(profile, work, t) {
-        return Built::Refused(Refusal::WIDE_SUBTABLE, 0);
+        return Err(Refused {
+            refusal: Refusal::WideSubtable,
+            place: 0,
+        });
     }
     finish(job, work, k, out, ids, map, log, origins)
-}
-
-// Answers, and clears work unless nothing was written there.
-pub fn close(
-    job: &[u8],
-    work: &mut [u32],
-    s: Stage,
-    m: Merged,
-    out: &mut [u8],
-    ids: &mut [u32],
-    map: &mut [u32],
-    log: &mut [u32],
-    origins: &mut [u32],
-) -> Built
-    requires { CloseFit job.now s m work.old }
-    ensures { (profile : Profile) (axes mode : ℕ) (old : List ℕ) (pairs : ℕ) (mid : List ℕ) → OpenedAt profile axes mode job.now old pairs mid s → Joined s m mid work.old → Closed profile axes mode job.now old pairs result (buffers out.old ids.old map.old log.old origins.old) (buffers out.new ids.new map.new log.new origins.new) work.new }
-{
-    if s.early {
-        return Built::Refused(s.no, s.at);
-    }
-    let r = pack_sets(job, work, s, m, out, ids, map, log, origins);
-    clear_work(work);
-    r
 }

@@ -1,21 +1,21 @@
 // The last part of a forecast: what is left of the groups arranged and measured, with nothing written.
-ghost use Rattle.std.specs.Prelude.{◌≡◌, List, [], ℕ, ◌≤◌};
+ghost use Rattle.std.specs.Prelude.{◌≡◌, List, [], ℕ, ◌≤◌, Ok};
 ghost use Rattle.said.specs.Job.{Outcome};
 ghost use Rattle.encoder.specs.Packed.{own};
+ghost use Rattle.finishing.specs.Answers.{built};
 ghost use Rattle.finishing.specs.Late.{report_of, size_told};
 ghost use Rattle.limits.specs.Limits.{most_axes};
-ghost use Rattle.panel.specs.declared.Profile.TheVariants.{Plain};
 ghost use Rattle.call.specs.Foretold.{foretold_from};
-ghost use Rattle.opening.specs.LentOpened.{Read, OpenedAt};
+ghost use Rattle.opening.specs.LentOpened.{Read};
 ghost use Rattle.arranging.specs.LentArranged.{Joined};
-ghost use Rattle.closing.specs.LentClosed.{ForetellFit, ForeseeFit, Foreseen};
+ghost use Rattle.closing.specs.LentClosed.{ForetellFit};
 
 use arranging::{arrange, is_null, null_packing};
-use finishing::{Built, Report, foretell};
-use job::clear_work;
+use finishing::{Report, foretell};
 use merging::Merged;
 use opening::Stage;
-use said::{Refusal, STORE_BYTES};
+use refusals::{Refusal, Refused, ensure};
+use said::STORE_BYTES;
 
 // Mode 1 without sets: the three words of its one group are these.
 fn foretell_none(axes: usize) -> Report
@@ -28,39 +28,22 @@ fn foretell_none(axes: usize) -> Report
 }
 
 // What was measured is answered, unless the store would be too big.
-fn tell_size(done: Report) -> Built
-    ensures { result ≡ size_told done }
+#[tactic(auto, unfolding(finishing::specs::Late::size_told))]
+fn tell_size(done: Report) -> Result<Report, Refused>
+    ensures { built result ≡ size_told done }
 {
-    if STORE_BYTES < done.bytes {
-        return Built::Refused(Refusal::STORE_TOO_BIG, 0);
-    }
-    Built::Done(done)
+    ensure(done.bytes <= STORE_BYTES, Refusal::StoreTooBig)?;
+    Ok(done)
 }
 
-// Packs the sets by their mode, and measures.
-fn foretell_sets(work: &mut [u32], s: Stage, m: Merged) -> Built
+// Packs the sets of a job that was opened by their mode, and measures.
+pub fn foresee(work: &mut [u32], s: Stage, m: Merged) -> Result<Report, Refused>
     requires { ForetellFit s m work.old }
-    ensures { (axes mode : ℕ) (job : List ℕ) (o : Outcome) (mid : List ℕ) → Read axes mode job o s mid → Joined s m mid work.old → result ≡ foretold_from axes mode o }
+    ensures { (axes mode : ℕ) (job : List ℕ) (o : Outcome) (mid : List ℕ) → Read axes mode job o (Ok s) mid → Joined s m mid work.old → built result ≡ foretold_from axes mode o }
 {
-    if s.no != 0 {
-        return Built::Refused(s.no, s.at);
-    }
     if is_null(s) {
         return tell_size(foretell_none(s.axes));
     }
     let k = arrange(work, s, m);
     tell_size(foretell(work, k))
-}
-
-// Answers, and clears work unless nothing was written there.
-pub fn foresee(work: &mut [u32], s: Stage, m: Merged) -> Built
-    requires { ForeseeFit s m work.old }
-    ensures { (axes mode : ℕ) (job old : List ℕ) (pairs : ℕ) (mid : List ℕ) → OpenedAt Plain axes mode job old pairs mid s → Joined s m mid work.old → Foreseen axes mode job old pairs result work.new }
-{
-    if s.early {
-        return Built::Refused(s.no, s.at);
-    }
-    let r = foretell_sets(work, s, m);
-    clear_work(work);
-    r
 }

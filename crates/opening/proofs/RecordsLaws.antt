@@ -1,6 +1,6 @@
 -- A job whose records are read: its sets are held, its regions' starts noted, and the tables laid out behind them. Assumes nothing.
 use mathlib.Core.Path.{◌≡◌, sym, ap, ◌∙◌}
-use mathlib.Core.List.{List, [], map}
+use mathlib.Core.List.{List, [], ◌∷◌, map}
 use Prim.Native.Nat.{ℕ, ◌+◌, ◌*◌, ◌/◌, ◌≤◌, ◌<◌, min}
 use native.Mathlib.Omega.{arith}
 use lib.ListN.{length, get_or}
@@ -14,7 +14,9 @@ use Rattle.said.specs.Records.{record_start, region_length, coordinates_start, a
 use Rattle.said.specs.Work.{regions_at_head, published_work}
 use Rattle.said.specs.Sets.{Region}
 use Rattle.said.specs.Job.{Said}
-use Rattle.job.specs.Lent.{JobHeld, JobRead}
+use Rattle.laws.specs.LentRange.{Only}
+use Rattle.job.specs.declared.whole.JobCounts.{JobCounts}
+use Rattle.job.specs.Lent.{JobHeld}
 use Rattle.said.proofs.SaidLaws.{Counts, counts, room_of, no-use}
 use Rattle.said.proofs.WorkLaws.{head-enough}
 use Rattle.encoder.specs.declared.places.Places.{Places}
@@ -47,80 +49,77 @@ in-job axes n x records a h k m =
 
 module _ {axes mode records : ℕ} {job w w₁ : List ℕ} (some : 0 < axes) (few : axes ≤ most_axes) (bytes : (k : ℕ) → get_or job k 0 < 256)
     (room : record_start records ≤ length job) (most : records ≤ most_records) (work : published_work records (regions_at_head axes job) ≤ length w)
-    {nr at regions sets values uses : ℕ} (r : JobRead axes mode job records w w₁ nr at regions sets values uses) (z : nr ≡ 0) where
-  abbrev held : JobHeld axes mode job records w₁ regions sets values uses
-  held = r.good z
-
+    (c : JobCounts) (held : JobHeld axes mode job records w₁ c) (only : Only ((0, 16 * records) ∷ []) w w₁) where
   abbrev pub says : Said
-  says = (r.good z).said
+  says = held.said
 
-  cs : Counts axes job records (r.good z).said
+  cs : Counts axes job records held.said
   cs = counts axes mode job records says some bytes held.is
 
-  sets-long : length (r.good z).said.sets ≡ sets
-  sets-long = ap length (sym held.sets-are) ∙ sets-length 0 sets w₁
+  sets-long : length held.said.sets ≡ c.sets
+  sets-long = ap length (sym held.sets-are) ∙ sets-length 0 c.sets w₁
 
-  sum-few : sets + uses ≤ records
+  sum-few : c.sets + c.uses ≤ records
   sum-few = omega (arith, (room_of axes job records says some cs).0, sets-long, held.uses-are)
 
-  pub uses-few : uses ≤ max_regions
+  pub uses-few : c.uses ≤ max_regions
   uses-few = omega (arith, (room_of axes job records says some cs).2, held.uses-are)
 
   -- no more than the regions at the job's head
-  head : uses ≤ regions_at_head axes job
+  head : c.uses ≤ regions_at_head axes job
   head = omega (arith, head-enough axes mode job records says some bytes room held.is, cs.used-few, held.uses-are)
 
   published : 16 * records + min records max_shapes * (regions_at_head axes job + 16 + 3 * ((regions_at_head axes job + 31) / 32)) ≤ length w₁
   unfolding published_work
-  published = omega (arith, r.only.long)
+  published = omega (arith, only.long)
 
-  pub starts-room : 4 * records + uses ≤ length w₁
+  pub starts-room : 4 * records + c.uses ≤ length w₁
   starts-room = omega (arith, published, sum-few)
 
-  used-word : (i : ℕ) → i < uses → get_or w₁ (4 * records + i) 0 ≡ get_or (r.good z).said.used i 0
-  used-word i h = sym (get_or-seg (4 * records) uses w₁ i h) ∙ ap (λ (l : List ℕ). get_or l i 0) held.used-are
+  used-word : (i : ℕ) → i < c.uses → get_or w₁ (4 * records + i) 0 ≡ get_or held.said.used i 0
+  used-word i h = sym (get_or-seg (4 * records) c.uses w₁ i h) ∙ ap (λ (l : List ℕ). get_or l i 0) held.used-are
 
-  used_low : (i : ℕ) → i < uses → get_or (r.good z).said.used i 0 < length (r.good z).said.regions
-  used_low i h = all-get_or (λ (q : ℕ). q < length (r.good z).said.regions) says.used i 0 cs.used_low (omega (arith, held.uses-are))
+  used_low : (i : ℕ) → i < c.uses → get_or held.said.used i 0 < length held.said.regions
+  used_low i h = all-get_or (λ (q : ℕ). q < length held.said.regions) says.used i 0 cs.used_low (omega (arith, held.uses-are))
 
-  pub starts-low : (i : ℕ) → i < uses → get_or w₁ (4 * records + i) 0 < max_regions
+  pub starts-low : (i : ℕ) → i < c.uses → get_or w₁ (4 * records + i) 0 < max_regions
   starts-low i h = omega (arith, used-word i h, used_low i h, cs.regions-few)
 
-  pub sets-few : sets ≤ most_records
+  pub sets-few : c.sets ≤ most_records
   sets-few = omega (arith, sum-few)
 
-  pub base-few : 4 * records + uses ≤ 5242880
+  pub base-few : 4 * records + c.uses ≤ 5242880
   base-few = omega (arith, sum-few)
 
-  module _ {w₂ : List ℕ} (t : StartsAt (4 * records) uses axes w₁ w₂) {p : Places} (q : PlacesAt (4 * records + uses) sets uses p) where
+  module _ {w₂ : List ℕ} (t : StartsAt (4 * records) c.uses axes w₁ w₂) {p : Places} (q : PlacesAt (4 * records + c.uses) c.sets c.uses p) where
     kept : Kept (4 * records) w₁ w₂
     kept = kept-only t.only (omega arith, tt)
 
-    start_word : (i : ℕ) → i < uses → get_or w₂ (4 * records + i) 0 ≡ coordinates_start axes (get_or (r.good z).said.used i 0)
+    start_word : (i : ℕ) → i < c.uses → get_or w₂ (4 * records + i) 0 ≡ coordinates_start axes (get_or held.said.used i 0)
     start_word i h = t.is i h ∙ ap (coordinates_start axes) (used-word i h)
 
-    regions-fit : length (r.good z).said.regions * axes ≤ records
+    regions-fit : length held.said.regions * axes ≤ records
     regions-fit = omega (arith, cs.records-are)
 
     held₂ : Held w₂ 0 p.sets p.regions p.line
-    held₂ = rw (q.sets-is, q.regions-is, q.line-is) (held_more (4 * records + uses) (held_kept held.held kept) (omega arith) (omega (arith, starts-room, t.only.long)))
+    held₂ = rw (q.sets-is, q.regions-is, q.line-is) (held_more (4 * records + c.uses) (held_kept held.held kept) (omega arith) (omega (arith, starts-room, t.only.long)))
 
-    job-long : region_length axes * length (r.good z).said.regions ≤ length job
+    job-long : region_length axes * length held.said.regions ≤ length job
     job-long =
         let n = length says.regions in
         let e : region_length axes * n ≡ record_start (n * axes) = omega arith in
         omega (arith, regions-fit)
 
-    coords₂ : store.coords_in job axes w₂ (4 * records) (length (r.good z).said.used) ≡ coords_in_use (r.good z).said
+    coords₂ : store.coords_in job axes w₂ (4 * records) (length held.said.used) ≡ coords_in_use held.said
     unfolding coords_in_use
     coords₂ =
         coords-are job bytes axes (length says.regions) job-long w₂ (4 * records) says.used cs.used_low (λ i h. start_word i (omega (arith, held.uses-are)))
         ∙ ap (λ (l : List Region). map (λ x. region_bytes (get_or l x [])) says.used) (sym cs.regions-are)
 
-    pub collected : Collected axes (4 * records) job p (r.good z).said w₂
+    pub collected : Collected axes (4 * records) job p held.said w₂
     collected = record {
       fit = record {
-        laid = laid (4 * records + uses) sets uses records (regions_at_head axes job) (length w₂) p q (omega arith) most uses-few sum-few head (omega (arith, published, t.only.long));
+        laid = laid (4 * records + c.uses) c.sets c.uses records (regions_at_head axes job) (length w₂) p q (omega arith) most uses-few sum-few head (omega (arith, published, t.only.long));
         held = held₂;
       };
       axes-few = few;
@@ -128,7 +127,7 @@ module _ {axes mode records : ℕ} {job w w₁ : List ℕ} (some : 0 < axes) (fe
       sets-are = ap (λ (n : ℕ). sets_in 0 n w₂) q.sets-is ∙ sets_same held.held kept ∙ held.sets-are;
       regions-are = held.uses-are ∙ sym q.regions-is;
       sourced = λ i h.
-          let l : i < uses = omega (arith, q.regions-is) in
+          let l : i < c.uses = omega (arith, q.regions-is) in
           rw (start_word i l) (record { inside = λ a k. omega (arith, in-job axes (length says.regions) (get_or says.used i 0) records a (used_low i l) k regions-fit) });
       coords-are = ap (store.coords_in job axes w₂ (4 * records)) (q.regions-is ∙ sym held.uses-are) ∙ coords₂;
       no-use = no-use axes mode job records says some bytes held.is;

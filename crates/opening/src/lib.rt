@@ -1,4 +1,4 @@
-// The first part of a build: a job checked, its records read into work, its sets grouped.
+// The first part of a build: a job's records read into work, its sets grouped.
 #![tactic(auto)]
 
 mod opening;

@@ -5,6 +5,6 @@ mod building;
 mod foretelling;
 
 pub use building::build;
-pub use finishing::{Built, Report};
+pub use finishing::Report;
 pub use foretelling::forecast;
 pub use panel::Profile;

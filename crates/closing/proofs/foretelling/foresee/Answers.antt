@@ -1,21 +1,31 @@
-use Rattle.closing.proofs.CloseLaws.{foresee-early, close-settle, foresee-late}
-use borrow.Author.Rules.{rules}
+use Rattle.finishing.proofs.FinishLaws.{words-fit}
+use Rattle.closing.proofs.CloseLaws.{none_told, arranged-few, arranged-told}
+use Rattle.arranging.proofs.StageLaws.{stage-few}
 use Rattle.closing.proofs.foretelling.foresee.Goals as goal
 
-pub returns-then-s : goal.returns-then-s
-returns-then-s c = λ axes mode job old pairs mid p j. foresee-early old pairs mid p j c.if-s.true
-
-pub foretell_sets-r-requires : goal.foretell_sets-r-requires
-foretell_sets-r-requires c =
+pub foretell_none-requires : goal.foretell_none-requires
+foretell_none-requires c =
     let q = c.requires in
     let f = q.fits in
-    record { job = q.job; fits = close-settle f.old f.pairs f.mid f.opened f.joined c.if-s.false }
+    stage-few f.axes f.mode q.job c.args.s f.outcome f.mid f.read f.joined
 
-pub clear_work-requires : goal.clear_work-requires
-clear_work-requires c = search rules
+pub returns-then-is_null : goal.returns-then-is_null
+returns-then-is_null c =
+    λ axes mode job o mid r j.
+    let t = c.is_null.ensures.0 c.if-is_null.true in
+    none_told axes mode job c.args.s o mid r j t.0 t.1 _ c.foretell_none.ensures c.tell_size.ensures
 
-pub shape_of-work : goal.shape_of-work
-shape_of-work c = search rules
+pub arrange-k-requires : goal.arrange-k-requires
+arrange-k-requires c =
+    let q = c.requires in
+    record { job = q.job; fits = q.fits; some = c.is_null.ensures.1 c.if-is_null.false }
+
+pub foretell-requires : goal.foretell-requires
+foretell-requires c =
+    let q = c.requires in
+    let f = q.fits in
+    let a = c.arrange-k.ensures f.axes f.mode q.job f.outcome f.mid f.read f.joined in
+    record { axes_le_most_axes = arranged-few a; words_fit = words-fit a.fit; regions_in_bounds = a.room }
 
 pub returns : goal.returns
-returns c = λ axes mode job old pairs mid p j. foresee-late old pairs mid p j c.if-s.false _ c.foretell_sets-r.ensures _ c.foretell_sets-r.auto.work _ c.clear_work.ensures
+returns c = λ axes mode job o mid r j. arranged-told (c.arrange-k.ensures axes mode job o mid r j) _ c.foretell.ensures c.tell_size-2.ensures

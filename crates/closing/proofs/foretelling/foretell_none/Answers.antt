@@ -1,15 +1,5 @@
 use Rattle.arranging.proofs.NoneLaws.{none-fits, none-room, none-foretold}
-use borrow.Author.Rules.{rules}
 use Rattle.closing.proofs.foretelling.foretell_none.Goals as goal
-
-pub bounds-null-1 : goal.bounds-null-1
-bounds-null-1 c = search rules
-
-pub slice_bounds-foretell-end : goal.slice_bounds-foretell-end
-slice_bounds-foretell-end c = search rules
-
-pub null_packing-requires : goal.null_packing-requires
-null_packing-requires c = search rules
 
 pub foretell-requires : goal.foretell-requires
 foretell-requires c =

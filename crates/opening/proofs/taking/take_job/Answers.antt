@@ -1,24 +1,22 @@
-use Rattle.opening.proofs.TakenLaws.{before-most, odd-taken, all-taken}
-use borrow.Author.Rules.{rules}
+use Rattle.refusals.proofs.Passing.{passed}
+use Rattle.opening.proofs.TakenLaws.{place-in, odd-before, none-before, odd-among, none-among}
 use Rattle.opening.proofs.taking.take_job.Goals as goal
 
-pub read_job-r-requires : goal.read_job-r-requires
-read_job-r-requires c = search rules
+pub returns-in_err-check_records-in-Ok : goal.returns-in_err-check_records-in-Ok
+returns-in_err-check_records-in-Ok c =
+    rw (passed c.from_residual.result c.from_residual.ensures.1)
+    (odd-among c.requires.records_value c.args.profile c.in-Ok.counts c.in-Ok.ensures c.in_err-check_records-in-Ok.field-0.0 c.in_err-check_records-in-Ok.ensures)
 
-pub read_before-requires : goal.read_before-requires
-read_before-requires c = search rules
+pub returns-in_ok-check_records-in-Ok : goal.returns-in_ok-check_records-in-Ok
+returns-in_ok-check_records-in-Ok c = none-among c.requires.records_value c.args.profile c.in-Ok.counts c.in-Ok.ensures c.in_ok-check_records-in-Ok.ensures
 
-pub first_odd-odd-requires : goal.first_odd-odd-requires
-first_odd-odd-requires c = let q = c.requires in before-most c.read_job-r.ensures q.records_value c.read_before.result c.read_before.ensures q.records_in_bounds.0
+pub check_records-requires-in-Err : goal.check_records-requires-in-Err
+check_records-requires-in-Err c = place-in c.requires.records_value c.args.profile c.in-Err.refused c.in-Err.ensures c.requires.records_in_bounds.0
 
-pub shape_of-work-then-odd-ne0 : goal.shape_of-work-then-odd-ne0
-shape_of-work-then-odd-ne0 c = search rules
+pub returns-in_err-check_records-in-Err : goal.returns-in_err-check_records-in-Err
+returns-in_err-check_records-in-Err c =
+    rw (passed c.from_residual-in_err-check_records-in-Err.result c.from_residual-in_err-check_records-in-Err.ensures.1)
+    (odd-before c.requires.records_value c.args.profile c.in-Err.refused c.in-Err.ensures c.in_err-check_records-in-Err.field-0.0 c.in_err-check_records-in-Err.ensures)
 
-pub returns-then-odd-ne0 : goal.returns-then-odd-ne0
-returns-then-odd-ne0 c = odd-taken c.read_job-r.ensures c.requires.records_value c.args.profile c.read_before.result c.read_before.ensures c.first_odd-odd.result c.first_odd-odd.ensures c.if-odd-ne0.true
-
-pub shape_of-work : goal.shape_of-work
-shape_of-work c = search rules
-
-pub returns : goal.returns
-returns c = all-taken c.read_job-r.ensures c.requires.records_value c.args.profile c.read_before.result c.read_before.ensures c.first_odd-odd.result c.first_odd-odd.ensures c.if-odd-ne0.false
+pub returns-in_ok-check_records-in-Err : goal.returns-in_ok-check_records-in-Err
+returns-in_ok-check_records-in-Err c = none-before c.requires.records_value c.args.profile c.in-Err.refused c.in-Err.ensures c.in_ok-check_records-in-Err.ensures

@@ -1,19 +1,25 @@
-use mathlib.Core.Path.{◌≡◌, subst}
-use Prim.Native.Nat.{ℕ}
+use mathlib.Core.Path.{◌≡◌}
 use native.Mathlib.Omega.{arith}
-use lib.ListN.{length}
-use Rattle.arranging.specs.LentArranged.{PairsUsed}
-use Rattle.packer.proofs.BuildLaws.{joined_at, obeys}
-use Rattle.packer.proofs.PairLaws.{pairs-enough, pairs-idle, pairs-left}
+use borrow.Author.Rules.{rules}
+use lib.ListN.{length, replicate}
+use Rattle.refusals.proofs.Passing.{passed}
+use Rattle.packer.proofs.BuildLaws.{closed-early, closed-late, obeys}
+use Rattle.packer.proofs.PairLaws.{pairs-early, pairs-late}
 use Rattle.packer.proofs.building.build.Goals as goal
 
-pub optimize-m-requires-clause-groups_in_bounds : goal.optimize-m-requires-clause-groups_in_bounds
-optimize-m-requires-clause-groups_in_bounds c = pairs-enough c.tables.result c.tables.ensures c.open-s.ensures
+pub returns-in_err-check_early : goal.returns-in_err-check_early
+returns-in_err-check_early c =
+    let a = c.args in
+    let x = c.in_err-check_early.field-0.0 in
+    let e = c.in_err-check_early.ensures.value in
+    rw (passed c.from_residual.result c.from_residual.ensures.1)
+    (obeys a.profile a.axes a.mode a.job.now a.work.now a.pairs.now _ _ _ _ _ (closed-early a.axes a.mode a.job.now a.work.now (length a.pairs.now) x e a.profile _) (pairs-early a.axes a.mode a.job.now (length a.work.now) a.pairs.now x e))
 
 pub returns : goal.returns
 returns c =
     let a = c.args in
-    let long : length c.optimize-m.new.pairs ≡ length c.args.pairs.now = omega arith in
-    obeys a.profile a.axes a.mode a.job.now a.work.now a.pairs.now _ _ _ _ c.clear_pairs.new.pairs
-    (c.close-r.ensures a.profile a.axes a.mode a.work.now (length a.pairs.now) c.open-s.new.work c.open-s.ensures (joined_at c.tables.result c.open-s.result c.tables.ensures c.optimize-m.ensures.optimized))
-    (pairs-left a.pairs.now c.optimize-m.new.pairs c.clear_pairs.new.pairs c.open-s.ensures (subst (λ (k : ℕ). PairsUsed c.open-s.result k c.pairs_used.result) long c.pairs_used.ensures) long (pairs-idle c.tables.result c.tables.ensures c.open-s.ensures long c.optimize-m.ensures.same_from) c.clear_pairs.ensures)
+    let e = c.in_ok-check_early.ensures.value in
+    let long : length c.build_records-answer.new.pairs ≡ length a.pairs.now = omega arith in
+    let z : c.fill.new.self ≡ replicate (length a.work.now) 0 = search rules in
+    obeys a.profile a.axes a.mode a.job.now a.work.now a.pairs.now _ _ _ _ _ (closed-late a.axes a.mode a.job.now a.work.now (length a.pairs.now) e _ z a.profile _ _ _ c.build_records-answer.ensures)
+    (pairs-late a.axes a.mode a.job.now (length a.work.now) a.pairs.now e c.build_records-answer.new.pairs long _ c.clear_pairs.ensures)
