@@ -14,14 +14,18 @@ use Rattle.said.specs.Refusals.{early_refusal}
 use Rattle.panel.specs.declared.Profile.TheVariants.{Plain}
 use Rattle.panel.specs.Panelled.{panelled}
 use Rattle.panel.proofs.PanelledLaws.{panelled-plain}
-use Rattle.job.proofs.CheckLaws.{left-early, left-zeros, early-first, none-early}
+use Rattle.std.specs.Prelude.{Ok, Err}
+use Rattle.refusals.specs.declared.Refusal.{Refusal}
+use Rattle.refusals.specs.declared.Refused.{Refused}
+use Rattle.refusals.specs.Refusals.{number}
+use Rattle.job.proofs.CheckLaws.{refused-early, left-early, left-zeros, outcome-walk}
 use Rattle.encoder.specs.Packed.{Packed, shared}
 use Rattle.encoder.specs.Lent.{PackedAt}
 use Rattle.encoder.proofs.ReadyLaws.{idle}
 use Rattle.finishing.specs.declared.measuring.Packing.{Packing}
 use Rattle.call.specs.Build.{packed_of}
 use Rattle.opening.specs.declared.opening.Stage.{Stage}
-use Rattle.opening.specs.LentOpened.{Read, OpenedAt}
+use Rattle.opening.specs.LentOpened.{Read}
 use Rattle.arranging.specs.LentArranged.{Joined, ArrangeFit, ArrangedAs}
 use Rattle.arranging.proofs.StageLaws.{said-by}
 use Rattle.reasons.specs.declared.reason.Reason.{Reason}
@@ -65,9 +69,9 @@ from-refused : (n i a b : ℕ) → None ≡ why_from (refused n i) a b
 unfolding why_from
 from-refused n i a b = refl
 
-pub look-refused : (axes : ℕ) (job : List ℕ) (o : Outcome) (s : Stage) (w : List ℕ) (a b : ℕ) → Read axes 0 job o s w → (s.no ≡ 0 → ⊥) → None ≡ why_from o a b
-look-refused axes job (refused n i) s w a b r z = from-refused n i a b
-look-refused axes job (fine x) s w a b r z = packed-many (packed_of 0 x) a b (many-groups x (r.full z).3) ∙ from-fine x a b
+pub look-refused : (axes : ℕ) (job : List ℕ) (o : Outcome) (r : Refused) (w : List ℕ) (a b : ℕ) → Read axes 0 job o (Err r) w → None ≡ why_from o a b
+look-refused axes job (refused n i) r w a b e = from-refused n i a b
+look-refused axes job (fine x) r w a b e = packed-many (packed_of 0 x) a b (many-groups x e.many) ∙ from-fine x a b
 
 -- ---- from what is arranged
 
@@ -90,52 +94,28 @@ module _ {axes : ℕ} {job : List ℕ} {o : Outcome} {k : Packing} {w : List ℕ
 
 -- ---- what arranging asks
 
-pub look-read : {s : Stage} {m : Merged} {w : List ℕ} (f : LookFit s m w) → Read f.fits.axes 0 f.job f.fits.outcome s f.fits.mid
-look-read {s} f = subst (λ (d : ℕ). Read f.fits.axes d f.job f.fits.outcome s f.fits.mid) f.shared f.fits.read
+pub look-read : {s : Stage} {m : Merged} {w : List ℕ} (f : LookFit s m w) → Read f.fits.axes 0 f.job f.fits.outcome (Ok s) f.fits.mid
+look-read {s} f = subst (λ (d : ℕ). Read f.fits.axes d f.job f.fits.outcome (Ok s) f.fits.mid) f.shared f.fits.read
 
-pub look-arrange : {s : Stage} {m : Merged} {w : List ℕ} → LookFit s m w → s.no ≡ 0 → ArrangeFit s m w
-look-arrange {s} f z = record {
+pub look-arrange : {s : Stage} {m : Merged} {w : List ℕ} → LookFit s m w → ArrangeFit s m w
+look-arrange {s} f = record {
   job = f.job;
   fits = f.fits;
-  taken = z;
-  some = λ d. absurd (d ((said-by f.fits.axes f.fits.mode f.job f.fits.outcome s f.fits.mid f.fits.read z).grouped.mode-is z ∙ f.shared));
+  some = λ d. absurd (d ((said-by f.fits.axes f.fits.mode f.job f.fits.outcome s f.fits.mid f.fits.read).grouped.mode-is ∙ f.shared));
 }
 
 -- ---- the whole
 
-module _ {axes : ℕ} {job w : List ℕ} {s : Stage} {m : Merged} (old : List ℕ) (pairs : ℕ) (mid : List ℕ) (p : OpenedAt Plain axes 0 job old pairs mid s) (j : Joined s m mid w) where
-  abbrev records : Outcome
-  records = records_from axes 0 job job (record_count job) 0 in_axes
-
-  early-is : s.early ≡ true → outcome axes 0 job (length old) pairs ≡ refused s.no 0
-  unfolding outcome
-  early-is e =
-      let a = p.at_once e in
-      ap (λ (k : ℕ). outcome_from k records) (sym a.1) ∙ early-first s.no records a.2
-
-  late_is : s.early ≡ false → outcome axes 0 job (length old) pairs ≡ records_from axes 0 job job (record_count job) 0 in_axes
-  unfolding outcome
-  late_is e = none-early (early_refusal axes 0 job (length old) pairs) records (p.after e).0
-
-  pub look-early : (a b : ℕ) → s.early ≡ true → Looked axes job old pairs a b None w
-  look-early a b e =
-      let t = p.at_once e in
-      record {
-        answer = from-refused s.no 0 a b ∙ ap (λ (x : Outcome). why_from x a b) (sym (early-is e));
-        work-is = idle s.places s.groups j t.4 ∙ t.0 ∙ left-early axes 0 job old pairs s.no t.1 t.2;
-      }
-
-  pub look-settle : s.early ≡ false → LookFit s m w
-  look-settle e = record {
-    job = job;
-    fits = record { axes = axes; mode = 0; outcome = panelled Plain job records; mid = mid; read = (p.after e).1; joined = j };
-    shared = refl;
+module _ (axes : ℕ) (job work : List ℕ) (pairs a b : ℕ) where
+  pub looked-early : (x : Refusal) → number x ≡ early_refusal axes 0 job (length work) pairs → Looked axes job work pairs a b None work
+  looked-early x e = record {
+    answer = from-refused (number x) 0 a b ∙ ap (λ (o : Outcome). why_from o a b) (sym (refused-early axes 0 job work pairs x e));
+    work-is = left-early axes 0 job work pairs x e;
   }
 
-  pub look-late : (a b : ℕ) → s.early ≡ false → (r : Reason)
-      → ((x : ℕ) (y : List ℕ) (o : Outcome) (v : List ℕ) → Read x 0 y o s v → Joined s m v w → r ≡ why_from o a b)
-      → (long : ℕ) → long ≡ length w → (w' : List ℕ) → w' ≡ replicate long 0 → Looked axes job old pairs a b r w'
-  look-late a b e r f long l w' c = record {
-    answer = f axes job (panelled Plain job records) mid (p.after e).1 j ∙ ap (λ (x : Outcome). why_from x a b) (panelled-plain job records ∙ sym (late_is e));
-    work-is = left-zeros axes 0 job old pairs 0 (sym (p.after e).0) refl long w' (l ∙ j.only.long ∙ p.long) c;
+  pub looked-late : 0 ≡ early_refusal axes 0 job (length work) pairs → (r : Reason) → r ≡ why_from (records_from axes 0 job job (record_count job) 0 in_axes) a b
+      → (work' : List ℕ) → work' ≡ replicate (length work) 0 → Looked axes job work pairs a b r work'
+  looked-late e r t work' z = record {
+    answer = t ∙ ap (λ (o : Outcome). why_from o a b) (sym (outcome-walk axes 0 job work pairs e));
+    work-is = left-zeros axes 0 job work pairs e work' z;
   }

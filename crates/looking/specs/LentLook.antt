@@ -4,9 +4,7 @@ use Rattle.merging.specs.declared.optimizing.Merged.{Merged}
 use Rattle.said.specs.Job.{outcome}
 use Rattle.job.specs.Check.{work_left}
 use Rattle.opening.specs.declared.opening.Stage.{Stage}
-use Rattle.opening.specs.LentOpened.{OpenedAt}
-use Rattle.panel.specs.declared.Profile.TheVariants.{Plain}
-use Rattle.arranging.specs.LentArranged.{Joined, PackFit}
+use Rattle.arranging.specs.LentArranged.{PackFit}
 use Rattle.reasons.specs.declared.reason.Reason.{Reason}
 use Rattle.looking.specs.Look.{why_from}
 
@@ -15,15 +13,6 @@ pub record LookFit (s : Stage) (m : Merged) (w : List ℕ) : Type 0 where
   pub job : List ℕ
   pub fits : PackFit job s m w
   pub shared : fits.mode ≡ 0
-
-pub record CloseLookFit (s : Stage) (m : Merged) (w : List ℕ) : Type 0 where
-  pub axes : ℕ
-  pub job : List ℕ
-  pub old : List ℕ
-  pub pairs : ℕ
-  pub mid : List ℕ
-  pub opened : OpenedAt Plain axes 0 job old pairs mid s
-  pub joined : Joined s m mid w
 
 -- the reason, and work as a build leaves it
 pub record Looked (axes : ℕ) (job work : List ℕ) (pairs first second : ℕ) (r : Reason) (work' : List ℕ) : Type 0 where

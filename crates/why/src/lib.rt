@@ -1,19 +1,45 @@
 // Why two ids of a job are where they are: its sets are packed as a build in mode 0 would pack them, and looked at. No log is read.
 #![tactic(auto)]
 
+ghost use Rattle.std.specs.Prelude.{◌≡◌, length};
+ghost use Rattle.said.specs.LentOpen.{Open};
+ghost use Rattle.said.specs.Records.{record_count};
+ghost use Rattle.said.specs.Job.{records_from, in_axes};
 ghost use Rattle.call.specs.Lending.{lending, no_buffers};
+ghost use Rattle.looking.specs.Look.{why_from};
 ghost use Rattle.why.specs.Promised.{Looks};
 
-use arranging::pairs_used;
 use encoder::tables;
+use job::check_early;
 use looking::look_close;
 use merging::optimize;
 use opening::open;
-use pairs::Pair;
+use pairs::{Pair, clear_pairs};
 use panel::Profile;
 use reasons::Reason;
+use records::records_in;
 
-// Takes every job, sound or not.
+// Of a job that was not refused before its first record: work and pair records are left as they come.
+fn look_records(
+    axes: u32,
+    job: &[u8],
+    work: &mut [u32],
+    pairs: &mut [Pair],
+    first: u32,
+    second: u32,
+) -> Reason
+    requires { Open axes 0 job.now (length work.old) (length pairs.old) }
+    ensures { result ≡ why_from (records_from axes 0 job.now job.now (record_count job.now) 0 in_axes) first second }
+{
+    let records = records_in(job.len());
+    let Ok(stage) = open(Profile::Plain, axes as usize, 0, job, records, work) else {
+        return Reason::None;
+    };
+    let merged = optimize(pairs, work, tables(stage.places, stage.groups));
+    look_close(work, stage, merged, first, second)
+}
+
+// Takes every job, sound or not. Refusals 1 to 4 leave all as it was; after any other answer work and pair records are zeros.
 pub fn look(
     axes: u32,
     job: &[u8],
@@ -24,9 +50,12 @@ pub fn look(
 ) -> Reason
     ensures { Looks (lending axes 0 job.now work.old pairs.old no_buffers) first second result work.new pairs.new }
 {
-    let s = open(Profile::Plain, axes, 0, job, work, pairs.len());
-    let m = optimize(pairs, work, tables(s.places, s.groups));
-    let r = look_close(work, s, m, first, second);
-    pairs::clear_pairs(pairs, pairs_used(s, pairs.len()));
-    r
+    if let Err(_) = check_early(axes, 0, job, work.len(), pairs.len()) {
+        return Reason::None;
+    }
+    let reason = look_records(axes, job, work, pairs, first, second);
+    work.fill(0);
+    let all = pairs.len();
+    clear_pairs(pairs, all);
+    reason
 }

@@ -1,20 +1,24 @@
-use mathlib.Core.Path.{◌≡◌, subst}
-use Prim.Native.Nat.{ℕ}
+use mathlib.Core.Path.{◌≡◌}
 use native.Mathlib.Omega.{arith}
-use lib.ListN.{length}
-use Rattle.arranging.specs.LentArranged.{PairsUsed}
-use Rattle.packer.proofs.BuildLaws.{joined_at}
-use Rattle.packer.proofs.PairLaws.{pairs-enough, pairs-idle, pairs-left}
+use borrow.Author.Rules.{rules}
+use lib.ListN.{length, replicate}
+use Rattle.packer.proofs.PairLaws.{pairs-early, pairs-late}
+use Rattle.looking.proofs.LookLaws.{looked-early, looked-late}
 use Rattle.why.proofs.LookLaws.{looks}
 use Rattle.why.proofs.look.Goals as goal
 
-pub optimize-m-requires-clause-groups_in_bounds : goal.optimize-m-requires-clause-groups_in_bounds
-optimize-m-requires-clause-groups_in_bounds c = pairs-enough c.tables.result c.tables.ensures c.open-s.ensures
+pub returns-in-Err : goal.returns-in-Err
+returns-in-Err c =
+    let a = c.args in
+    let x = c.in-Err.field-0 in
+    let e = c.in-Err.ensures.value in
+    looks a.axes a.job.now a.work.now a.pairs.now a.first a.second _ _ _ (looked-early a.axes a.job.now a.work.now (length a.pairs.now) a.first a.second x e) (pairs-early a.axes 0 a.job.now (length a.work.now) a.pairs.now x e)
 
 pub returns : goal.returns
 returns c =
     let a = c.args in
-    let long : length c.optimize-m.new.pairs ≡ length c.args.pairs.now = omega arith in
-    looks a.axes a.job.now a.work.now a.pairs.now a.first a.second _ _ c.clear_pairs.new.pairs
-    (c.look_close-r.ensures a.axes a.job.now a.work.now (length a.pairs.now) c.open-s.new.work c.open-s.ensures (joined_at c.tables.result c.open-s.result c.tables.ensures c.optimize-m.ensures.optimized))
-    (pairs-left a.pairs.now c.optimize-m.new.pairs c.clear_pairs.new.pairs c.open-s.ensures (subst (λ (k : ℕ). PairsUsed c.open-s.result k c.pairs_used.result) long c.pairs_used.ensures) long (pairs-idle c.tables.result c.tables.ensures c.open-s.ensures long c.optimize-m.ensures.same_from) c.clear_pairs.ensures)
+    let e = c.in_default.ensures.value in
+    let long : length c.look_records-reason.new.pairs ≡ length a.pairs.now = omega arith in
+    let z : c.fill.new.self ≡ replicate (length a.work.now) 0 = search rules in
+    looks a.axes a.job.now a.work.now a.pairs.now a.first a.second _ _ _ (looked-late a.axes a.job.now a.work.now (length a.pairs.now) a.first a.second e _ c.look_records-reason.ensures _ z)
+    (pairs-late a.axes 0 a.job.now (length a.work.now) a.pairs.now e c.look_records-reason.new.pairs long _ c.clear_pairs.ensures)
