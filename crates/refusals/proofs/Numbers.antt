@@ -3,7 +3,7 @@ use Rattle.std.specs.Prelude.{◌≡◌, refl, Bool, true, false, ℕ, eqb, Resu
 use mathlib.Core.Path.{ap, sym, ◌∙◌}
 use native.Mathlib.Omega.{arith}
 use Rattle.refusals.specs.declared.Refusal.{Refusal}
-use Rattle.refusals.specs.declared.Refusal.TheVariants.{BadAxes, BadMode, BadJobLength, WorkShort, UnknownRegion, RegionTwice, Unfinished, SetsFull, ShapesFull, IdsShort, MapShort, LogShort, OutShort, BadStore, NoRow, UnknownKind, NotZero, AxisOutOfTurn, AxisTooLate, RegionUnfinished, TooManyGlyphs, GlyphMapShort, BadGlyphMap, BadWidths, RegionsEqual, RegionsOrAxes, JobTooLong, JobShort, StoreTooBig, OriginsShort, NoId, OtherStore, NoSet, LongValue, BadRegion, WideSubtable, PlacesShort, KeptShort}
+use Rattle.refusals.specs.declared.Refusal.TheVariants.{BadAxes, BadMode, BadJobLength, WorkShort, UnknownRegion, RegionTwice, Unfinished, SetsFull, ShapesFull, IdsShort, MapShort, LogShort, OutShort, BadStore, NoRow, UnknownKind, NotZero, AxisOutOfTurn, AxisTooLate, RegionUnfinished, RegionsEqual, RegionsOrAxes, JobTooLong, JobShort, StoreTooBig, OriginsShort, NoId, OtherStore, NoSet, LongValue, BadRegion, WideSubtable, PlacesShort, KeptShort}
 use Rattle.refusals.specs.Refusals.{number, number_in}
 
 choose : Bool → Refusal → Refusal → Refusal
@@ -32,10 +32,6 @@ refusal_of n =
     choose (eqb n 32) AxisOutOfTurn (
     choose (eqb n 33) AxisTooLate (
     choose (eqb n 34) RegionUnfinished (
-    choose (eqb n 40) TooManyGlyphs (
-    choose (eqb n 41) GlyphMapShort (
-    choose (eqb n 42) BadGlyphMap (
-    choose (eqb n 43) BadWidths (
     choose (eqb n 50) RegionsEqual (
     choose (eqb n 51) RegionsOrAxes (
     choose (eqb n 52) JobTooLong (
@@ -48,7 +44,7 @@ refusal_of n =
     choose (eqb n 70) LongValue (
     choose (eqb n 71) BadRegion (
     choose (eqb n 72) WideSubtable (
-    choose (eqb n 73) PlacesShort (KeptShort)))))))))))))))))))))))))))))))))))))
+    choose (eqb n 73) PlacesShort (KeptShort)))))))))))))))))))))))))))))))))
 
 back : (r : Refusal) → refusal_of (number r) ≡ r
 unfolding refusal_of choose
@@ -72,10 +68,6 @@ back NotZero = refl
 back AxisOutOfTurn = refl
 back AxisTooLate = refl
 back RegionUnfinished = refl
-back TooManyGlyphs = refl
-back GlyphMapShort = refl
-back BadGlyphMap = refl
-back BadWidths = refl
 back RegionsEqual = refl
 back RegionsOrAxes = refl
 back JobTooLong = refl
@@ -115,10 +107,6 @@ some_number NotZero e = absurd (omega arith)
 some_number AxisOutOfTurn e = absurd (omega arith)
 some_number AxisTooLate e = absurd (omega arith)
 some_number RegionUnfinished e = absurd (omega arith)
-some_number TooManyGlyphs e = absurd (omega arith)
-some_number GlyphMapShort e = absurd (omega arith)
-some_number BadGlyphMap e = absurd (omega arith)
-some_number BadWidths e = absurd (omega arith)
 some_number RegionsEqual e = absurd (omega arith)
 some_number RegionsOrAxes e = absurd (omega arith)
 some_number JobTooLong e = absurd (omega arith)

@@ -1,7 +1,7 @@
 -- The refusals of RULES, their numbers, and the number and place of an answer that may be refused.
 use Rattle.std.specs.Prelude.{Bool, true, false, ℕ, Result, Ok, Err}
 use Rattle.refusals.specs.declared.Refusal.{Refusal}
-use Rattle.refusals.specs.declared.Refusal.TheVariants.{BadAxes, BadMode, BadJobLength, WorkShort, UnknownRegion, RegionTwice, Unfinished, SetsFull, ShapesFull, IdsShort, MapShort, LogShort, OutShort, BadStore, NoRow, UnknownKind, NotZero, AxisOutOfTurn, AxisTooLate, RegionUnfinished, TooManyGlyphs, GlyphMapShort, BadGlyphMap, BadWidths, RegionsEqual, RegionsOrAxes, JobTooLong, JobShort, StoreTooBig, OriginsShort, NoId, OtherStore, NoSet, LongValue, BadRegion, WideSubtable, PlacesShort, KeptShort}
+use Rattle.refusals.specs.declared.Refusal.TheVariants.{BadAxes, BadMode, BadJobLength, WorkShort, UnknownRegion, RegionTwice, Unfinished, SetsFull, ShapesFull, IdsShort, MapShort, LogShort, OutShort, BadStore, NoRow, UnknownKind, NotZero, AxisOutOfTurn, AxisTooLate, RegionUnfinished, RegionsEqual, RegionsOrAxes, JobTooLong, JobShort, StoreTooBig, OriginsShort, NoId, OtherStore, NoSet, LongValue, BadRegion, WideSubtable, PlacesShort, KeptShort}
 use Rattle.refusals.specs.declared.Refused.{Refused}
 
 abbrev pub number : Refusal → ℕ
@@ -25,10 +25,6 @@ number NotZero = 31
 number AxisOutOfTurn = 32
 number AxisTooLate = 33
 number RegionUnfinished = 34
-number TooManyGlyphs = 40
-number GlyphMapShort = 41
-number BadGlyphMap = 42
-number BadWidths = 43
 number RegionsEqual = 50
 number RegionsOrAxes = 51
 number JobTooLong = 52

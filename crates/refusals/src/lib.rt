@@ -32,11 +32,6 @@ pub enum Refusal {
     AxisOutOfTurn = 32,
     AxisTooLate = 33,
     RegionUnfinished = 34,
-    // Of a glyph map and of a width table, written and read.
-    TooManyGlyphs = 40,
-    GlyphMapShort = 41,
-    BadGlyphMap = 42,
-    BadWidths = 43,
     // Of a store that is read back into a job.
     RegionsEqual = 50,
     RegionsOrAxes = 51,
