@@ -1,26 +1,29 @@
--- An answer taken apart, and its numbers. Assumes nothing.
-use mathlib.Core.Path.{◌≡◌, refl, ap, subst, ◌∙◌}
+-- A build's answer by its words. Assumes nothing.
+use mathlib.Core.Path.{◌≡◌, refl, sym}
 use mathlib.Core.List.{List}
-use Prim.Native.Nat.{ℕ, ◌+◌, ◌≤◌}
+use Prim.Native.Nat.{ℕ}
 use lib.ListN.{length}
-use Rattle.said.specs.Records.{record_at, record_start}
-use Rattle.said.specs.Refusals.{not_zero, byte_of}
+use Rattle.std.specs.Prelude.{Result, Ok, Err}
+use Rattle.refusals.specs.declared.Refused as refusals
+use Rattle.refusals.specs.Refusals.{number}
 use Rattle.finishing.specs.declared.answers.Report.{Report}
-use Rattle.finishing.specs.Answers.{Built}
-use Rattle.finishing.specs.Answers.{Refused, Done}
-use Rattle.reporting.specs.Answers.{number_of, byte_told, refused_words, done_words, report_words, filled, number_few, byte_within}
+use Rattle.finishing.specs.Answers.{Refused, Done, built}
+use Rattle.reporting.specs.Answers.{number_of, byte_told, done_words, report_words, filled, words_of}
+use Rattle.reporting.proofs.ReportLaws.{sixteen}
 
-pub number-most : (b : Built) (n at : ℕ) → b ≡ Refused n at → number_few b → n ≤ 72
-number-most b n at e h = subst number_few e h
+module _ (job : List ℕ) (a : Result Report refusals.Refused) (old : List ℕ) (sixteen-long : length old ≡ 16) where
+  pub done-number : (d : Report) → a ≡ Ok d → 0 ≡ number_of (built a)
+  unfolding number_of
+  done-number d e = rw e refl
 
-pub byte-there : (job : List ℕ) (b : Built) (n at : ℕ) → b ≡ Refused n at → byte_within job b → n ≡ not_zero → record_start (at + 1) ≤ length job
-byte-there job b n at e h = subst (byte_within job) e h
+  pub done-told : (d : Report) → a ≡ Ok d → done_words d ≡ filled 0 (report_words job (built a)) old
+  unfolding report_words
+  done-told d e = rw e (sym (sixteen job (Done d) old sixteen-long))
 
-pub told-refused : (job : List ℕ) (b : Built) (n at byte : ℕ) → b ≡ Refused n at → byte ≡ byte_of n (record_at job at) → (w old : List ℕ) → w ≡ filled 0 (refused_words n at byte) old
-    → (n ≡ number_of b) × (w ≡ filled 0 (report_words job b) old)
-unfolding number_of report_words byte_told
-told-refused job b n at byte e f w old h = rw e (refl, h ∙ ap (λ (k : ℕ). filled 0 (refused_words n at k) old) f)
+  pub refused-number : (x : refusals.Refused) → a ≡ Err x → number x.refusal ≡ number_of (built a)
+  unfolding number_of
+  refused-number x e = rw e refl
 
-pub told-done : (job : List ℕ) (b : Built) (d : Report) → b ≡ Done d → (w old : List ℕ) → w ≡ filled 0 (done_words d) old → (0 ≡ number_of b) × (w ≡ filled 0 (report_words job b) old)
-unfolding number_of report_words
-told-done job b d e w old h = rw e (refl, h)
+  pub refused-told : (x : refusals.Refused) → a ≡ Err x → words_of job x ≡ filled 0 (report_words job (built a)) old
+  unfolding report_words byte_told
+  refused-told x e = rw e (sym (sixteen job (Refused (number x.refusal) x.place) old sixteen-long))

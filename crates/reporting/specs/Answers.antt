@@ -2,6 +2,8 @@
 use Rattle.std.specs.Prelude.{List, [], ◌∷◌, ◌≡◌, ℕ, ◌+◌, ◌≤◌, set, length}
 use Rattle.said.specs.Records.{record_at, record_start}
 use Rattle.said.specs.Refusals.{not_zero, wide_subtable, byte_of}
+use Rattle.refusals.specs.declared.Refused as refusals
+use Rattle.refusals.specs.Refusals.{number}
 use Rattle.finishing.specs.declared.answers.Report.{Report}
 use Rattle.finishing.specs.Answers.{Built}
 use Rattle.finishing.specs.Answers as built
@@ -49,6 +51,17 @@ report_words job (built.Done d) = done_words d
 unfoldable pub filled : ℕ → List ℕ → List ℕ → List ℕ
 filled k [] old = old
 filled k (x ∷ l) old = filled (k + 1) l (set old k x)
+
+-- ---- of a refusal as the code has it
+
+abbrev pub words_of : (job : List ℕ) → refusals.Refused → List ℕ
+words_of job x = refused_words (number x.refusal) x.place (byte_of (number x.refusal) (record_at job x.place))
+
+-- one that names a byte is at a record of the job
+abbrev pub AtRecord : (job : List ℕ) → refusals.Refused → Type 0
+AtRecord job x = number x.refusal ≡ not_zero → record_start (x.place + 1) ≤ length job
+
+-- ---- of a build
 
 -- refusal numbers are small
 abbrev pub number_few : Built → Type 0

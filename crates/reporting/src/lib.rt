@@ -1,4 +1,4 @@
-// A build's answer told in a report.
+// An answer told in a report.
 #![tactic(auto)]
 
 mod report;

@@ -1,68 +1,70 @@
 // The report: sixteen numbers, whatever the answer.
-ghost use Rattle.std.specs.Prelude.{◌≡◌, ◌≤◌};
-ghost use Rattle.reporting.specs.Answers.{number_of, report_words, refused_words, done_words, filled, number_few, byte_within};
+ghost use Rattle.std.specs.Prelude.{◌≡◌};
+ghost use Rattle.refusals.specs.Refusals.{number};
+ghost use Rattle.finishing.specs.Answers.{built};
+ghost use Rattle.reporting.specs.Answers.{number_of, report_words, refused_words, done_words, filled, byte_within, AtRecord, words_of};
 
-use finishing::{Built, Report};
+use finishing::Report;
+use records::byte_at;
+use refusals::Refused;
 
 // A refusal: its number and place, the byte within the record, and zeros.
-pub fn tell_refused(report: &mut [u64; 16], no: usize, at: usize, byte: usize)
-    ensures { report.new ≡ filled 0 (refused_words no at byte) report.old }
+#[tactic(auto, unfolding(crate::specs::Answers::refused_words))]
+fn refused_words(no: u32, at: usize, byte: usize) -> [u64; 16]
+    ensures { result ≡ refused_words no at byte }
 {
-    report[0] = no as u64;
-    report[1] = at as u64;
-    report[2] = 0;
-    report[3] = 0;
-    report[4] = 0;
-    report[5] = 0;
-    report[6] = 0;
-    report[7] = 0;
-    report[8] = 0;
-    report[9] = 0;
-    report[10] = 0;
-    report[11] = 0;
-    report[12] = byte as u64;
-    report[13] = 0;
-    report[14] = 0;
-    report[15] = 0;
+    let (no, at, byte) = (no as u64, at as u64, byte as u64);
+    [no, at, 0, 0, 0, 0, 0, 0, 0, 0, 0, 0, byte, 0, 0, 0]
 }
 
 // Done: what was built, in numbers.
-fn tell_done(report: &mut [u64; 16], d: Report)
-    ensures { report.new ≡ filled 0 (done_words d) report.old }
+#[tactic(auto, unfolding(crate::specs::Answers::done_words))]
+fn done_words(d: Report) -> [u64; 16]
+    ensures { result ≡ done_words d }
 {
-    report[0] = 0;
-    report[1] = 0;
-    report[2] = d.bytes as u64;
-    report[3] = d.subtables as u64;
-    report[4] = d.regions as u64;
-    report[5] = d.ids as u64;
-    report[6] = d.groups as u64;
-    report[7] = d.merges as u64;
-    report[8] = d.weighed as u64;
-    report[9] = d.before;
-    report[10] = d.after;
-    report[11] = d.forecast;
-    report[12] = 0;
-    report[13] = 0;
-    report[14] = 0;
-    report[15] = 0;
+    [
+        0,
+        0,
+        d.bytes as u64,
+        d.subtables as u64,
+        d.regions as u64,
+        d.ids as u64,
+        d.groups as u64,
+        d.merges as u64,
+        d.weighed as u64,
+        d.before,
+        d.after,
+        d.forecast,
+        0,
+        0,
+        0,
+        0,
+    ]
+}
+
+// Fills the report with a refusal, and the byte that it names; its number.
+pub fn tell_refused(report: &mut [u64; 16], job: &[u8], refused: Refused) -> u32
+    requires { AtRecord job.now refused }
+    ensures value { result ≡ number refused.refusal }
+    ensures report_after { report.new ≡ words_of job.now refused }
+{
+    let no = u32::from(refused.refusal);
+    let byte = byte_at(job, refused.refusal, refused.place);
+    *report = refused_words(no, refused.place, byte);
+    no
 }
 
 // Fills the report; the refusal number, 0 for done.
-pub fn tell(report: &mut [u64; 16], job: &[u8], answer: Built) -> u32
-    requires { number_few answer × byte_within job.now answer }
-    ensures value { result ≡ number_of answer }
-    ensures report_after { report.new ≡ filled 0 (report_words job.now answer) report.old }
+pub fn tell(report: &mut [u64; 16], job: &[u8], answer: Result<Report, Refused>) -> u32
+    requires { byte_within job.now (built answer) }
+    ensures value { result ≡ number_of (built answer) }
+    ensures report_after { report.new ≡ filled 0 (report_words job.now (built answer)) report.old }
 {
     match answer {
-        Built::Refused(no, at) => {
-            let byte = records::byte_at(job, no, at);
-            tell_refused(report, no, at, byte);
-            no as u32
-        }
-        Built::Done(d) => {
-            tell_done(report, d);
+        Ok(done) => {
+            *report = done_words(done);
             0
         }
+        Err(refused) => tell_refused(report, job, refused),
     }
 }

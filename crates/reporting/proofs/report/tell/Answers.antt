@@ -1,28 +1,15 @@
-use Rattle.reporting.proofs.TellLaws.{number-most, byte-there, told-refused, told-done}
-use native.Mathlib.Omega.{arith}
-use borrow.Author.Rules.{rules}
+use mathlib.Core.Path.{◌∙◌}
+use Rattle.reporting.proofs.TellLaws.{done-number, done-told, refused-number, refused-told}
 use Rattle.reporting.proofs.report.tell.Goals as goal
 
-pub enum_known-answer : goal.enum_known-answer
-enum_known-answer c = search rules
+pub returns-in-Ok-clause-value : goal.returns-in-Ok-clause-value
+returns-in-Ok-clause-value c = let a = c.args in done-number a.job.now a.answer a.report.now c.told-report c.in-Ok.done c.in-Ok.is
 
-pub byte_at-byte-requires : goal.byte_at-byte-requires
-byte_at-byte-requires c = byte-there _ _ _ _ c.in-Refused.is c.requires.1
+pub returns-in-Ok-clause-report_after : goal.returns-in-Ok-clause-report_after
+returns-in-Ok-clause-report_after c = let a = c.args in c.done_words.ensures ∙ done-told a.job.now a.answer a.report.now c.told-report c.in-Ok.done c.in-Ok.is
 
-pub tell_refused-requires : goal.tell_refused-requires
-tell_refused-requires c = search rules
+pub returns-in-Err-clause-value : goal.returns-in-Err-clause-value
+returns-in-Err-clause-value c = let a = c.args in c.tell_refused.ensures.value ∙ refused-number a.job.now a.answer a.report.now c.told-report c.in-Err.refused c.in-Err.is
 
-pub overflow_cast-result : goal.overflow_cast-result
-overflow_cast-result c = omega (arith, number-most _ _ _ c.in-Refused.is c.requires.0)
-
-pub enum_known-answer-in-Done-1 : goal.enum_known-answer-in-Done-1
-enum_known-answer-in-Done-1 c = search rules
-
-pub tell_done-requires : goal.tell_done-requires
-tell_done-requires c = search rules
-
-pub returns-in-Refused : goal.returns-in-Refused
-returns-in-Refused c = record { value = (told-refused _ _ _ _ _ c.in-Refused.is c.byte_at-byte.ensures _ _ c.tell_refused.ensures).0; report_after = (told-refused _ _ _ _ _ c.in-Refused.is c.byte_at-byte.ensures _ _ c.tell_refused.ensures).1 }
-
-pub returns-in-Done : goal.returns-in-Done
-returns-in-Done c = record { value = (told-done c.args.job.now _ _ c.in-Done.is _ _ c.tell_done.ensures).0; report_after = (told-done _ _ _ c.in-Done.is _ _ c.tell_done.ensures).1 }
+pub returns-in-Err-clause-report_after : goal.returns-in-Err-clause-report_after
+returns-in-Err-clause-report_after c = let a = c.args in c.tell_refused.ensures.report_after ∙ refused-told a.job.now a.answer a.report.now c.told-report c.in-Err.refused c.in-Err.is
