@@ -13,7 +13,7 @@ use Rattle.sets.specs.Order.{parting}
 use Rattle.said.specs.Records.{record_count, record_start}
 use Rattle.said.specs.Refusals.{pair_records, early_refusal, not_zero}
 use Rattle.said.specs.Job.{Said, Outcome, refused, fine, in_axes, records_from, outcome_from, outcome}
-use Rattle.parting.specs.declared.answering.Parted.{Parted}
+use Rattle.parting.specs.Answers.{Parted}
 use Rattle.parting.specs.Part.{named, parted_in, parted_of, part_of}
 use Rattle.part_words.specs.PartWords.{part_few, part_within}
 use Rattle.refusing.proofs.WalkEnds.{walk_no, stops-only}

@@ -6,7 +6,7 @@ use Prim.Native.Nat.{ℕ, ◌<◌}
 use native.Mathlib.Omega.{arith}
 use lib.ListN.{length}
 use Rattle.said.proofs.SoundLaws.{Bytes}
-use Rattle.judging.specs.declared.judging.Judged.TheVariants.{Right}
+use Rattle.judging.specs.Answers.{Right}
 use Rattle.judging.specs.Judge.{judge_of}
 use Rattle.judging.proofs.Verdicts.{yes-exactly}
 use Rattle.judged_bytes.specs.Bytes.{YesTold}

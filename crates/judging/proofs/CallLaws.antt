@@ -7,15 +7,21 @@ use Prim.Native.Nat.{ℕ, ◌+◌, ◌*◌, ◌≤◌, ◌<◌}
 use native.Mathlib.Nat.{le_refl, mul_comm, mul_left_comm, add-mul}
 use native.Mathlib.Omega.{arith}
 use lib.ListN.{length, get_or, replicate}
-use borrow.Author.Tests.{eq-eqb, ne_eqb, not-true, not-false}
+use borrow.Author.Tests.{ne_eqb, not-true, not-false}
 use Rattle.laws.proofs.Cases.{true-false}
 use Rattle.laws.proofs.EveryLaws.{all-get_or}
 use Rattle.laws.proofs.Products.{product, row_fits}
 use Rattle.laws.proofs.RangeLaws.{get_or-seg}
 use Rattle.sets.proofs.HeldLaws.{Kept, kept-only, kept_trans, held_kept, sets_same}
 use Rattle.said.specs.Records.{record_count, region_length}
-use Rattle.said.specs.Job.{Said, Outcome, refused, fine, in_axes, records_from, outcome_from}
+use Rattle.said.specs.Job.{Said, Outcome, in_axes, records_from, outcome_from}
 use Rattle.said.proofs.SaidLaws.{Counts, counts}
+use Rattle.std.specs.Prelude.{Ok, Err}
+use Rattle.refusals.specs.declared.Refusal.{Refusal}
+use Rattle.refusals.specs.declared.Refused as refusals
+use Rattle.refusals.specs.Refusals.{number}
+use Rattle.refusals.proofs.Numbers.{some_number}
+use Rattle.job.specs.declared.whole.JobCounts.{JobCounts}
 use Rattle.job.specs.Lent.{JobRead}
 use Rattle.job.proofs.CheckLaws.{early-first, none-early}
 use Rattle.reader.specs.Store.{axis_count, region_count, list_at}
@@ -27,8 +33,8 @@ use Rattle.matching.specs.declared.Sides.{Sides}
 use Rattle.matching.specs.Lent.{side_at, FirstSide, SidesFit, Matched}
 use Rattle.matching.proofs.SideLaws.{side_same}
 use Rattle.giving.proofs.WordLaws.{whole_of, head_of}
-use Rattle.judging.specs.declared.judging.Judged.{Judged}
-use Rattle.judging.specs.declared.judging.Judged.TheVariants.{Refused, WrongStore}
+use Rattle.judging.specs.Answers.{Judged}
+use Rattle.judging.specs.Answers.{Refused, WrongStore}
 use Rattle.judging.specs.Judge.{judged_in, judged_of, judge_refusal, judge_of, judge_left}
 use Rattle.judging.specs.LentJudge.{JudgeOpen, Looked, JudgeFit, Sided}
 
@@ -189,53 +195,53 @@ module _ {axes records sets uses : ℕ} {job store w : List ℕ} (f : JudgeFit a
     pub by-store-done : (words : List ℕ) (r : Judged) → ((g : Sided store job sets last sides) → r ≡ judged_in axes words g.said (parse store)) → r ≡ judged_in axes words f.held.said (parse store)
     by-store-done words r p = p sided_here
 
--- ---- the call
+-- ---- the records, and the call
 
-module _ (axes : ℕ) (job store words w : List ℕ) (n : ℕ) (e : n ≡ judge_refusal axes job (length store) (length w)) where
-  pub refused-early : (n ≡ 0 → ⊥) → Refused n 0 ≡ judge_of axes job store words (length w)
-  unfolding judge_of judged_of
-  refused-early h =
-      let o : Outcome = records_from axes 0 job job (record_count job) 0 in_axes in
-      sym (ap (judged_of axes store words) (ap (λ (k : ℕ). outcome_from k o) (sym e) ∙ early-first n o h))
+module _ (axes : ℕ) (job store words w : List ℕ) where
+  module _ (x : Refusal) (e : number x ≡ judge_refusal axes job (length store) (length w)) where
+    pub refused-first : Refused (number x) 0 ≡ judge_of axes job store words (length w)
+    unfolding judge_of judged_of
+    refused-first =
+        let o : Outcome = records_from axes 0 job job (record_count job) 0 in_axes in
+        sym (ap (judged_of axes store words) (ap (λ (k : ℕ). outcome_from k o) (sym e) ∙ early-first (number x) o (some_number x)))
 
-  pub left-early : (n ≡ 0 → ⊥) → w ≡ judge_left axes job (length store) w
-  unfolding judge_left
-  left-early h = rw (← e, ne_eqb n 0 h) refl
+    pub left-first : w ≡ judge_left axes job (length store) w
+    unfolding judge_left
+    left-first = rw (← e, ne_eqb (number x) 0 (some_number x)) refl
 
-  pub left-zeros : n ≡ 0 → (long : ℕ) (w' : List ℕ) → long ≡ length w → w' ≡ replicate long 0 → w' ≡ judge_left axes job (length store) w
-  unfolding judge_left
-  left-zeros z long w' l c = c ∙ rw (← e, eq-eqb n 0 z, l) refl
+  module _ (e : 0 ≡ judge_refusal axes job (length store) (length w)) where
+    pub left-zeros : (w' : List ℕ) → w' ≡ replicate (length w) 0 → w' ≡ judge_left axes job (length store) w
+    unfolding judge_left
+    left-zeros w' c = c ∙ rw (← e) refl
 
-  module _ (z : n ≡ 0) {a : ℕ} (q : a ≡ axes) {records : ℕ} (r : records ≡ record_count job) {new : List ℕ} {no at regions sets values uses : ℕ}
-      (read : JobRead a 0 job records w new no at regions sets values uses) where
-    walk_is : records_from a 0 job job records 0 in_axes ≡ records_from axes 0 job job (record_count job) 0 in_axes
-    walk_is = rw (q, r) refl
-
-    answers : (o : Outcome) → records_from a 0 job job records 0 in_axes ≡ o → judged_of axes store words o ≡ judge_of axes job store words (length w)
+    pub walked : (p : Judged) → p ≡ judged_of axes store words (records_from axes 0 job job (record_count job) 0 in_axes) → p ≡ judge_of axes job store words (length w)
     unfolding judge_of
-    answers o g = sym (ap (judged_of axes store words) (none-early _ _ (sym e ∙ z) ∙ sym walk_is ∙ g))
+    walked p h = h ∙ sym (ap (judged_of axes store words) (none-early _ _ (sym e)))
 
-    pub refused-record : (no ≡ 0 → ⊥) → Refused no at ≡ judge_of axes job store words (length w)
+  module _ {records : ℕ} (r : records ≡ record_count job) where
+    walk_is : records_from axes 0 job job records 0 in_axes ≡ records_from axes 0 job job (record_count job) 0 in_axes
+    walk_is = rw r refl
+
+    pub refused-record : {new : List ℕ} (z : refusals.Refused) → JobRead axes 0 job records w new (Err z)
+        → Refused (number z.refusal) z.place ≡ judged_of axes store words (records_from axes 0 job job (record_count job) 0 in_axes)
     unfolding judged_of
-    refused-record h = answers (refused no at) (read.bad h)
+    refused-record z read = sym (ap (judged_of axes store words) (sym walk_is ∙ read.is))
 
-    module _ (bytes : (k : ℕ) → get_or job k 0 < 256) (o : JudgeOpen axes job (length store) (length w)) (g : no ≡ 0) where
-      abbrev pub stands : JudgeFit a job records sets uses (length store) new
+    module _ (bytes : (k : ℕ) → get_or job k 0 < 256) (o : JudgeOpen axes job (length store) (length w)) {new : List ℕ} (c : JobCounts) (read : JobRead axes 0 job records w new (Ok c)) where
+      abbrev pub stands : JudgeFit axes job records c.sets c.uses (length store) new
       stands = record {
-        some = omega (arith, q, o.passed.some);
-        most = omega (arith, q, o.passed.most);
+        some = o.passed.some;
+        most = o.passed.most;
         few = omega (arith, r, o.passed.few);
         bytes = bytes;
         whole = omega (arith, r, o.passed.whole);
         room = omega (arith, r, o.room, read.only.long);
-        regions = regions;
-        values = values;
-        held = read.good g;
+        regions = c.regions;
+        values = c.values;
+        held = read.is;
       }
 
-      pub answered : (p : Judged) → ((f : JudgeFit a job records sets uses (length store) new) → p ≡ judged_in a words f.held.said (parse store))
-          → p ≡ judge_of axes job store words (length w)
+      pub answered : (p : Judged) → ((f : JudgeFit axes job records c.sets c.uses (length store) new) → p ≡ judged_in axes words f.held.said (parse store))
+          → p ≡ judged_of axes store words (records_from axes 0 job job (record_count job) 0 in_axes)
       unfolding judged_of
-      answered p h =
-          h stands ∙ ap (λ (k : ℕ). judged_in k words (read.good g).said (parse store)) q
-          ∙ answers (fine (read.good g).said) (read.good g).is
+      answered p h = h stands ∙ sym (ap (judged_of axes store words) (sym walk_is ∙ read.is.is))

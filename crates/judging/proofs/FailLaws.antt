@@ -6,7 +6,7 @@ use Prim.Native.Nat.{ℕ, zero, suc, ◌+◌, ◌≤◌, ◌<◌}
 use native.Mathlib.Omega.{arith}
 use Rattle.laws.proofs.Cases.{lt-or-ge, Which, which}
 use Rattle.laws.proofs.Cases.Which.{holds, fails}
-use Rattle.judging.specs.declared.judging.Judged.TheVariants.{Right, WrongSet, WrongStore}
+use Rattle.judging.specs.Answers.{Right, WrongSet, WrongStore}
 use Rattle.judging.specs.Judge.{first_failing}
 
 module _ (given : ℕ → Bool) where

@@ -15,7 +15,7 @@ use Rattle.matching.specs.declared.Sides.{Sides}
 use Rattle.matching.specs.Lent.{total, firsts_of}
 use Rattle.giving.specs.declared.entries.Aims.{Aims}
 use Rattle.giving.specs.Lent.{EntriesFit, start_in, count_in, SetsFit, FirstFailing}
-use Rattle.judging.specs.declared.judging.Judged.TheVariants.{Right, WrongSet, WrongStore}
+use Rattle.judging.specs.Answers.{Right, WrongSet, WrongStore}
 use Rattle.judging.specs.Judge.{set_given, first_failing, judged_in}
 use Rattle.judging.specs.LentJudge.{Firsts, SetOut, Sided}
 use Rattle.judging.proofs.EntryFacts.{entry-proper}

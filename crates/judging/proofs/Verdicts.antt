@@ -21,8 +21,8 @@ use Rattle.stores.specs.Coordinates.{place_in, read_at, once, wanted, row_gives,
 use Rattle.stores.proofs.ByCoordinates.{place_found, place_at, at-lost, at-found, read_past, once-distinct, judged, judges}
 use Rattle.stores.proofs.Reading.{read-parsed}
 use Rattle.job.proofs.CheckLaws.{none-early}
-use Rattle.judging.specs.declared.judging.Judged.{Judged}
-use Rattle.judging.specs.declared.judging.Judged.TheVariants.{Refused, Right, WrongSet, WrongStore}
+use Rattle.judging.specs.Answers.{Judged}
+use Rattle.judging.specs.Answers.{Refused, Right, WrongSet, WrongStore}
 use Rattle.judging.specs.Judge.{named_in, set_given, first_failing, judged_in, judged_of, judge_refusal, judge_of}
 use Rattle.judging.specs.Yes.{RowRight, SetRight, Sound}
 use Rattle.judging.proofs.FailLaws.{all_right, first-wrong, right-given, wrong_first, never-store}

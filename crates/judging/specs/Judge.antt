@@ -15,8 +15,8 @@ use Rattle.said.specs.Job.{Said, Outcome, refused, fine, in_axes, records_from, 
 use Rattle.stores.specs.Stores.{Parsed, parse}
 use Rattle.stores.specs.Coordinates.{once, row_gives}
 use Rattle.call.specs.Build.{coords_in_use}
-use Rattle.judging.specs.declared.judging.Judged.{Judged}
-use Rattle.judging.specs.declared.judging.Judged.TheVariants.{Refused, Right, WrongSet, WrongStore}
+use Rattle.judging.specs.Answers.{Judged}
+use Rattle.judging.specs.Answers.{Refused, Right, WrongSet, WrongStore}
 
 -- ---- sets
 

@@ -58,7 +58,7 @@ pub record JudgeFit (axes : ℕ) (job : List ℕ) (records sets uses store : ℕ
   pub room : 16 * records + 3 * store ≤ length w
   pub regions : ℕ
   pub values : ℕ
-  pub held : JobHeld axes 0 job records w regions sets values uses
+  pub held : JobHeld axes 0 job records w (record { regions = regions; sets = sets; values = values; uses = uses })
 
 -- where the store's regions and the job's stand
 abbrev pub sides_of : (store : List ℕ) (axes records uses : ℕ) → Sides

@@ -1,3 +1,4 @@
+pub mod Answers
 pub mod Judge
 pub mod LentJudge
 pub mod Yes

@@ -5,5 +5,5 @@ mod judging;
 mod storing;
 mod work;
 
-pub use crate::judging::{Judged, judge};
+pub use crate::judging::{Verdict, judge};
 pub use crate::work::judge_words;

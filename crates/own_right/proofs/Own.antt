@@ -52,7 +52,7 @@ use Rattle.accepted.proofs.WholeBack.{made_in, made-axes, store-parsed}
 use Rattle.demands.specs.SetsRead.{listed}
 use Rattle.demands.specs.Demand2.{SetBack, Demand2}
 use Rattle.demands.proofs.Demand2.{demand2}
-use Rattle.judging.specs.declared.judging.Judged.TheVariants.{Right}
+use Rattle.judging.specs.Answers.{Right}
 use Rattle.judging.specs.Judge.{named_in, judge_work, judge_of}
 use Rattle.judging.specs.Yes.{RowRight, Sound}
 use Rattle.judging.proofs.WorkLaws.{judge-passed}

@@ -8,8 +8,8 @@ use Rattle.laws.specs.Signed.{twos, value, zero_word}
 use Rattle.laws.proofs.SignedLaws.{value-below, value-above}
 use Rattle.said.specs.Records.{record_at, record_start}
 use Rattle.said.specs.Refusals.{not_zero, byte_of}
-use Rattle.parting.specs.declared.answering.Parted.{Parted}
-use Rattle.parting.specs.declared.answering.Parted.TheVariants.{Refused, Equal, Smaller, Larger}
+use Rattle.parting.specs.Answers.{Parted}
+use Rattle.parting.specs.Answers.{Refused, Equal, Smaller, Larger}
 use Rattle.reporting.specs.Answers.{refused_words, filled}
 use Rattle.part_words.specs.PartWords.{part_number, value_of_64_bits, standing_words, part_report, part_few, part_within}
 

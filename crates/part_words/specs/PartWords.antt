@@ -3,8 +3,8 @@ use Rattle.std.specs.Prelude.{List, [], ◌∷◌, ◌≡◌, ℕ, ◌+◌, ◌�
 use Rattle.laws.specs.Signed.{twos, value}
 use Rattle.said.specs.Records.{record_at, record_start}
 use Rattle.said.specs.Refusals.{not_zero, byte_of}
-use Rattle.parting.specs.declared.answering.Parted.{Parted}
-use Rattle.parting.specs.declared.answering.Parted.TheVariants.{Refused, Equal, Smaller, Larger}
+use Rattle.parting.specs.Answers.{Parted}
+use Rattle.parting.specs.Answers.{Refused, Equal, Smaller, Larger}
 use Rattle.reporting.specs.Answers.{refused_words}
 
 -- the refusal number, 0 where the sets were compared

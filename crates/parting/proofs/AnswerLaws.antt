@@ -16,11 +16,16 @@ use Rattle.sets.proofs.PartLaws.{told-smaller, told-larger, differ-below}
 use Rattle.said.specs.Records.{record_count}
 use Rattle.said.specs.Refusals.{pair_records, early_refusal, no_set}
 use Rattle.said.specs.LentOpen.{Open}
-use Rattle.said.specs.Job.{Said, Outcome, in_axes, records_from, outcome_from, outcome}
+use Rattle.said.specs.Job.{Said, in_axes, records_from}
 use Rattle.job.specs.Lent.{JobRead}
-use Rattle.job.proofs.CheckLaws.{early-first, none-early, room}
-use Rattle.parting.specs.declared.answering.Parted.{Parted}
-use Rattle.parting.specs.declared.answering.Parted.TheVariants.{Refused, Equal, Smaller, Larger}
+use Rattle.std.specs.Prelude.{Ok, Err}
+use Rattle.refusals.specs.declared.Refusal.{Refusal}
+use Rattle.refusals.specs.declared.Refused as refusals
+use Rattle.refusals.specs.Refusals.{number}
+use Rattle.job.specs.declared.whole.JobCounts.{JobCounts}
+use Rattle.job.proofs.CheckLaws.{refused-early, outcome-walk, room}
+use Rattle.parting.specs.Answers.{Parted}
+use Rattle.parting.specs.Answers.{Refused, Equal, Smaller, Larger}
 use Rattle.parting.specs.Part.{user_of, named, parted_in, parted_of, part_of}
 use Rattle.parting.specs.LentPart.{UserFit, JobStands}
 
@@ -94,49 +99,43 @@ module _ {axes records regions sets : ℕ} {job w : List ℕ} (f : JobStands axe
       unfolding named
       told_more r v u k h i = ap (λ (n : ℕ). Larger r n v u) (i (fit_larger r v u h)) ∙ sym (ap (named job s) h) ∙ told
 
--- ---- of a whole call
+-- ---- of the records, and of a whole call
 
-module _ (axes x y : ℕ) (job w : List ℕ) (n : ℕ) (e : n ≡ early_refusal axes 0 job (length w) pair_records) where
-  pub refused-early : (n ≡ 0 → ⊥) → Refused n 0 ≡ part_of axes job x y (length w)
-  unfolding outcome parted_of
-  refused-early h =
-      let o : Outcome = records_from axes 0 job job (record_count job) 0 in_axes in
-      sym (ap (parted_of job x y) (ap (λ (k : ℕ). outcome_from k o) (sym e) ∙ early-first n o h))
+module _ (axes x y : ℕ) (job w : List ℕ) where
+  pub refused-first : (r : Refusal) → number r ≡ early_refusal axes 0 job (length w) pair_records → Refused (number r) 0 ≡ part_of axes job x y (length w)
+  unfolding parted_of
+  refused-first r e = sym (ap (parted_of job x y) (refused-early axes 0 job w pair_records r e))
 
-  outcome-walk : n ≡ 0 → outcome axes 0 job (length w) pair_records ≡ records_from axes 0 job job (record_count job) 0 in_axes
-  unfolding outcome
-  outcome-walk z = none-early _ _ (sym e ∙ z)
+  pub walked : 0 ≡ early_refusal axes 0 job (length w) pair_records → (p : Parted) → p ≡ parted_of job x y (records_from axes 0 job job (record_count job) 0 in_axes)
+      → p ≡ part_of axes job x y (length w)
+  walked e p h = h ∙ ap (parted_of job x y) (sym (outcome-walk axes 0 job w pair_records e))
 
-  module _ (z : n ≡ 0) {a : ℕ} (q : a ≡ axes) {records : ℕ} (r : records ≡ record_count job) {new : List ℕ} {no at regions sets values uses : ℕ}
-      (read : JobRead a 0 job records w new no at regions sets values uses) where
-    walk_is : records_from a 0 job job records 0 in_axes ≡ records_from axes 0 job job (record_count job) 0 in_axes
-    walk_is = rw (q, r) refl
+  module _ {records : ℕ} (r : records ≡ record_count job) where
+    walk_is : records_from axes 0 job job records 0 in_axes ≡ records_from axes 0 job job (record_count job) 0 in_axes
+    walk_is = rw r refl
 
-    pub refused-record : (no ≡ 0 → ⊥) → Refused no at ≡ part_of axes job x y (length w)
+    pub refused-record : {new : List ℕ} (z : refusals.Refused) → JobRead axes 0 job records w new (Err z) → Refused (number z.refusal) z.place ≡ parted_of job x y (records_from axes 0 job job (record_count job) 0 in_axes)
     unfolding parted_of
-    refused-record h = sym (ap (parted_of job x y) (outcome-walk z ∙ sym walk_is ∙ read.bad h))
+    refused-record z read = sym (ap (parted_of job x y) (sym walk_is ∙ read.is))
 
-    module _ (bytes : (k : ℕ) → get_or job k 0 < 256) (o : Open axes 0 job (length w) pair_records) (g : no ≡ 0) where
-      abbrev pub stands : JobStands a job records regions sets new
+    module _ (bytes : (k : ℕ) → get_or job k 0 < 256) (o : Open axes 0 job (length w) pair_records) {new : List ℕ} (c : JobCounts) (read : JobRead axes 0 job records w new (Ok c)) where
+      abbrev pub stands : JobStands axes job records c.regions c.sets new
       stands = record {
         passed = record {
           bytes = bytes;
-          some = omega (arith, q, o.some);
-          most = omega (arith, q, o.most);
+          some = o.some;
+          most = o.most;
           few = omega (arith, r, o.few);
           records-are = r;
           whole = omega (arith, r, o.whole);
           room = omega (arith, r, room axes 0 job (length w) pair_records o, read.only.long);
         };
-        values = values;
-        uses = uses;
-        held = read.good g;
+        values = c.values;
+        uses = c.uses;
+        held = read.is;
       }
 
-      -- x' and y' are x and y as indexes
-      pub answered : (x' y' : ℕ) → x' ≡ x → y' ≡ y → (p : Parted) → ((f : JobStands a job records regions sets new) → p ≡ parted_in job x' y' f.held.said)
-          → p ≡ part_of axes job x y (length w)
+      pub answered : (p : Parted) → ((f : JobStands axes job records c.regions c.sets new) → p ≡ parted_in job x y f.held.said)
+          → p ≡ parted_of job x y (records_from axes 0 job job (record_count job) 0 in_axes)
       unfolding parted_of
-      answered x' y' i j p h =
-          h stands ∙ ap₂ (λ (k l : ℕ). parted_in job k l (read.good g).said) i j
-          ∙ sym (ap (parted_of job x y) (outcome-walk z ∙ sym walk_is ∙ (read.good g).is))
+      answered p h = h stands ∙ sym (ap (parted_of job x y) (sym walk_is ∙ read.is.is))

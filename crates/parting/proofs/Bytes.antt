@@ -28,8 +28,8 @@ use Rattle.said.proofs.SoundLaws.{fine-walk}
 use Rattle.told.specs.Told.{index_of, Told}
 use Rattle.told.proofs.TellLaws.{Telling, all_told}
 use Rattle.told.proofs.Bytes.{told}
-use Rattle.parting.specs.declared.answering.Parted.{Parted}
-use Rattle.parting.specs.declared.answering.Parted.TheVariants.{Refused, Equal, Smaller, Larger}
+use Rattle.parting.specs.Answers.{Parted}
+use Rattle.parting.specs.Answers.{Refused, Equal, Smaller, Larger}
 use Rattle.parting.specs.Part.{user_of, named, parted_in, parted_of, part_of}
 use Rattle.parting.specs.PartTold.{WordAt, BothSets, PartTold}
 use Rattle.parting.proofs.NamedLaws.{named-first}

@@ -11,8 +11,8 @@ use Rattle.said.specs.Refusals.{first_failed, published_work, early_refusal, in_
 use Rattle.said.specs.Work.{axis_run, regions_at_head}
 use Rattle.said.specs.Sets.{coordinates, region_list, same_region, like, first_like, has, with_use, index_in, with_entry, with_value}
 use Rattle.said.specs.Job.{unless, after_value, after_end, value_step, end_step, regions_only, said_at, axes_before, is_late, kind_step, step, ended, ended_sets, follow, records_from, outcome_from, outcome}
-use Rattle.parting.specs.declared.answering.Parted.{Parted}
-use Rattle.parting.specs.declared.answering.Parted.TheVariants.{Refused, Equal, Smaller, Larger}
+use Rattle.parting.specs.Answers.{Parted}
+use Rattle.parting.specs.Answers.{Refused, Equal, Smaller, Larger}
 use Rattle.parting.specs.Part.{first_region_named, user_of, named, parted_in, parted_of, part_of}
 
 abbrev axis_record : ℕ → ℕ → List ℕ

@@ -38,4 +38,4 @@ pub record JobStands (axes : ℕ) (job : List ℕ) (records regions sets : ℕ) 
   pub passed : JobOpen axes job records (length w)
   pub values : ℕ
   pub uses : ℕ
-  pub held : JobHeld axes 0 job records w regions sets values uses
+  pub held : JobHeld axes 0 job records w (record { regions = regions; sets = sets; values = values; uses = uses })

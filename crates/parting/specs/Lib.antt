@@ -1,3 +1,4 @@
+pub mod Answers
 pub mod Part
 pub mod LentPart
 pub mod PartTold

@@ -9,8 +9,8 @@ use Rattle.said.specs.Records.{kind, value_kind, region_number, after_record, re
 use Rattle.said.specs.Refusals.{pair_records, no_set}
 use Rattle.said.specs.Sets.{Region, first_like}
 use Rattle.said.specs.Job.{Said, Outcome, refused, fine, outcome}
-use Rattle.parting.specs.declared.answering.Parted.{Parted}
-use Rattle.parting.specs.declared.answering.Parted.TheVariants.{Refused, Equal, Smaller, Larger}
+use Rattle.parting.specs.Answers.{Parted}
+use Rattle.parting.specs.Answers.{Refused, Equal, Smaller, Larger}
 
 -- of so many records, where `rest` are the bytes from the first of them on: the region that the first value record names whose region
 -- has q for the first region like it (S1); 0 where there is none

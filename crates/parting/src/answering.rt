@@ -2,24 +2,25 @@
 ghost use Rattle.std.specs.Prelude.{◌≡◌, length};
 ghost use Rattle.limits.specs.Limits.{pair_records};
 ghost use Rattle.job.specs.Check.{work_left};
-ghost use Rattle.parting.specs.Part.{parted_in, part_of};
+ghost use Rattle.said.specs.LentOpen.{Open};
+ghost use Rattle.said.specs.Records.{record_count};
+ghost use Rattle.said.specs.Job.{records_from, in_axes};
+ghost use Rattle.parting.specs.Answers.{parted};
+ghost use Rattle.parting.specs.Part.{parted_in, parted_of, part_of};
 ghost use Rattle.parting.specs.LentPart.{JobStands};
 
 use crate::naming::user;
 use comparing::compare;
-use job::{clear_work, early_no, read_job};
-use laws::wide;
+use job::{check_early, read_job};
 use limits::Limits;
 use records::records_in;
-use said::Refusal;
+use refusals::{Refusal, Refused};
 use sets::Parting;
 
-// A refusal's number and place. Or how the first set stands to the second, and where they are not equal: the first region
-// index where they differ, the number in the job of the region that first used that index, the word of the first set there
-// and that of the second.
-#[derive(Clone, Copy)]
-pub enum Parted {
-    Refused(usize, usize),
+// How the first set stands to the second, and where they are not equal: the first region index where they differ, the number in the job of the
+// region that first used that index, the word of the first set there and that of the second.
+#[derive(Clone, Copy, Debug, PartialEq, Eq)]
+pub enum Standing {
     Equal,
     Smaller(u32, usize, u32, u32),
     Larger(u32, usize, u32, u32),
@@ -35,55 +36,74 @@ fn between(
     first: usize,
     second: usize,
     work: &mut [u32],
-) -> Parted
+) -> Result<Standing, Refused>
     requires { JobStands axes job.now records regions sets work.old }
-    ensures { (f : JobStands axes job.now records regions sets work.old) → result ≡ parted_in job.now first second f.held.said }
+    ensures { (f : JobStands axes job.now records regions sets work.old) → parted result ≡ parted_in job.now first second f.held.said }
 {
     if sets <= first {
-        return Parted::Refused(Refusal::NO_SET, 0);
+        return Err(Refused {
+            refusal: Refusal::NoSet,
+            place: 0,
+        });
     }
     if sets <= second {
-        return Parted::Refused(Refusal::NO_SET, 0);
+        return Err(Refused {
+            refusal: Refusal::NoSet,
+            place: 0,
+        });
     }
     match compare(work, 0, first, second) {
-        Parting::Equal => Parted::Equal,
+        Parting::Equal => Ok(Standing::Equal),
         Parting::Smaller(r, v, u) => {
             let p = user(job, axes, records, regions, work, r);
-            Parted::Smaller(r, p, v, u)
+            Ok(Standing::Smaller(r, p, v, u))
         }
         Parting::Larger(r, v, u) => {
             let p = user(job, axes, records, regions, work, r);
-            Parted::Larger(r, p, v, u)
+            Ok(Standing::Larger(r, p, v, u))
         }
     }
 }
 
+// Of a job that was not refused before its first record: work is left as it comes.
+fn part_records(
+    axes: u32,
+    job: &[u8],
+    first: u32,
+    second: u32,
+    work: &mut [u32],
+) -> Result<Standing, Refused>
+    requires { Open axes 0 job.now (length work.old) pair_records }
+    ensures { parted result ≡ parted_of job.now first second (records_from axes 0 job.now job.now (record_count job.now) 0 in_axes) }
+{
+    let axes = axes as usize;
+    let records = records_in(job.len());
+    let counts = read_job(job, axes, 0, records, work)?;
+    between(
+        job,
+        axes,
+        records,
+        counts.regions,
+        counts.sets,
+        first as usize,
+        second as usize,
+        work,
+    )
+}
+
 // Looks at every job, sound or not; no pair records are asked for. Work is as it was after refusals 1 to 4, else all zeros.
-pub fn part(axes: u32, job: &[u8], first: u32, second: u32, work: &mut [u32]) -> Parted
-    ensures value { result ≡ part_of axes job.now first second (length work.old) }
+pub fn part(
+    axes: u32,
+    job: &[u8],
+    first: u32,
+    second: u32,
+    work: &mut [u32],
+) -> Result<Standing, Refused>
+    ensures value { parted result ≡ part_of axes job.now first second (length work.old) }
     ensures work_after { work.new ≡ work_left axes 0 job.now pair_records work.old }
 {
-    let no = early_no(axes, 0, job, work.len(), Limits::PAIRS);
-    if no != 0 {
-        return Parted::Refused(no, 0);
-    }
-    let a = wide(axes);
-    let n = records_in(job.len());
-    let r = read_job(job, a, 0, n, work);
-    if r.no != 0 {
-        clear_work(work);
-        return Parted::Refused(r.no, r.at);
-    }
-    let answer = between(
-        job,
-        a,
-        n,
-        r.regions,
-        r.sets,
-        wide(first),
-        wide(second),
-        work,
-    );
-    clear_work(work);
+    check_early(axes, 0, job, work.len(), Limits::PAIRS)?;
+    let answer = part_records(axes, job, first, second, work);
+    work.fill(0);
     answer
 }

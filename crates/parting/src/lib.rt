@@ -5,4 +5,4 @@
 mod answering;
 mod naming;
 
-pub use crate::answering::{Parted, part};
+pub use crate::answering::{Standing, part};

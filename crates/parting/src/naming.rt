@@ -4,8 +4,7 @@ ghost use Rattle.parting.specs.Part.{first_region_named, user_of};
 ghost use Rattle.parting.specs.LentPart.{NamedFit, UserFit};
 
 use job_scan::find_firsts;
-use laws::wide;
-use records::{Kind, kind_at, region_at};
+use records::{Kind, is_kind, region_at};
 
 // Of so many records the first value record whose region has q for the first like it: the region that it names. For each
 // region the first like it stands in work, from `first` on.
@@ -13,16 +12,12 @@ fn first_named(job: &[u8], records: usize, work: &[u32], first: usize, q: u32) -
     requires { NamedFit job.now records work.now first }
     ensures { (f : NamedFit job.now records work.now first) → result ≡ first_region_named f.regions q records job.now }
 {
-    let mut i: usize = 0;
-    while i < records {
-        if kind_at(job, i) == Kind::VALUE {
+    for i in 0..records {
+        if is_kind(job, i, Kind::Value) {
             let p = region_at(job, i);
             if work[first + p] == q {
                 return p;
             }
-            i += 1;
-        } else {
-            i += 1;
         }
     }
     0
@@ -41,7 +36,7 @@ pub fn user(
     requires { UserFit axes job.now records regions work.old index }
     ensures { (f : UserFit axes job.now records regions work.old index) → result ≡ user_of job.now f.said index }
 {
-    let q = work[4 * records + wide(index)];
+    let q = work[4 * records + index as usize];
     find_firsts(job, axes, regions, work, 5 * records);
     first_named(
         job,

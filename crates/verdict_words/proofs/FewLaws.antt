@@ -15,8 +15,8 @@ use Rattle.said.specs.Job.{Said, Outcome, refused, fine, in_axes, records_from, 
 use Rattle.stores.specs.Stores.{Parsed, parse}
 use Rattle.stores.specs.Coordinates.{once}
 use Rattle.refusing.proofs.WalkEnds.{walk_no, stops-only}
-use Rattle.judging.specs.declared.judging.Judged.{Judged}
-use Rattle.judging.specs.declared.judging.Judged.TheVariants.{WrongSet}
+use Rattle.judging.specs.Answers.{Judged}
+use Rattle.judging.specs.Answers.{WrongSet}
 use Rattle.judging.specs.Judge.{set_given, first_failing, judged_in, judged_of, judge_work, judge_refusal, judge_of}
 use Rattle.verdict_words.specs.VerdictWords.{judge_few, judge_within}
 

@@ -5,8 +5,8 @@ use Prim.Native.Nat.{ℕ, ◌+◌, ◌≤◌, ◌<◌}
 use lib.ListN.{length}
 use Rattle.said.specs.Records.{record_at, record_start}
 use Rattle.said.specs.Refusals.{not_zero, byte_of}
-use Rattle.judging.specs.declared.judging.Judged.{Judged}
-use Rattle.judging.specs.declared.judging.Judged.TheVariants.{Refused, Right, WrongSet, WrongStore}
+use Rattle.judging.specs.Answers.{Judged}
+use Rattle.judging.specs.Answers.{Refused, Right, WrongSet, WrongStore}
 use Rattle.judging.specs.Judge.{judge_of, judge_left}
 use Rattle.reporting.specs.Answers.{refused_words, filled}
 use Rattle.verdict_words.specs.VerdictWords.{verdict_report, judge_number, judged_words, judge_few, judge_within}

@@ -1,5 +1,5 @@
 use mathlib.Core.Path.{ap, ◌∙◌}
-use Rattle.parting.specs.declared.answering.Parted.{Parted}
+use Rattle.parting.specs.Answers.{Parted}
 use Rattle.reporting.specs.Answers.{filled}
 use Rattle.part_words.specs.PartWords.{part_number, part_report}
 use Rattle.ivs.proofs.PartLaws.{part-few, part-within}

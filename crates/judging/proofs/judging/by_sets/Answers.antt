@@ -1,6 +1,5 @@
 use Rattle.judging.proofs.StageLaws.{wrong-store, sets-fit, wrong-set, right-store}
 use native.Mathlib.Omega.{arith}
-use borrow.Author.Rules.{rules}
 use Rattle.judging.proofs.judging.by_sets.Goals as goal
 
 pub overflow_add-all : goal.overflow_add-all
@@ -30,9 +29,6 @@ overflow_add-values c = omega (arith, c.requires.fits.few)
 pub all_first-requires : goal.all_first-requires
 all_first-requires c = omega (arith, c.requires.fits.room)
 
-pub shape_of-work-then-not-all_first : goal.shape_of-work-then-not-all_first
-shape_of-work-then-not-all_first c = search rules
-
 pub returns-then-not-all_first : goal.returns-then-not-all_first
 returns-then-not-all_first c = λ f. wrong-store f (λ k. omega (arith, c.type_inv.store k)) c.args.words.now c.all_first.ensures c.if-not-all_first.true-raw
 
@@ -48,14 +44,8 @@ overflow_add-aims-2 c = omega (arith, c.requires.fits.few)
 pub first_failing-k-requires : goal.first_failing-k-requires
 first_failing-k-requires c = sets-fit c.requires (λ k. omega (arith, c.type_inv.store k)) c.args.words.now c.all_first.ensures c.if-not-all_first.false-raw _ c.set_out.ensures
 
-pub shape_of-work-then-k-sets : goal.shape_of-work-then-k-sets
-shape_of-work-then-k-sets c = search rules
-
 pub returns-then-k-sets : goal.returns-then-k-sets
 returns-then-k-sets c = λ f. wrong-set f (λ k. omega (arith, c.type_inv.store k)) c.args.words.now c.all_first.ensures c.if-not-all_first.false-raw _ c.set_out.ensures _ c.first_failing-k.ensures (omega arith)
-
-pub shape_of-work : goal.shape_of-work
-shape_of-work c = search rules
 
 pub returns : goal.returns
 returns c = λ f. right-store f (λ k. omega (arith, c.type_inv.store k)) c.args.words.now c.all_first.ensures c.if-not-all_first.false-raw _ c.set_out.ensures _ c.first_failing-k.ensures (omega arith)

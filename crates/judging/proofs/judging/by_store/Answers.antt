@@ -4,7 +4,6 @@ use Rattle.laws.specs.Bytes.{be}
 use Rattle.giving.proofs.WordLaws.{head_of}
 use Rattle.judging.proofs.CallLaws.{not-parsed, is-parsed, other-axes, sides-fit, sided, by-store-done}
 use native.Mathlib.Omega.{arith}
-use borrow.Author.Rules.{rules}
 use Rattle.judging.proofs.judging.by_store.Goals as goal
 
 pub overflow_mul-records : goal.overflow_mul-records
@@ -12,9 +11,6 @@ overflow_mul-records c = omega (arith, c.requires.few)
 
 pub store_ok-requires : goal.store_ok-requires
 store_ok-requires c = omega (arith, c.requires.room)
-
-pub shape_of-work-then-not-store_ok : goal.shape_of-work-then-not-store_ok
-shape_of-work-then-not-store_ok c = search rules
 
 pub returns-then-not-store_ok : goal.returns-then-not-store_ok
 returns-then-not-store_ok c = λ f. not-parsed _ _ _ _ _ c.store_ok.ensures.is c.if-not-store_ok.true-raw
@@ -24,9 +20,6 @@ be-list-requires c = record { k_bound = omega (arith, (head_of _ (is-parsed _ _ 
 
 pub be-requires : goal.be-requires
 be-requires c = record { k_bound = omega (arith, (head_of _ (is-parsed _ _ c.store_ok.ensures.is c.if-not-store_ok.false-raw)).list, c.be-list.ensures.is); k_in_bounds = omega (arith, (head_of _ (is-parsed _ _ c.store_ok.ensures.is c.if-not-store_ok.false-raw)).list, c.be-list.ensures.is) }
-
-pub shape_of-work-then-be-axes : goal.shape_of-work-then-be-axes
-shape_of-work-then-be-axes c = search rules
 
 pub returns-then-be-axes : goal.returns-then-be-axes
 returns-then-be-axes c = let s = c.args.store.now in λ f. other-axes _ (is-parsed _ _ c.store_ok.ensures.is c.if-not-store_ok.false-raw) _ _ _ _ (c.be.ensures.is ∙ ap (be 2 s) c.be-list.ensures.is) c.if-be-axes.true
@@ -55,9 +48,6 @@ pub by_sets-requires : goal.by_sets-requires
 by_sets-requires c =
     let s = c.args.store.now in
     sided c.requires (λ k. omega (arith, c.type_inv.store k)) _ _ c.store_ok.ensures (is-parsed _ _ c.store_ok.ensures.is c.if-not-store_ok.false-raw) _ c.be-list.ensures.is _ (c.be.ensures.is ∙ ap (be 2 s) c.be-list.ensures.is) c.if-be-axes.false _ (c.be-2.ensures.is ∙ ap (λ (k : ℕ). be 2 s (k + 2)) c.be-list.ensures.is) _ c.match_regions.ensures
-
-pub shape_of-work : goal.shape_of-work
-shape_of-work c = search rules
 
 pub returns : goal.returns
 returns c =

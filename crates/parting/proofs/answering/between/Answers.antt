@@ -1,6 +1,5 @@
 use native.Mathlib.Omega.{arith}
 use Rattle.parting.proofs.AnswerLaws.{no-first, no_second, set-stored, told-equal, fit-less, fit-more, told-less, told_more}
-use borrow.Author.Rules.{rules}
 use Rattle.parting.proofs.answering.between.Goals as goal
 
 pub returns-then-sets-first : goal.returns-then-sets-first
@@ -12,35 +11,17 @@ returns-then-sets-second c = λ f. no_second f _ _ (omega arith) (omega arith)
 pub compare-requires : goal.compare-requires
 compare-requires c = record { stored = set-stored c.requires _ (omega arith); stored_2 = set-stored c.requires _ (omega arith) }
 
-pub enum_told-1 : goal.enum_told-1
-enum_told-1 c = search rules
-
-pub enum_known-r : goal.enum_known-r
-enum_known-r c = search rules
-
 pub user-p-requires : goal.user-p-requires
 user-p-requires c = fit-less c.requires _ _ (omega arith) (omega arith) _ c.compare.ensures.walked c.compare.ensures.dense _ _ _ c.in-Smaller.is
-
-pub enum_known-r-in-Larger-1 : goal.enum_known-r-in-Larger-1
-enum_known-r-in-Larger-1 c = search rules
 
 pub user-p-requires-in-Larger : goal.user-p-requires-in-Larger
 user-p-requires-in-Larger c = fit-more c.requires _ _ (omega arith) (omega arith) _ c.compare.ensures.walked c.compare.ensures.dense _ _ _ c.in-Larger.is
 
-pub shape_of-work-in-Equal : goal.shape_of-work-in-Equal
-shape_of-work-in-Equal c = search rules
-
 pub returns-in-Equal : goal.returns-in-Equal
 returns-in-Equal c = λ f. told-equal f _ _ (omega arith) (omega arith) _ c.compare.ensures.walked c.in-Equal.is
 
-pub shape_of-work-in-Smaller : goal.shape_of-work-in-Smaller
-shape_of-work-in-Smaller c = search rules
-
 pub returns-in-Smaller : goal.returns-in-Smaller
 returns-in-Smaller c = λ f. told-less f _ _ (omega arith) (omega arith) _ c.compare.ensures.walked c.compare.ensures.dense _ _ _ _ c.in-Smaller.is c.user-p.ensures
-
-pub shape_of-work-in-Larger : goal.shape_of-work-in-Larger
-shape_of-work-in-Larger c = search rules
 
 pub returns-in-Larger : goal.returns-in-Larger
 returns-in-Larger c = λ f. told_more f _ _ (omega arith) (omega arith) _ c.compare.ensures.walked c.compare.ensures.dense _ _ _ _ c.in-Larger.is c.user-p-in-Larger.ensures

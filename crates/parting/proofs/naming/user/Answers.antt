@@ -9,17 +9,14 @@ use Rattle.parting.proofs.naming.user.Goals as goal
 pub overflow_mul-q : goal.overflow_mul-q
 overflow_mul-q c = omega (arith, c.requires.passed.few)
 
-pub wide-requires : goal.wide-requires
-wide-requires c = search rules
-
 pub overflow_add-q : goal.overflow_add-q
-overflow_add-q c = omega (arith, c.requires.passed.few, index-room c.requires, c.wide.ensures)
+overflow_add-q c = omega (arith, c.requires.passed.few, index-room c.requires)
 
 pub offset_bounds-work-records : goal.offset_bounds-work-records
-offset_bounds-work-records c = omega (arith, c.requires.passed.few, index-room c.requires, c.wide.ensures)
+offset_bounds-work-records c = omega (arith, c.requires.passed.few, index-room c.requires)
 
 pub bounds-work-records : goal.bounds-work-records
-bounds-work-records c = omega (arith, c.requires.passed.room, index-room c.requires, c.wide.ensures)
+bounds-work-records c = omega (arith, c.requires.passed.room, index-room c.requires)
 
 pub overflow_mul-records : goal.overflow_mul-records
 overflow_mul-records c = omega (arith, c.requires.passed.few)
@@ -54,4 +51,4 @@ pub shape_of-work : goal.shape_of-work
 shape_of-work c = search rules
 
 pub returns : goal.returns
-returns c = let a = c.args in λ f. user-done f _ _ refl c.find_firsts.ensures _ (ap (λ (k : ℕ). get_or a.work.now (4 * a.records + k) 0) c.wide.ensures) _ c.first_named.ensures
+returns c = let a = c.args in λ f. user-done f _ _ refl c.find_firsts.ensures _ (ap (λ (k : ℕ). get_or a.work.now (4 * a.records + k) 0) refl) _ c.first_named.ensures
