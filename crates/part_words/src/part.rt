@@ -1,9 +1,11 @@
 // Where two sets part, told in a report.
-ghost use Rattle.std.specs.Prelude.{◌≡◌};
+ghost use Rattle.std.specs.Prelude.{◌≡◌, []};
+ghost use Rattle.parting.specs.Answers.{standing_of, parted};
 ghost use Rattle.reporting.specs.Answers.{filled};
-ghost use Rattle.part_words.specs.PartWords.{value_of_64_bits, standing_words, part_number, part_report, part_few, part_within};
+ghost use Rattle.part_words.specs.PartWords.{value_of_64_bits, standing_words, part_number, part_report, part_within};
 
-use parting::Parted;
+use parting::Standing;
+use refusals::Refused;
 use reporting::tell_refused;
 
 // The value of a word of work, as two's complement of 64 bits.
@@ -17,57 +19,39 @@ fn long_value(w: u32) -> u64
 }
 
 // Two sets that were compared: 0 equal, 1 smaller, 2 larger; and where they part.
-fn tell_standing(
-    report: &mut [u64; 16],
-    standing: u64,
-    index: u64,
-    region: u64,
-    left: u64,
-    right: u64,
-)
-    ensures { report.new ≡ filled 0 (standing_words standing index region left right) report.old }
+#[tactic(auto, unfolding(crate::specs::PartWords::standing_words))]
+fn standing_words(standing: u64, index: u32, region: usize, left: u64, right: u64) -> [u64; 16]
+    ensures { result ≡ standing_words standing index region left right }
 {
-    report[0] = 0;
-    report[1] = 0;
-    report[2] = standing;
-    report[3] = index;
-    report[4] = region;
-    report[5] = left;
-    report[6] = right;
-    report[7] = 0;
-    report[8] = 0;
-    report[9] = 0;
-    report[10] = 0;
-    report[11] = 0;
-    report[12] = 0;
-    report[13] = 0;
-    report[14] = 0;
-    report[15] = 0;
+    let (index, region) = (index as u64, region as u64);
+    [
+        0, 0, standing, index, region, left, right, 0, 0, 0, 0, 0, 0, 0, 0, 0,
+    ]
+}
+
+// By how the first stands to the second.
+#[tactic(auto, unfolding(crate::specs::PartWords::part_report))]
+fn words_of(standing: Standing) -> [u64; 16]
+    ensures { result ≡ part_report [] (standing_of standing) }
+{
+    match standing {
+        Standing::Equal => standing_words(0, 0, 0, 0, 0),
+        Standing::Smaller(r, p, v, u) => standing_words(1, r, p, long_value(v), long_value(u)),
+        Standing::Larger(r, p, v, u) => standing_words(2, r, p, long_value(v), long_value(u)),
+    }
 }
 
 // Fills the report; the refusal number, 0 where the sets were compared.
-pub fn tell_parted(report: &mut [u64; 16], job: &[u8], answer: Parted) -> u32
-    requires { part_few answer × part_within job.now answer }
-    ensures value { result ≡ part_number answer }
-    ensures report_after { report.new ≡ filled 0 (part_report job.now answer) report.old }
+pub fn tell_parted(report: &mut [u64; 16], job: &[u8], answer: Result<Standing, Refused>) -> u32
+    requires { part_within job.now (parted answer) }
+    ensures value { result ≡ part_number (parted answer) }
+    ensures report_after { report.new ≡ filled 0 (part_report job.now (parted answer)) report.old }
 {
     match answer {
-        Parted::Refused(no, at) => {
-            let byte = records::byte_at(job, no, at);
-            tell_refused(report, no, at, byte);
-            no as u32
-        }
-        Parted::Equal => {
-            tell_standing(report, 0, 0, 0, 0, 0);
+        Ok(standing) => {
+            *report = words_of(standing);
             0
         }
-        Parted::Smaller(r, p, v, u) => {
-            tell_standing(report, 1, r as u64, p as u64, long_value(v), long_value(u));
-            0
-        }
-        Parted::Larger(r, p, v, u) => {
-            tell_standing(report, 2, r as u64, p as u64, long_value(v), long_value(u));
-            0
-        }
+        Err(refused) => tell_refused(report, job, refused),
     }
 }

@@ -24,6 +24,10 @@ filled-end k (x ∷ l) old e =
     ∙ ap (λ (t : List ℕ). t ++ l) (take-suc-set old k x h)
     ∙ append_snoc (take k old) x l
 
+-- as many words as there are
+pub filled-all : (l old : List ℕ) → length old ≡ length l → filled 0 l old ≡ l
+filled-all l old e = filled-end 0 l old (omega (arith, e))
+
 words-sixteen : (job : List ℕ) (b : Built) → length (report_words job b) ≡ 16
 unfolding report_words refused_words done_words
 words-sixteen job (built.Refused n at) = refl

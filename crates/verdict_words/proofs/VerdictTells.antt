@@ -1,40 +1,61 @@
 -- A verdict taken apart into numbers. Assumes nothing.
-use mathlib.Core.Path.{◌≡◌, refl, subst, ap, ◌∙◌}
-use mathlib.Core.List.{List}
-use Prim.Native.Nat.{ℕ, ◌+◌, ◌≤◌, ◌<◌}
+use mathlib.Core.Path.{◌≡◌, refl, sym, ap, ◌∙◌}
+use mathlib.Core.List.{List, []}
+use Prim.Native.Nat.{ℕ}
 use lib.ListN.{length}
-use Rattle.said.specs.Records.{record_at, record_start}
-use Rattle.said.specs.Refusals.{not_zero, byte_of}
 use Rattle.judging.specs.Answers.{Judged}
 use Rattle.judging.specs.Answers.{Refused, Right, WrongSet, WrongStore}
 use Rattle.judging.specs.Judge.{judge_of, judge_left}
-use Rattle.reporting.specs.Answers.{refused_words, filled}
-use Rattle.verdict_words.specs.VerdictWords.{verdict_report, judge_number, judged_words, judge_few, judge_within}
+use Rattle.std.specs.Prelude.{Result, Ok, Err}
+use Rattle.refusals.specs.declared.Refused as refusals
+use Rattle.refusals.specs.Refusals.{number}
+use Rattle.judging.specs.declared.judging.Verdict.{Verdict}
+use Rattle.judging.specs.declared.judging.Verdict.TheVariants as verdict
+use Rattle.judging.specs.Answers.{verdict_of, judged}
+use Rattle.reporting.specs.Answers.{refused_words, filled, words_of}
+use Rattle.reporting.proofs.ReportLaws.{filled-all}
+use Rattle.verdict_words.specs.VerdictWords.{verdict_report, judge_number, judged_words}
 use Rattle.verdict_words.specs.Told.{JudgeTold}
 
-pub byte-there : (job : List ℕ) (p : Judged) (n at : ℕ) → p ≡ Refused n at → judge_within job p → n ≡ not_zero → record_start (at + 1) ≤ length job
-byte-there job p n at e h = subst (judge_within job) e h
+sixteen-long : (job : List ℕ) (p : Judged) → length (judged_words job p) ≡ 16
+unfolding judged_words refused_words verdict_report
+sixteen-long job (Refused n at) = refl
+sixteen-long job Right = refl
+sixteen-long job (WrongSet k) = refl
+sixteen-long job WrongStore = refl
 
-pub refused-number : (p : Judged) (n at : ℕ) → p ≡ Refused n at → judge_few p → n < 4294967296
-refused-number p n at e h = subst judge_few e h
+-- of a store that was judged the job's bytes say nothing more
+any-job : (job : List ℕ) (v : Verdict) → judged_words [] (verdict_of v) ≡ judged_words job (verdict_of v)
+unfolding judged_words
+any-job job verdict.Right = refl
+any-job job (verdict.WrongSet k) = refl
+any-job job verdict.WrongStore = refl
 
-module _ (job w old : List ℕ) where
-  pub told-refused : (p : Judged) (n at byte : ℕ) → p ≡ Refused n at → byte ≡ byte_of n (record_at job at) → w ≡ filled 0 (refused_words n at byte) old
-      → (n ≡ judge_number p) × (w ≡ filled 0 (judged_words job p) old)
-  unfolding judge_number judged_words
-  told-refused p n at byte e f h = rw e (refl, h ∙ ap (λ (k : ℕ). filled 0 (refused_words n at k) old) f)
+no_number : (v : Verdict) → 0 ≡ judge_number (verdict_of v)
+unfolding judge_number
+no_number verdict.Right = refl
+no_number (verdict.WrongSet k) = refl
+no_number verdict.WrongStore = refl
 
-  pub told-right : (p : Judged) → p ≡ Right → w ≡ filled 0 (verdict_report 1 0) old → (0 ≡ judge_number p) × (w ≡ filled 0 (judged_words job p) old)
-  unfolding judge_number judged_words
-  told-right p e h = rw e (refl, h)
+module _ (job : List ℕ) (a : Result Verdict refusals.Refused) (old : List ℕ) (long : length old ≡ 16) where
+  all : judged_words job (judged a) ≡ filled 0 (judged_words job (judged a)) old
+  all = sym (filled-all (judged_words job (judged a)) old (long ∙ sym (sixteen-long job (judged a))))
 
-  pub told-set : (p : Judged) (k : ℕ) → p ≡ WrongSet k → w ≡ filled 0 (verdict_report 2 k) old → (0 ≡ judge_number p) × (w ≡ filled 0 (judged_words job p) old)
-  unfolding judge_number judged_words
-  told-set p k e h = rw e (refl, h)
+  pub told-number : (v : Verdict) → a ≡ Ok v → 0 ≡ judge_number (judged a)
+  told-number v e = rw e (no_number v)
 
-  pub told-store : (p : Judged) → p ≡ WrongStore → w ≡ filled 0 (verdict_report 3 0) old → (0 ≡ judge_number p) × (w ≡ filled 0 (judged_words job p) old)
-  unfolding judge_number judged_words
-  told-store p e h = rw e (refl, h)
+  pub told-verdict : (v : Verdict) → a ≡ Ok v → judged_words [] (verdict_of v) ≡ filled 0 (judged_words job (judged a)) old
+  told-verdict v e = any-job job v ∙ ap (λ (x : Result Verdict refusals.Refused). judged_words job (judged x)) (sym e) ∙ all
+
+  pub refused-number : (x : refusals.Refused) → a ≡ Err x → number x.refusal ≡ judge_number (judged a)
+  unfolding judge_number
+  refused-number x e = rw e refl
+
+  pub told-refused : (x : refusals.Refused) → a ≡ Err x → words_of job x ≡ filled 0 (judged_words job (judged a)) old
+  told-refused x e = same x ∙ ap (λ (y : Result Verdict refusals.Refused). judged_words job (judged y)) (sym e) ∙ all
+    where
+      same : (x : refusals.Refused) → words_of job x ≡ judged_words job (Refused (number x.refusal) x.place)
+      same x = unfold judged_words in refl
 
 -- ---- a call whole: what was answered, left and told
 

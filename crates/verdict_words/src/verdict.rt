@@ -1,56 +1,44 @@
 // What was judged of a store, told in a report.
-ghost use Rattle.std.specs.Prelude.{◌≡◌};
+ghost use Rattle.std.specs.Prelude.{◌≡◌, []};
+ghost use Rattle.judging.specs.Answers.{verdict_of, judged};
 ghost use Rattle.reporting.specs.Answers.{filled};
-ghost use Rattle.verdict_words.specs.VerdictWords.{verdict_report, judge_number, judged_words, judge_few, judge_within};
+ghost use Rattle.verdict_words.specs.VerdictWords.{verdict_report, judge_number, judged_words, judge_within};
 
-use judging::Judged;
+use judging::Verdict;
+use refusals::Refused;
 use reporting::tell_refused;
 
 // A verdict: 1 yes, 2 no by a set, 3 no by the store itself; and the set.
-fn tell_verdict(report: &mut [u64; 16], verdict: u64, set: usize)
-    ensures { report.new ≡ filled 0 (verdict_report verdict set) report.old }
+#[tactic(auto, unfolding(crate::specs::VerdictWords::verdict_report))]
+fn verdict_words(verdict: u64, set: usize) -> [u64; 16]
+    ensures { result ≡ verdict_report verdict set }
 {
-    report[0] = 0;
-    report[1] = 0;
-    report[2] = verdict;
-    report[3] = set as u64;
-    report[4] = 0;
-    report[5] = 0;
-    report[6] = 0;
-    report[7] = 0;
-    report[8] = 0;
-    report[9] = 0;
-    report[10] = 0;
-    report[11] = 0;
-    report[12] = 0;
-    report[13] = 0;
-    report[14] = 0;
-    report[15] = 0;
+    let set = set as u64;
+    [0, 0, verdict, set, 0, 0, 0, 0, 0, 0, 0, 0, 0, 0, 0, 0]
+}
+
+#[tactic(auto, unfolding(crate::specs::VerdictWords::judged_words))]
+fn words_of(verdict: Verdict) -> [u64; 16]
+    ensures { result ≡ judged_words [] (verdict_of verdict) }
+{
+    match verdict {
+        Verdict::Right => verdict_words(1, 0),
+        Verdict::WrongSet(k) => verdict_words(2, k),
+        Verdict::WrongStore => verdict_words(3, 0),
+    }
 }
 
 // Fills the report; the refusal number, 0 where the store was judged.
-pub fn tell_judged(report: &mut [u64; 16], job: &[u8], answer: Judged) -> u32
-    requires { judge_few answer × judge_within job.now answer }
-    ensures value { result ≡ judge_number answer }
-    ensures report_after { report.new ≡ filled 0 (judged_words job.now answer) report.old }
+pub fn tell_judged(report: &mut [u64; 16], job: &[u8], answer: Result<Verdict, Refused>) -> u32
+    requires { judge_within job.now (judged answer) }
+    ensures value { result ≡ judge_number (judged answer) }
+    ensures report_after { report.new ≡ filled 0 (judged_words job.now (judged answer)) report.old }
 {
     match answer {
-        Judged::Refused(no, at) => {
-            let byte = records::byte_at(job, no, at);
-            tell_refused(report, no, at, byte);
-            no as u32
-        }
-        Judged::Right => {
-            tell_verdict(report, 1, 0);
+        Ok(verdict) => {
+            *report = words_of(verdict);
             0
         }
-        Judged::WrongSet(k) => {
-            tell_verdict(report, 2, k);
-            0
-        }
-        Judged::WrongStore => {
-            tell_verdict(report, 3, 0);
-            0
-        }
+        Err(refused) => tell_refused(report, job, refused),
     }
 }
