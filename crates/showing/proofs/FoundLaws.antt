@@ -19,8 +19,8 @@ use Rattle.finding.specs.First.{first_at}
 use Rattle.finding.specs.Asked.{asked_refusal}
 use Rattle.finding.proofs.AskedLaws.{asked-none}
 use Rattle.finishing.specs.declared.answers.Report.{Report}
-use Rattle.finishing.specs.Answers.{Built}
-use Rattle.finishing.specs.Answers as built
+use Rattle.finishing.specs.declared.answers.Built.{Built}
+use Rattle.finishing.specs.declared.answers.Built.TheVariants as built
 use Rattle.showing.specs.declared.ends.Span.{Span}
 use Rattle.showing.specs.declared.found.Shown.{Shown}
 use Rattle.showing.specs.declared.found.Shown.TheVariants.{Refused, InJob, InStore}
