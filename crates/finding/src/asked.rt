@@ -1,40 +1,25 @@
 // What is asked of a build, once it is done: ids that there are, and the store that it wrote.
 ghost use Rattle.std.specs.Prelude.{◌≡◌, ◌≤◌, length};
+ghost use Rattle.refusals.specs.Refusals.{number_in};
 ghost use Rattle.finding.specs.Asked.{asked_refusal};
 
 use crate::bytes::same_bytes;
+use refusals::{Refusal, ensure};
 
-// The numbers of the refusals.
-#[derive(Drop)]
-pub struct Asked {}
-
-impl Asked {
-    pub const NO_ID: usize = 62;
-
-    pub const OTHER_STORE: usize = 63;
-}
-
-// Of a build of so many ids and bytes, by its output: the refusal's number, or 0.
+// Refusals 62 and 63, of a build of so many ids and bytes, by its output.
 #[tactic(auto, unfolding(crate::specs::Asked::asked_refusal, said::specs::Refusals::first_failed))]
-pub fn asked_no(
+pub fn check_asked(
     ids: usize,
     bytes: usize,
     first: u32,
     second: u32,
     store: &[u8],
     out: &[u8],
-) -> usize
+) -> Result<(), Refusal>
     requires { bytes ≤ length out.now }
-    ensures { result ≡ asked_refusal ids bytes first second store.now out.now }
+    ensures { number_in result ≡ asked_refusal ids bytes first second store.now out.now }
 {
-    if ids <= first as usize {
-        return Asked::NO_ID;
-    }
-    if ids <= second as usize {
-        return Asked::NO_ID;
-    }
-    if !same_bytes(store, &out[..bytes]) {
-        return Asked::OTHER_STORE;
-    }
-    0
+    ensure((first as usize) < ids, Refusal::NoId)?;
+    ensure((second as usize) < ids, Refusal::NoId)?;
+    ensure(same_bytes(store, &out[..bytes]), Refusal::OtherStore)
 }

@@ -5,6 +5,6 @@ mod asked;
 mod bytes;
 mod place;
 
-pub use crate::asked::{Asked, asked_no};
+pub use crate::asked::check_asked;
 pub use crate::bytes::same_bytes;
 pub use crate::place::first_place;

@@ -30,13 +30,13 @@ use Rattle.reasons.specs.declared.reason.Reason.{Reason}
 use Rattle.reasons.specs.declared.reason.Reason.TheVariants as reason
 use Rattle.looking.specs.Look.{why_from}
 use Rattle.why.specs.Promised.{Looks}
-use Rattle.showing.specs.declared.found.Shown.{Shown}
-use Rattle.showing.specs.declared.found.Shown.TheVariants as part
+use Rattle.showing.specs.Answers.{Shown}
+use Rattle.showing.specs.Answers as part
 use Rattle.showing.specs.Parts.{end_span, row_span, in_job, in_store, asked_part, found_of}
 use Rattle.showing.specs.LentParts.{Fits, Within}
 use Rattle.showing.proofs.FoundLaws.{found_within}
-use Rattle.why_words.specs.declared.explained.Why.{Why}
-use Rattle.why_words.specs.declared.explained.Why.TheVariants as why
+use Rattle.why_words.specs.Answers.{Why}
+use Rattle.why_words.specs.Answers as why
 use Rattle.why_words.specs.Explained.{because, explained, OutFits}
 use Rattle.why_words.specs.WhyWords.{why_number, why_report, why_few, why_at}
 use Rattle.why_words.specs.ShownWords.{shown_number, shown_words, shown_few, shown_at}

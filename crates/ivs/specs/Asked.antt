@@ -8,7 +8,7 @@ use Rattle.packer.specs.Promised.{Obeys}
 use Rattle.looking.specs.Look.{why_from}
 use Rattle.showing.specs.Parts.{found_of}
 use Rattle.reporting.specs.Answers.{filled}
-use Rattle.why_words.specs.declared.explained.Why.{Why}
+use Rattle.why_words.specs.Answers.{Why}
 use Rattle.why_words.specs.Explained.{explained}
 use Rattle.why_words.specs.WhyWords.{why_number, why_report}
 use Rattle.why_words.specs.ShownWords.{shown_number, shown_words}

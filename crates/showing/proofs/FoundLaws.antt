@@ -19,11 +19,11 @@ use Rattle.finding.specs.First.{first_at}
 use Rattle.finding.specs.Asked.{asked_refusal}
 use Rattle.finding.proofs.AskedLaws.{asked-none}
 use Rattle.finishing.specs.declared.answers.Report.{Report}
-use Rattle.finishing.specs.declared.answers.Built.{Built}
-use Rattle.finishing.specs.declared.answers.Built.TheVariants as built
+use Rattle.finishing.specs.Answers.{Built}
+use Rattle.finishing.specs.Answers as built
 use Rattle.showing.specs.declared.ends.Span.{Span}
-use Rattle.showing.specs.declared.found.Shown.{Shown}
-use Rattle.showing.specs.declared.found.Shown.TheVariants.{Refused, InJob, InStore}
+use Rattle.showing.specs.Answers.{Shown}
+use Rattle.showing.specs.Answers.{Refused, InJob, InStore}
 use Rattle.showing.specs.Parts.{no_span, span, end_at, end_span, row_in, row_span, in_job, in_store, asked_part, found_of}
 use Rattle.showing.specs.LentParts.{Fits, Within, EmptyFirst}
 

@@ -1,9 +1,9 @@
 -- What is asked of lent memory where a part is looked for. Assumes nothing.
 use Rattle.std.specs.Prelude.{List, ◌≡◌, ℕ, ◌+◌, ◌≤◌, length}
-use Rattle.finishing.specs.declared.answers.Built.{Built}
-use Rattle.finishing.specs.declared.answers.Built.TheVariants as built
-use Rattle.showing.specs.declared.found.Shown.{Shown}
-use Rattle.showing.specs.declared.found.Shown.TheVariants.{Refused, InJob, InStore}
+use Rattle.finishing.specs.Answers.{Built}
+use Rattle.finishing.specs.Answers as built
+use Rattle.showing.specs.Answers.{Shown}
+use Rattle.showing.specs.Answers.{Refused, InJob, InStore}
 
 -- a done build's bytes and its ids' words are in what it was lent
 abbrev pub Fits : Built → (out map : List ℕ) → Type 0

@@ -8,11 +8,11 @@ use Rattle.said.specs.Records.{record_bytes, record_start, record_at, record_cou
 use Rattle.reader.specs.Store.{region_count, is_header_ok, column_start, item_count, word_at, column_count, is_subtable_ok}
 use Rattle.finding.specs.First.{first_at}
 use Rattle.finding.specs.Asked.{asked_refusal}
-use Rattle.finishing.specs.declared.answers.Built.{Built}
-use Rattle.finishing.specs.declared.answers.Built.TheVariants as built
+use Rattle.finishing.specs.Answers.{Built}
+use Rattle.finishing.specs.Answers as built
 use Rattle.showing.specs.declared.ends.Span.{Span}
-use Rattle.showing.specs.declared.found.Shown.{Shown}
-use Rattle.showing.specs.declared.found.Shown.TheVariants.{Refused, InJob, InStore}
+use Rattle.showing.specs.Answers.{Shown}
+use Rattle.showing.specs.Answers.{Refused, InJob, InStore}
 
 -- ---- parts: where one starts and how long it is. An empty one starts at 0
 

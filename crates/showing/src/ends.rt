@@ -2,13 +2,13 @@
 ghost use Rattle.std.specs.Prelude.{◌≡◌};
 ghost use Rattle.showing.specs.Parts.{end_at, end_span};
 
-use records::{Kind, kind_at, records_in};
+use records::{Kind, is_kind, records_in};
 
 // The bytes of a record.
 const BYTES: usize = 12;
 
 // A part of some bytes: where it starts, and how many there are. An empty one starts at 0.
-#[derive(Clone, Copy)]
+#[derive(Clone, Copy, Debug, PartialEq, Eq)]
 pub struct Span {
     pub at: usize,
     pub long: usize,
@@ -21,7 +21,7 @@ fn end_at(job: &[u8], j: usize) -> usize
     let n = records_in(job.len());
     let mut before: usize = 0;
     for i in 0..n {
-        if kind_at(job, i) == Kind::END {
+        if is_kind(job, i, Kind::End) {
             if before == j {
                 return i;
             }

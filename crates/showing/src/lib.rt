@@ -8,6 +8,6 @@ mod part;
 mod row_parts;
 
 pub use crate::ends::end_part;
-pub use crate::found::{Shown, find};
+pub use crate::found::{Part, find};
 pub use crate::part::shown;
 pub use crate::row_parts::row_part;

@@ -27,7 +27,7 @@ use Rattle.accepted.proofs.PastLaws.{ids-long}
 use Rattle.finding.specs.First.{first_at}
 use Rattle.finding.proofs.FirstLaws.{first-is, first-least}
 use Rattle.showing.specs.declared.ends.Span.{Span}
-use Rattle.showing.specs.declared.found.Shown.{Shown}
+use Rattle.showing.specs.Answers.{Shown}
 use Rattle.showing.specs.Parts.{ends_of, end_at, end_span, in_job, asked_part}
 use Rattle.reporting.specs.Answers.{filled}
 use Rattle.why_words.specs.ShownWords.{span_words, shown_words}

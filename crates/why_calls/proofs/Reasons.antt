@@ -23,7 +23,7 @@ use Rattle.reasons.specs.Why.{home_in, counted, why_of}
 use Rattle.looking.specs.Look.{why_from}
 use Rattle.looking.proofs.LookLaws.{packed-both}
 use Rattle.reporting.specs.Answers.{filled}
-use Rattle.why_words.specs.declared.explained.Why.{Why}
+use Rattle.why_words.specs.Answers.{Why}
 use Rattle.why_words.specs.Explained.{because}
 use Rattle.why_words.specs.WhyWords.{cost_limit, gain_as_word, reason_words, why_report}
 use Rattle.ivs.specs.Asked.{WhyAnswered}

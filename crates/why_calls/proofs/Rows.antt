@@ -46,7 +46,7 @@ use Rattle.finding.specs.First.{first_at}
 use Rattle.reasons.specs.Why.{home_in}
 use Rattle.why_told.specs.WhyTold.{home_of}
 use Rattle.showing.specs.declared.ends.Span.{Span}
-use Rattle.showing.specs.declared.found.Shown.{Shown}
+use Rattle.showing.specs.Answers.{Shown}
 use Rattle.showing.specs.Parts.{no_span, span, row_in, row_span, in_store, asked_part}
 use Rattle.showing.proofs.FoundLaws.{row_within}
 use Rattle.reporting.specs.Answers.{filled}

@@ -25,10 +25,10 @@ use Rattle.accepted.proofs.PastLaws.{count-ids}
 use Rattle.demands.proofs.OutcomeRows.{numbers}
 use Rattle.finding.specs.Asked.{asked_refusal}
 use Rattle.finding.proofs.AskedLaws.{asked-none}
-use Rattle.showing.specs.declared.found.Shown.TheVariants as part
+use Rattle.showing.specs.Answers as part
 use Rattle.showing.specs.Parts.{asked_part, found_of}
 use Rattle.reasons.specs.declared.reason.Reason.{Reason}
-use Rattle.why_words.specs.declared.explained.Why.TheVariants as why
+use Rattle.why_words.specs.Answers as why
 use Rattle.why_words.specs.Explained.{because, explained}
 use Rattle.why_words.specs.WhyWords.{why_number}
 use Rattle.why_words.specs.ShownWords.{shown_number}

@@ -7,8 +7,8 @@ use lib.ListN.{length, take, drop, length-drop}
 use lib.Seq.{length-take-le}
 use Rattle.said.specs.Records.{record_at, record_start}
 use Rattle.said.specs.Refusals.{not_zero, byte_of}
-use Rattle.showing.specs.declared.found.Shown.{Shown}
-use Rattle.showing.specs.declared.found.Shown.TheVariants.{Refused, InJob, InStore}
+use Rattle.showing.specs.Answers.{Shown}
+use Rattle.showing.specs.Answers.{Refused, InJob, InStore}
 use Rattle.showing.specs.Parts.{bytes_shown}
 use Rattle.showing.specs.LentParts.{Within}
 use Rattle.reporting.specs.Answers.{refused_words, filled}

@@ -14,8 +14,8 @@ use Rattle.finishing.specs.declared.answers.Report.{Report}
 use Rattle.finishing.specs.Answers.{Built}
 use Rattle.finishing.specs.Answers as built
 use Rattle.reporting.specs.Answers.{refused_words, filled}
-use Rattle.why_words.specs.declared.explained.Why.{Why}
-use Rattle.why_words.specs.declared.explained.Why.TheVariants.{Refused, Same, CutApart, NeverJoined}
+use Rattle.why_words.specs.Answers.{Why}
+use Rattle.why_words.specs.Answers.{Refused, Same, CutApart, NeverJoined}
 use Rattle.why_words.specs.Explained.{because, explained, OutFits}
 use Rattle.why_words.specs.WhyWords.{why_number, cost_limit, gain_as_word, reason_words, why_report, why_few, why_at}
 

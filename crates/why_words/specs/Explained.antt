@@ -6,8 +6,8 @@ use Rattle.reasons.specs.declared.reason.Reason.{Reason}
 use Rattle.reasons.specs.declared.reason.Reason.TheVariants as reason
 use Rattle.finishing.specs.Answers.{Built}
 use Rattle.finishing.specs.Answers as built
-use Rattle.why_words.specs.declared.explained.Why.{Why}
-use Rattle.why_words.specs.declared.explained.Why.TheVariants.{Refused, Same, CutApart, NeverJoined}
+use Rattle.why_words.specs.Answers.{Why}
+use Rattle.why_words.specs.Answers.{Refused, Same, CutApart, NeverJoined}
 
 unfoldable pub because : Reason → Why
 because reason.None = Refused no_id 0

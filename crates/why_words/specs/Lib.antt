@@ -1,3 +1,4 @@
+pub mod Answers
 pub mod ShownWords
 pub mod Explained
 pub mod WhyWords

@@ -2,8 +2,8 @@
 use Rattle.std.specs.Prelude.{List, [], ◌∷◌, ◌≡◌, ℕ, ◌+◌, ◌≤◌, ◌<◌, length}
 use Rattle.said.specs.Records.{record_at, record_start}
 use Rattle.said.specs.Refusals.{not_zero, byte_of}
-use Rattle.showing.specs.declared.found.Shown.{Shown}
-use Rattle.showing.specs.declared.found.Shown.TheVariants.{Refused, InJob, InStore}
+use Rattle.showing.specs.Answers.{Shown}
+use Rattle.showing.specs.Answers.{Refused, InJob, InStore}
 use Rattle.reporting.specs.Answers.{refused_words}
 
 -- the refusal number, 0 where a part was found

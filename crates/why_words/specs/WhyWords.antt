@@ -3,8 +3,8 @@ use Rattle.std.specs.Prelude.{◌&&◌, List, [], ◌∷◌, ◌≡◌, ℕ, ◌
 use Rattle.laws.specs.Pick.{pick}
 use Rattle.said.specs.Records.{record_at, record_start}
 use Rattle.said.specs.Refusals.{not_zero, byte_of}
-use Rattle.why_words.specs.declared.explained.Why.{Why}
-use Rattle.why_words.specs.declared.explained.Why.TheVariants.{Refused, Same, CutApart, NeverJoined}
+use Rattle.why_words.specs.Answers.{Why}
+use Rattle.why_words.specs.Answers.{Refused, Same, CutApart, NeverJoined}
 use Rattle.reporting.specs.Answers.{refused_words}
 
 -- the refusal number, 0 where there is a reason

@@ -5,6 +5,6 @@ mod explained;
 mod shown;
 mod told;
 
-pub use crate::explained::{Why, explain};
+pub use crate::explained::{Explained, explain};
 pub use crate::shown::tell_shown;
 pub use crate::told::tell_why;

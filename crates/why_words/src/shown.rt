@@ -1,55 +1,44 @@
 // The part that shows an id, told in a report.
 ghost use Rattle.std.specs.Prelude.{◌≡◌};
 ghost use Rattle.reporting.specs.Answers.{filled};
+ghost use Rattle.showing.specs.Answers.{shown_of};
 ghost use Rattle.showing.specs.LentParts.{Within};
-ghost use Rattle.why_words.specs.ShownWords.{span_words, shown_number, shown_words, shown_few, shown_at};
+ghost use Rattle.why_words.specs.ShownWords.{span_words, shown_number, shown_words, shown_at};
 
+use refusals::Refused;
 use reporting::tell_refused;
-use showing::Shown;
+use showing::{Part, shown};
 
 // Where a part starts, and how long it is.
-pub fn tell_span(report: &mut [u64; 16], at: u64, long: u64)
-    ensures { report.new ≡ filled 0 (span_words at long) report.old }
+#[tactic(auto, unfolding(crate::specs::ShownWords::span_words))]
+fn span_words(at: usize, long: usize) -> [u64; 16]
+    ensures { result ≡ span_words at long }
 {
-    report[0] = 0;
-    report[1] = 0;
-    report[2] = at;
-    report[3] = long;
-    report[4] = 0;
-    report[5] = 0;
-    report[6] = 0;
-    report[7] = 0;
-    report[8] = 0;
-    report[9] = 0;
-    report[10] = 0;
-    report[11] = 0;
-    report[12] = 0;
-    report[13] = 0;
-    report[14] = 0;
-    report[15] = 0;
+    let (at, long) = (at as u64, long as u64);
+    [0, 0, at, long, 0, 0, 0, 0, 0, 0, 0, 0, 0, 0, 0, 0]
 }
 
 // Fills the report; the refusal number, 0 where a part was found. The part's own length is told.
-pub fn tell_shown<'a>(report: &mut [u64; 16], job: &'a [u8], store: &'a [u8], s: Shown) -> u32
-    requires { shown_few s × shown_at job.now s × Within job.now store.now s }
-    ensures value { result ≡ shown_number s }
-    ensures report_after { report.new ≡ filled 0 (shown_words job.now s) report.old }
+pub fn tell_shown<'a>(
+    report: &mut [u64; 16],
+    job: &'a [u8],
+    store: &'a [u8],
+    answer: Result<Part, Refused>,
+) -> u32
+    requires { shown_at job.now (shown_of answer) × Within job.now store.now (shown_of answer) }
+    ensures value { result ≡ shown_number (shown_of answer) }
+    ensures report_after { report.new ≡ filled 0 (shown_words job.now (shown_of answer)) report.old }
 {
-    let part = showing::shown(job, store, s);
-    let long = part.len() as u64;
-    match s {
-        Shown::Refused(no, at) => {
-            let byte = records::byte_at(job, no, at);
-            tell_refused(report, no, at, byte);
-            no as u32
-        }
-        Shown::InJob(at, _) => {
-            tell_span(report, at as u64, long);
+    let long = shown(job, store, answer).len();
+    match answer {
+        Ok(Part::InJob(at, _)) => {
+            *report = span_words(at, long);
             0
         }
-        Shown::InStore(at, _) => {
-            tell_span(report, at as u64, long);
+        Ok(Part::InStore(at, _)) => {
+            *report = span_words(at, long);
             0
         }
+        Err(refused) => tell_refused(report, job, refused),
     }
 }
