@@ -1,60 +1,31 @@
 -- Why two ids are where they are, taken apart into numbers. Assumes nothing.
-use mathlib.Core.Path.{◌≡◌, refl, subst, ap, ◌∙◌}
+use mathlib.Core.Path.{◌≡◌, refl, sym, subst, ap, ◌∙◌}
 use mathlib.Core.List.{List, [], ◌∷◌}
 use Prim.Native.Nat.{ℕ, ◌+◌, ◌-◌, ◌≤◌, ◌<◌}
 use native.Mathlib.Omega.{arith}
 use lib.ListN.{length}
-use borrow.Author.Tests.{eq-eqb, ne_eqb, lt-ltb, le-ltb}
-use Rattle.said.specs.Records.{record_at, record_start}
-use Rattle.said.specs.Refusals.{not_zero, byte_of}
-use Rattle.finding.specs.Asked.{no_id, asked_refusal}
-use Rattle.reasons.specs.declared.reason.Reason.{Reason}
-use Rattle.reasons.specs.declared.reason.Reason.TheVariants as reason
+use borrow.Author.Tests.{lt-ltb, le-ltb}
 use Rattle.finishing.specs.declared.answers.Report.{Report}
 use Rattle.finishing.specs.Answers.{Built}
 use Rattle.finishing.specs.Answers as built
-use Rattle.reporting.specs.Answers.{refused_words, filled}
+use Rattle.std.specs.Prelude.{Result, Ok, Err}
+use Rattle.refusals.specs.declared.Refused as refusals
+use Rattle.refusals.specs.Refusals.{number}
+use Rattle.why_words.specs.declared.explained.Explained.{Explained}
+use Rattle.why_words.specs.declared.explained.Explained.TheVariants as explained
+use Rattle.why_words.specs.Answers.{reason_of, why_of}
+use Rattle.reporting.specs.Answers.{refused_words, filled, words_of}
+use Rattle.reporting.proofs.ReportLaws.{filled-all}
 use Rattle.why_words.specs.Answers.{Why}
 use Rattle.why_words.specs.Answers.{Refused, Same, CutApart, NeverJoined}
-use Rattle.why_words.specs.Explained.{because, explained, OutFits}
-use Rattle.why_words.specs.WhyWords.{why_number, cost_limit, gain_as_word, reason_words, why_report, why_few, why_at}
+use Rattle.why_words.specs.Explained.{OutFits}
+use Rattle.why_words.specs.WhyWords.{why_number, cost_limit, gain_as_word, reason_words, why_report}
 
--- ---- the answer
+-- ---- what is asked
 
-module _ (r : Reason) where
-  pub because-none : r ≡ reason.None → Refused no_id 0 ≡ because r
-  unfolding because
-  because-none e = rw e refl
-
-  pub because-same : r ≡ reason.Same → Same ≡ because r
-  unfolding because
-  because-same e = rw e refl
-
-  pub because-cut : r ≡ reason.CutApart → CutApart ≡ because r
-  unfolding because
-  because-cut e = rw e refl
-
-  pub because-apart : (a b j : ℕ) → r ≡ reason.NeverJoined a b j → NeverJoined a b j ≡ because r
-  unfolding because
-  because-apart a b j e = rw e refl
-
-module _ (b : Built) (r : Reason) (store out : List ℕ) (x y : ℕ) where
-  pub explained-refused : (n at : ℕ) → b ≡ built.Refused n at → Refused n at ≡ explained b r store out x y
-  unfolding explained
-  explained-refused n at e = rw e refl
-
-  module _ (d : Report) (e : b ≡ built.Done d) where
-    pub bytes_fit : OutFits b out → d.bytes ≤ length out
-    bytes_fit h = subst (λ (q : Built). OutFits q out) e h
-
-    module _ (n : ℕ) (a : n ≡ asked_refusal d.ids d.bytes x y store out) where
-      pub explained-asked : (n ≡ 0 → ⊥) → Refused n 0 ≡ explained b r store out x y
-      unfolding explained
-      explained-asked h = rw (e, ← a, ne_eqb n 0 h) refl
-
-      pub explained-why : n ≡ 0 → (w : Why) → w ≡ because r → w ≡ explained b r store out x y
-      unfolding explained
-      explained-why z w f = rw (e, ← a, eq-eqb n 0 z) f
+module _ (b : Built) (out : List ℕ) where
+  pub bytes_fit : (d : Report) → b ≡ built.Done d → OutFits b out → d.bytes ≤ length out
+  bytes_fit d e h = subst (λ (q : Built). OutFits q out) e h
 
 -- ---- the gain
 
@@ -79,29 +50,45 @@ module _ (a b j : ℕ) where
 
 -- ---- as numbers
 
-module _ (job w old : List ℕ) (y : Why) where
-  pub byte-there : (n at : ℕ) → y ≡ Refused n at → why_at job y → n ≡ not_zero → record_start (at + 1) ≤ length job
-  byte-there n at e h = subst (why_at job) e h
+sixteen-long : (job : List ℕ) (y : Why) → length (why_report job y) ≡ 16
+unfolding why_report refused_words reason_words
+sixteen-long job (Refused n at) = refl
+sixteen-long job Same = refl
+sixteen-long job CutApart = refl
+sixteen-long job (NeverJoined a b j) = refl
 
-  pub number-few : (n at : ℕ) → y ≡ Refused n at → why_few y → n < 4294967296
-  number-few n at e h = subst why_few e h
+-- of a reason the job's bytes say nothing more
+any-job : (job : List ℕ) (r : Explained) → why_report [] (reason_of r) ≡ why_report job (reason_of r)
+unfolding why_report
+any-job job explained.Same = refl
+any-job job explained.CutApart = refl
+any-job job (explained.NeverJoined a b j) = refl
 
-  pub told-refused : (n at byte : ℕ) → y ≡ Refused n at → byte ≡ byte_of n (record_at job at) → w ≡ filled 0 (refused_words n at byte) old
-      → (n ≡ why_number y) × (w ≡ filled 0 (why_report job y) old)
-  unfolding why_number why_report
-  told-refused n at byte e f h = rw e (refl, h ∙ ap (λ (k : ℕ). filled 0 (refused_words n at k) old) f)
+no_number : (r : Explained) → 0 ≡ why_number (reason_of r)
+unfolding why_number
+no_number explained.Same = refl
+no_number explained.CutApart = refl
+no_number (explained.NeverJoined a b j) = refl
 
-  pub told_same : y ≡ Same → w ≡ filled 0 (reason_words 1 0 0 0 0) old → (0 ≡ why_number y) × (w ≡ filled 0 (why_report job y) old)
-  unfolding why_number why_report
-  told_same e h = rw e (refl, h)
+module _ (job : List ℕ) (a : Result Explained refusals.Refused) (old : List ℕ) (long : length old ≡ 16) where
+  all : why_report job (why_of a) ≡ filled 0 (why_report job (why_of a)) old
+  all = sym (filled-all (why_report job (why_of a)) old (long ∙ sym (sixteen-long job (why_of a))))
 
-  pub told-cut : y ≡ CutApart → w ≡ filled 0 (reason_words 2 0 0 0 0) old → (0 ≡ why_number y) × (w ≡ filled 0 (why_report job y) old)
-  unfolding why_number why_report
-  told-cut e h = rw e (refl, h)
+  pub told-number : (r : Explained) → a ≡ Ok r → 0 ≡ why_number (why_of a)
+  told-number r e = rw e (no_number r)
 
-  pub told-apart : (a b j g : ℕ) → g ≡ gain_as_word a b j → y ≡ NeverJoined a b j → w ≡ filled 0 (reason_words 3 a b j g) old → (0 ≡ why_number y) × (w ≡ filled 0 (why_report job y) old)
-  unfolding why_number why_report
-  told-apart a b j g i e h = rw e (refl, rw i at h)
+  pub told-reason : (r : Explained) → a ≡ Ok r → why_report [] (reason_of r) ≡ filled 0 (why_report job (why_of a)) old
+  told-reason r e = any-job job r ∙ ap (λ (x : Result Explained refusals.Refused). why_report job (why_of x)) (sym e) ∙ all
+
+  pub refused-number : (x : refusals.Refused) → a ≡ Err x → number x.refusal ≡ why_number (why_of a)
+  unfolding why_number
+  refused-number x e = rw e refl
+
+  pub told-refused : (x : refusals.Refused) → a ≡ Err x → words_of job x ≡ filled 0 (why_report job (why_of a)) old
+  told-refused x e = same x ∙ ap (λ (y : Result Explained refusals.Refused). why_report job (why_of y)) (sym e) ∙ all
+    where
+      same : (x : refusals.Refused) → words_of job x ≡ why_report job (Refused (number x.refusal) x.place)
+      same x = unfold why_report in refl
 
 -- computed: 120 and 96 apart, 230 as one: 14 more
 worked : why_report [] (NeverJoined 120 96 230)

@@ -31,12 +31,11 @@ pub fn tell_shown<'a>(
 {
     let long = shown(job, store, answer).len();
     match answer {
-        Ok(Part::InJob(at, _)) => {
-            *report = span_words(at, long);
-            0
-        }
-        Ok(Part::InStore(at, _)) => {
-            *report = span_words(at, long);
+        Ok(part) => {
+            *report = match part {
+                Part::InJob(at, _) => span_words(at, long),
+                Part::InStore(at, _) => span_words(at, long),
+            };
             0
         }
         Err(refused) => tell_refused(report, job, refused),
