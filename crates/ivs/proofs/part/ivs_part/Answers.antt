@@ -2,18 +2,12 @@ use mathlib.Core.Path.{ap, ◌∙◌}
 use Rattle.parting.specs.Answers.{Parted}
 use Rattle.reporting.specs.Answers.{filled}
 use Rattle.part_words.specs.PartWords.{part_number, part_report}
-use Rattle.ivs.proofs.PartLaws.{part-few, part-within}
+use Rattle.ivs.proofs.PartLaws.{part-within}
 use borrow.Author.Rules.{rules}
 use Rattle.ivs.proofs.part.ivs_part.Goals as goal
 
-pub part-answer-requires : goal.part-answer-requires
-part-answer-requires c = search rules
-
 pub tell_parted-requires : goal.tell_parted-requires
-tell_parted-requires c = let a = c.args in let e = c.part-answer.ensures.value in (part-few a.axes a.job.now _ a.first a.second _ e, part-within a.axes a.job.now _ a.first a.second _ e)
-
-pub shape_of-work : goal.shape_of-work
-shape_of-work c = search rules
+tell_parted-requires c = let a = c.args in let e = c.part-answer.ensures.value in part-within a.axes a.job.now _ a.first a.second _ e
 
 pub returns : goal.returns
 returns c =
