@@ -62,7 +62,9 @@ def show_functions(kit, old, new, short):
     titles = {(f.crate, f.title()) for f in was.values()}
     signatures = {row[0]: row[1:] for row in kit["signatures changed"] if row[0] in was}
     clauses = {row[0]: row[1:] for row in kit["contracts changed"] if row[0] in was}
-    gone = [n for n in kit["functions not found again"] if n.split(" (")[0] in was]
+    lost = [n.split(" (")[0] for n in kit["functions not found again"]]
+    gone = [n for n in lost if n in was]
+    hidden = [n for n in kit["no longer pub"] if n in was]
     fresh = sorted(f"{f.crate} `{f.title()}`" for f in now.values() if (f.crate, f.title()) not in titles)
     changed = sorted(set(signatures) | set(clauses))
     print("\n## Public signatures and clauses\n")
@@ -73,9 +75,10 @@ def show_functions(kit, old, new, short):
             show_clauses(clauses.get(name))
     print_names("gone", [short_name(n) for n in gone])
     print_names("new, or of another crate before", fresh)
+    print_names("gone, private", [short_name(n) for n in lost if n not in was])
     for label in ("ensures all gone", "fewer ensures", "more requires", "no longer pub"):
         print_names(label, [short_name(n) for n in kit[label]])
-    return f"public functions {len(was)} -> {len(now)}: {len(signatures)} signatures and {len(clauses)} contracts changed, {len(gone)} gone, {len(fresh)} new"
+    return f"public functions {len(was)} -> {len(now)}: {len(signatures)} signatures and {len(clauses)} contracts changed, {len(gone)} gone, {len(hidden)} private now, {len(fresh)} new; private ones gone {len(lost) - len(gone)}"
 
 
 def show_signature(pair):

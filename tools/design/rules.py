@@ -11,7 +11,7 @@ POINTS = {
     "3": "loops that count by hand",
     "4": "equality, order, copying, conversion and telling by hand",
     "5": "parameters that travel together, facts that stand again and again",
-    "6": "slices with an offset or a length beside, parallel tables, lists searched by hand",
+    "6": "slices with a place or a length beside, parallel tables, searches by hand",
     "7": "switches on a step, tables of functions",
     "8": "proofs",
 }
