@@ -404,12 +404,3 @@ module _ (n k : ℕ) (old : List ℕ) (room : 3 * n + 1 ≤ length old) where
     where
       kept : (i : ℕ) → i < k → get_or (set old (2 * n) 0) i 0 ≡ get_or old i 0
       kept i h = get_or-set_other old (2 * n) i 0 0 (λ x. omega arith)
-
-  pub grouped-all : (new : List ℕ) (t : ℕ) → Grouped n k (set old (2 * n) 0) new t → Grouped n k old new t
-  grouped-all new t g = record {
-    only = only-trans (only_set ((n, 2 * n + 1) ∷ []) old (2 * n) 0 (λ x. omega (arith, x.0.apart (omega arith)))) g.only;
-    groups = g.groups;
-  }
-
-pub grouped-long : (old : List ℕ) {n k : ℕ} {new : List ℕ} {t : ℕ} → Grouped n k (set old (2 * n) 0) new t → length new ≡ length old
-grouped-long old {n} {k} {new} {t} g = g.only.long ∙ length-set old (2 * n) 0
