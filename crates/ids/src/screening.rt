@@ -17,13 +17,8 @@ fn hash(work: &[u32], index: usize, x: usize) -> usize
 {
     let start = wide(work[index + 2 * x]);
     let end = start + 2 * wide(work[index + 2 * x + 1]);
-    let mut h: usize = 0;
-    let mut i = start;
-    while i < end {
-        h = (h * 31 + wide(work[i])) % 4294967296;
-        i += 1;
-    }
-    h
+    let words = work[start..end].iter();
+    wide(words.fold(0u32, |h, &word| h.wrapping_mul(31).wrapping_add(word)))
 }
 
 // What hash h has beside its slot, which is one of n: as much of it as a word has room for on top of a number up to n.
@@ -81,21 +76,18 @@ fn sift(work: &mut [u32], index: usize, n: usize, at: usize, first: usize, seen:
     ensures { Screened index n at first seen work.old work.new result }
 {
     let mut m = 0;
-    let mut x = 0;
-    while x < n {
+    for x in 0..n {
         let h = hash(work, index, x);
         let k = h % n;
         let y = seen_of(wide(work[seen + k]), n, h);
         if known(work, index, x, y) {
             work[first + x] = (y - 1) as u32;
             work[at + (n - 1 - (x - m))] = x as u32;
-            x += 1;
         } else {
             work[seen + k] = word_of(h, n, x);
             work[first + x] = x as u32;
             work[at + m] = x as u32;
             m += 1;
-            x += 1;
         }
     }
     m
