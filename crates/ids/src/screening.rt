@@ -1,6 +1,6 @@
 // Before sorting: most sets that equal an earlier one are found at once, by a table of the set that was seen last at each slot, which is a part of the
 // hash. One that is missed there is sorted like any other, so that nothing rests on the hash.
-ghost use Rattle.std.specs.Prelude.{◌≡◌, true, ℕ, ◌+◌, ◌-◌, ◌*◌, ◌%◌, ◌≤◌, ◌<◌, length, get_or};
+ghost use Rattle.std.specs.Prelude.{◌≡◌, ℕ, ◌+◌, ◌-◌, ◌*◌, ◌%◌, ◌≤◌, ◌<◌, Some, IfSome, length, get_or};
 ghost use Rattle.laws.specs.declared.Order.TheVariants.{Equal};
 ghost use Rattle.sets.specs.Order.{order};
 ghost use Rattle.sets.specs.Lent.{set_of, Stored, IdsFit};
@@ -39,32 +39,30 @@ fn word_of(h: usize, n: usize, x: usize) -> u32
     (tag_of(h, n) * (n + 1) + (x + 1)) as u32
 }
 
-// The set that a word of the table is about, as its number and one more, where its tag is that of hash h; else 0. Sets whose tags differ are not
-// equal, so that none of them is fetched to be compared. A word that nothing was written to is 0, and so about none.
-fn seen_of(word: usize, n: usize, h: usize) -> usize
+// The set that a word of the table is about, where its tag is that of hash h. Sets whose tags differ are not equal, so that none of them is fetched to be
+// compared. A word that nothing was written to is 0, and so about none.
+fn seen_of(word: usize, n: usize, h: usize) -> Option<usize>
     requires n_nonzero { 0 < n }
     requires n_bound { n < 4294967296 }
-    ensures { 0 < result → result ≡ word % (n + 1) }
+    ensures { IfSome result (λ y. y + 1 ≡ word % (n + 1)) }
 {
     if word / (n + 1) == tag_of(h, n) {
-        return word % (n + 1);
+        return (word % (n + 1)).checked_sub(1);
     }
-    0
+    None
 }
 
-// Whether set x equals the one that was seen: y is its number and one more, or 0 where none was.
-fn known(work: &[u32], index: usize, x: usize, y: usize) -> bool
+// The set that was seen, where set x equals it.
+fn twin_of(work: &[u32], index: usize, x: usize, seen: Option<usize>) -> Option<usize>
     requires stored { Stored work.now index x }
-    requires stored_2 { 0 < y → Stored work.now index (y - 1) }
-    ensures { result ≡ true → (0 < y) × (order (set_of index (y - 1) work.now) (set_of index x work.now) ≡ Equal) }
+    requires stored_2 { IfSome seen (λ y. Stored work.now index y) }
+    ensures { IfSome result (λ y. (seen ≡ Some y) × (order (set_of index y work.now) (set_of index x work.now) ≡ Equal)) }
 {
-    if y == 0 {
-        return false;
-    }
-    match compare(work, index, y - 1, x) {
-        Parting::Equal => true,
-        Parting::Smaller(_, _, _) => false,
-        Parting::Larger(_, _, _) => false,
+    let y = seen?;
+    match compare(work, index, y, x) {
+        Parting::Equal => Some(y),
+        Parting::Smaller(_, _, _) => None,
+        Parting::Larger(_, _, _) => None,
     }
 }
 
@@ -79,9 +77,9 @@ fn sift(work: &mut [u32], index: usize, n: usize, at: usize, first: usize, seen:
     for x in 0..n {
         let h = hash(work, index, x);
         let k = h % n;
-        let y = seen_of(wide(work[seen + k]), n, h);
-        if known(work, index, x, y) {
-            work[first + x] = (y - 1) as u32;
+        let before = seen_of(wide(work[seen + k]), n, h);
+        if let Some(y) = twin_of(work, index, x, before) {
+            work[first + x] = y as u32;
             work[at + (n - 1 - (x - m))] = x as u32;
         } else {
             work[seen + k] = word_of(h, n, x);
