@@ -4,12 +4,17 @@ use mathlib.Core.List.{List, [], ◌∷◌}
 use mathlib.Core.Logic.{⊎_elim}
 use Prim.Native.Nat.{ℕ, ◌+◌, ◌≤◌, ◌<◌}
 use native.Mathlib.Omega.{arith}
-use lib.ListN.{length, get_or, set}
-use lib.Seq.{get_or-set_same, get_or-set_other}
+use lib.ListN.{length, get_or, set, take}
+use lib.Dec.{ltb}
+use lib.Seq.{get_or-set_same, get_or-set_other, get_or-take, length-take-le}
+use borrow.Author.Tests.{ltb-true, ltb-false}
+use mathlib.Core.Bool.{true, false}
+use Rattle.std.proofs.lemmas.List.{get_or_default}
+use Rattle.std.specs.List.Sorted.{IsNonDecreasingBy, IsPartitionPoint}
 use Rattle.laws.specs.LentRange.{Only}
 use Rattle.laws.proofs.Cases.{lt-or-ge, Tri, tri}
 use Rattle.laws.proofs.Cases.Tri.{below, same, above}
-use Rattle.laws.proofs.RangeLaws.{only-refl, only-trans, only_set}
+use Rattle.laws.proofs.RangeLaws.{only-trans, only_set}
 use Rattle.choosing.specs.Lent.{Rising, Within, FoundAt, PlacesPut}
 
 -- equal words stand at one place
@@ -21,52 +26,29 @@ rising-once {k} {w} r a b p q e = go (tri a b)
     go (below c) = absurd (omega (arith, r.up a b c q))
     go (above c) = absurd (omega (arith, r.up b a c p))
 
--- x stands from lo on and before hi
-pub record Halving (k : ℕ) (w : List ℕ) (x lo hi : ℕ) : Type 0 where
-  pub most : hi ≤ k
-  pub place : ℕ
-  pub is : get_or w place 0 ≡ x
-  pub from : lo ≤ place
-  pub to : place < hi
+module _ {k : ℕ} {w : List ℕ} (r : Rising k w) (room : k ≤ length w) where
+  word : (i d : ℕ) → i < k → get_or (take k w) i d ≡ get_or w i 0
+  word i d h = get_or-take k w i d h ∙ get_or_default w i d 0 (omega arith)
 
-module _ {k : ℕ} {w : List ℕ} {x : ℕ} (r : Rising k w) where
-  pub half-start : Within k w x → Halving k w x 0 k
-  half-start h = record { most = omega arith; place = h.0; is = h.2; from = omega arith; to = h.1 }
+  pub in-order : IsNonDecreasingBy (λ y. y) (take k w)
+  in-order i j d p q =
+      let l : j < k = omega (arith, length-take-le k w room) in
+      ⊎_elim
+      (λ (h : i < j). omega (arith, word i d (omega arith), word j d l, r.up i j h l))
+      (λ (h : j ≤ i). let e : i ≡ j = omega arith in rw e (omega arith))
+      (lt-or-ge i j)
 
-  module _ {lo hi : ℕ} (h : Halving k w x lo hi) where
-    pub half_up : (mid : ℕ) → lo < mid → mid < hi → get_or w mid 0 ≤ x → Halving k w x mid hi
-    half_up mid p q e = record {
-      most = h.most;
-      place = h.place;
-      is = h.is;
-      from = ⊎_elim
-          (λ (l : h.place < mid). absurd (omega (arith, r.up h.place mid l (omega (arith, h.most)), h.is)))
-          (λ (l : mid ≤ h.place). l)
-          (lt-or-ge h.place mid);
-      to = h.to;
-    }
-
-    pub half_down : (mid : ℕ) → lo < mid → mid < hi → x < get_or w mid 0 → Halving k w x lo mid
-    half_down mid p q e = record {
-      most = omega (arith, h.most);
-      place = h.place;
-      is = h.is;
-      from = h.from;
-      to = ⊎_elim
-          (λ (l : h.place < mid). l)
-          (λ (l : mid ≤ h.place). absurd (go (tri mid h.place) l))
-          (lt-or-ge h.place mid);
-    }
-      where
-        go : Tri mid h.place → mid ≤ h.place → ⊥
-        go (below c) l = omega (arith, r.up mid h.place c (omega (arith, h.to, h.most)), h.is)
-        go (same c) l = let z : get_or w mid 0 ≡ x = ap (λ (i : ℕ). get_or w i 0) c ∙ h.is in omega arith
-        go (above c) l = omega arith
-
-    pub half-done : hi ≤ lo + 1 → FoundAt k w x lo
-    half-done l =
-        let e : lo ≡ h.place = omega (arith, h.from, h.to) in
-        record { in-range = omega (arith, h.to, h.most); is = ap (λ (i : ℕ). get_or w i 0) e ∙ h.is }
+  -- the first word that is not below x is x
+  pub found : {x i : ℕ} → Within k w x → IsPartitionPoint (λ y. ltb y x ≡ true) (λ y. ltb y x ≡ false) (take k w) i → FoundAt k w x i
+  found {x} {i} a p = go (tri i a.0)
+    where
+      go : Tri i a.0 → FoundAt k w x i
+      go (same e) = rw e (record { in-range = a.1; is = a.2 })
+      go (below l) =
+          let n : i < k = omega (arith, a.1) in
+          let h = ltb-false _ _ (p.1 i 0 (omega arith) (omega (arith, length-take-le k w room))) in
+          absurd (omega (arith, word i 0 n, r.up i a.0 l a.1, a.2))
+      go (above l) = let h = ltb-true _ _ (p.0 a.0 0 (omega arith) l) in absurd (omega (arith, word a.0 0 a.1, a.2))
 
 -- ---- places
 
@@ -77,9 +59,6 @@ pub record PlacesSo (k to : ℕ) (w rows old new : List ℕ) (i : ℕ) : Type 0 
   pub is : (j a : ℕ) → j < i → a < k → get_or w a 0 ≡ get_or rows j 0 → get_or new j 0 ≡ get_or w (to + a) 0
 
 module _ (k to : ℕ) (w rows old : List ℕ) where
-  pub places-start : PlacesSo k to w rows old old 0
-  places-start = record { within = omega arith; only = only-refl ((0, length rows) ∷ []) old; is = λ j a p q e. absurd (omega arith) }
-
   pub places-more : Rising k w → length rows ≤ length old → (new : List ℕ) (i f : ℕ) → PlacesSo k to w rows old new i → i < length rows
       → FoundAt k w (get_or rows i 0) f → PlacesSo k to w rows old (set new i (get_or w (to + f) 0)) (i + 1)
   places-more r room new i f s h e =

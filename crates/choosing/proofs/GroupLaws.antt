@@ -11,8 +11,8 @@ use lib.Seq.{get_or-set_same, get_or-set_other}
 use borrow.Author.Tests.{eqb-true, eqb-false, not-true, not-false}
 use Rattle.laws.specs.LentRange.{Only}
 use Rattle.laws.proofs.Cases.{or_cases, lt-or-ge}
-use Rattle.laws.proofs.RangeLaws.{only-refl, only-trans, only_set}
-use Rattle.choosing.specs.Lent.{Rising, Low, outer, opens, Groups, GroupsIn, Grouped}
+use Rattle.laws.proofs.RangeLaws.{only-trans, only_set}
+use Rattle.choosing.specs.Lent.{Rising, Low, outer, opens, Groups, GroupsIn}
 use Rattle.choosing.proofs.OnceLaws.{or_no}
 
 pub opens-is : (w : List ℕ) (j : ℕ) → opens w j ≡ true → 0 < j → outer (get_or w (j - 1) 0) ≡ outer (get_or w j 0) → ⊥
@@ -285,25 +285,6 @@ pub record Grouping (n k : ℕ) (old new : List ℕ) (j t : ℕ) : Type 0 where
   pub groups : GroupsIn n j new t
 
 module _ (n k : ℕ) (old : List ℕ) (most : k ≤ n) (room : 3 * n + 1 ≤ length old) (r : Rising k old) (low : Low k old) where
-  pub grouping-start : get_or old (2 * n) 0 ≡ 0 → Grouping n k old old 0 0
-  grouping-start e =
-      let z : get_or old (2 * n + 0) 0 ≡ 0 = (let y : 2 * n + 0 ≡ 2 * n = omega arith in rw y e) in
-      record {
-        within = omega arith;
-        only = only-refl ((n, 2 * n + 1) ∷ []) old;
-        groups = record {
-          few = omega arith;
-          first = z;
-          last = z;
-          up = λ g l. absurd (omega arith);
-          same = λ g i l p q. absurd (omega arith);
-          more = λ g l. absurd (omega arith);
-          place = λ g i l p q. absurd (omega arith);
-          low = λ g i l p q. absurd (omega arith);
-          at = λ i l. absurd (omega arith);
-        };
-      }
-
   module _ (new : List ℕ) (j t : ℕ) (s : Grouping n k old new j t) (h : j < k) where
     word : (i : ℕ) → i < n → get_or new i 0 ≡ get_or old i 0
     word i l = s.only.kept i (record { apart = λ x. absurd (omega arith) }, tt)
@@ -385,31 +366,3 @@ module _ (n k : ℕ) (old : List ℕ) (most : k ≤ n) (room : 3 * n + 1 ≤ len
               (λ g l. other p t (j + 1) m (2 * n + g) (λ x. omega arith) (λ x. omega arith))
               (at_place p t (j + 1) m ∙ e ∙ ap (λ (i : ℕ). get_or new i 0 + 1) z) (at-start p t (j + 1) m) d.0 d.1;
         }
-
-  pub grouping-done : (new : List ℕ) (j t : ℕ) → Grouping n k old new j t → k ≤ j → Grouped n k old new t
-  grouping-done new j t s h =
-      let e : j ≡ k = omega (arith, s.within) in
-      record { only = s.only; groups = rw e at s.groups }
-
--- the first start written
-module _ (n k : ℕ) (old : List ℕ) (room : 3 * n + 1 ≤ length old) where
-  pub opened : k ≤ n → Rising k old → Low k old → (k ≤ n) × (3 * n + 1 ≤ length (set old (2 * n) 0)) × Rising k (set old (2 * n) 0) × Low k (set old (2 * n) 0) × (get_or (set old (2 * n) 0) (2 * n) 0 ≡ 0)
-  opened most r low = (
-    most,
-    omega (arith, length-set old (2 * n) 0),
-    record { up = λ i j p q. omega (arith, r.up i j p q, kept i (omega arith), kept j (omega arith)) },
-    record { top = λ i h. omega (arith, low.top i h, kept i h) },
-    get_or-set_same old (2 * n) 0 0 (omega arith),
-  )
-    where
-      kept : (i : ℕ) → i < k → get_or (set old (2 * n) 0) i 0 ≡ get_or old i 0
-      kept i h = get_or-set_other old (2 * n) i 0 0 (λ x. omega arith)
-
-  pub grouped-all : (new : List ℕ) (t : ℕ) → Grouped n k (set old (2 * n) 0) new t → Grouped n k old new t
-  grouped-all new t g = record {
-    only = only-trans (only_set ((n, 2 * n + 1) ∷ []) old (2 * n) 0 (λ x. omega (arith, x.0.apart (omega arith)))) g.only;
-    groups = g.groups;
-  }
-
-pub grouped-long : (old : List ℕ) {n k : ℕ} {new : List ℕ} {t : ℕ} → Grouped n k (set old (2 * n) 0) new t → length new ≡ length old
-grouped-long old {n} {k} {new} {t} g = g.only.long ∙ length-set old (2 * n) 0

@@ -1,5 +1,3 @@
-pub mod MergeLaws
-pub mod HalfLaws
 pub mod OnceLaws
 pub mod GroupLaws
 pub mod FindLaws

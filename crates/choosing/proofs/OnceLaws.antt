@@ -11,7 +11,7 @@ use lib.Seq.{get_or-set_same, get_or-set_other}
 use borrow.Author.Tests.{eqb-true, eqb-false, not-true, not-false}
 use Rattle.laws.specs.LentRange.{Only}
 use Rattle.laws.proofs.Cases.{or_cases, lt-or-ge}
-use Rattle.laws.proofs.RangeLaws.{only-refl, only-trans, only_set}
+use Rattle.laws.proofs.RangeLaws.{only-trans, only_set}
 use Rattle.choosing.specs.Lent.{InOrder, Within, is_new, Once}
 
 pub new_is : (w : List ℕ) (k i : ℕ) → is_new w k i ≡ true → 0 < k → get_or w (k - 1) 0 ≡ get_or w i 0 → ⊥
@@ -44,18 +44,6 @@ pub record Moving (n : ℕ) (old new : List ℕ) (k i : ℕ) : Type 0 where
   pub into : (j : ℕ) → j < i → Within k new (get_or old j 0)
 
 module _ {n : ℕ} {old : List ℕ} where
-  pub once-start : Moving n old old 0 0
-  once-start = record {
-    within = omega arith;
-    fewer = omega arith;
-    only = only-refl ((0, n) ∷ []) old;
-    later = λ j p q. refl;
-    rising = λ a b p q. absurd (omega arith);
-    last = λ p. absurd (omega arith);
-    from = λ a p. absurd (omega arith);
-    into = λ j p. absurd (omega arith);
-  }
-
   module _ (room : n ≤ length old) (o : InOrder n old) {new : List ℕ} {k i : ℕ} (m : Moving n old new k i) (h : i < n) where
     abbrev v : ℕ
     v = get_or new i 0

@@ -2,11 +2,6 @@
 use Rattle.std.specs.Prelude.{◌≡◌, Bool, not, ◌||◌, List, [], ◌∷◌, ℕ, ◌+◌, ◌-◌, ◌*◌, ◌/◌, ◌%◌, ◌≤◌, ◌<◌, length, get_or, eqb}
 use Rattle.laws.specs.LentRange.{Only}
 
--- the list stands at the front, and all else is as it was
-pub record Taken (rows old new : List ℕ) : Type 0 where
-  pub only : Only ((0, length rows) ∷ []) old new
-  pub is : (i : ℕ) → i < length rows → get_or new i 0 ≡ get_or rows i 0
-
 -- the first n words are in order
 pub record InOrder (n : ℕ) (w : List ℕ) : Type 0 where
   pub at_most : (i j : ℕ) → i < j → j < n → get_or w i 0 ≤ get_or w j 0
@@ -22,6 +17,13 @@ pub record Low (k : ℕ) (w : List ℕ) : Type 0 where
 -- x is one of the first k words
 abbrev pub Within : ℕ → List ℕ → ℕ → Type 0
 Within k w x = (a : ℕ) × (a < k) × (get_or w a 0 ≡ x)
+
+-- the list stands at the front, in order, and all else is as it was
+pub record TakenIn (rows old new : List ℕ) : Type 0 where
+  pub only : Only ((0, length rows) ∷ []) old new
+  pub order : InOrder (length rows) new
+  pub from : (a : ℕ) → a < length rows → Within (length rows) rows (get_or new a 0)
+  pub into : (j : ℕ) → j < length rows → Within (length rows) new (get_or rows j 0)
 
 unfoldable pub is_new : List ℕ → ℕ → ℕ → Bool
 is_new w k i = eqb k 0 || not (eqb (get_or w (k - 1) 0) (get_or w i 0))

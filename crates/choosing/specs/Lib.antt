@@ -1,2 +1,1 @@
-pub mod LentHalves
 pub mod Lent

@@ -7,17 +7,7 @@ fn find(work: &[u32], k: usize, x: u32) -> usize
     requires { (k ≤ length work.now) × Rising k work.now × Within k work.now x }
     ensures { FoundAt k work.now x result }
 {
-    let mut lo: usize = 0;
-    let mut hi = k;
-    while lo + 1 < hi {
-        let mid = lo + (hi - lo) / 2;
-        if work[mid] <= x {
-            lo = mid;
-        } else {
-            hi = mid;
-        }
-    }
-    lo
+    work[..k].partition_point(|&y| y < x)
 }
 
 // Each word's new place, which stands `to` words behind it.
@@ -27,10 +17,8 @@ pub fn write_places(work: &[u32], k: usize, to: usize, rows: &[u32], places: &mu
     requires rows_in_bounds { length rows.now ≤ length places.old }
     ensures { PlacesPut k to work.now rows.now places.old places.new }
 {
-    let mut i: usize = 0;
-    while i < rows.len() {
-        let j = find(work, k, rows[i]);
+    for (i, &row) in rows.iter().enumerate() {
+        let j = find(work, k, row);
         places[i] = work[to + j];
-        i += 1;
     }
 }

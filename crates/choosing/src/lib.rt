@@ -6,15 +6,13 @@
 mod finding;
 mod grouping;
 mod once;
-mod sorting;
 
 ghost use Rattle.std.specs.Prelude.{◌+◌, ◌*◌, ◌≤◌, length};
-ghost use Rattle.choosing.specs.Lent.{Taken, Low, ChosenAt};
+ghost use Rattle.choosing.specs.Lent.{TakenIn, Low, ChosenAt};
 
 pub use crate::finding::write_places;
 use crate::grouping::group;
 use crate::once::distinct;
-use crate::sorting::sort;
 
 // How many rows are used, and of how many subtables.
 #[derive(Clone, Copy)]
@@ -23,16 +21,14 @@ pub struct Chosen {
     pub tables: usize,
 }
 
-// The list copied to the front.
+// The list at the front, in order.
 fn take_in(rows: &[u32], work: &mut [u32])
     requires { length rows.now ≤ length work.old }
-    ensures { Taken rows.now work.old work.new }
+    ensures { TakenIn rows.now work.old work.new }
 {
-    let mut i: usize = 0;
-    while i < rows.len() {
-        work[i] = rows[i];
-        i += 1;
-    }
+    let words = &mut work[..rows.len()];
+    words.copy_from_slice(rows);
+    words.sort_unstable();
 }
 
 pub fn choose(rows: &[u32], work: &mut [u32]) -> Chosen
@@ -41,7 +37,6 @@ pub fn choose(rows: &[u32], work: &mut [u32]) -> Chosen
 {
     let n = rows.len();
     take_in(rows, work);
-    sort(work, 0, n, n);
     let k = distinct(work, n);
     let t = group(work, n, k);
     Chosen { rows: k, tables: t }

@@ -78,15 +78,12 @@ fn next(work: &[u32], a: usize, m: usize, b: usize, n: usize) -> Step
 }
 
 // Where m entries from index a on part from n from b on.
-fn along(work: &[u32], a0: usize, m0: usize, b0: usize, n0: usize) -> Parting
-    requires m0_in_bounds { a0 + 2 * m0 ≤ length work.now }
-    requires n0_in_bounds { b0 + 2 * n0 ≤ length work.now }
-    ensures { result ≡ parting (entries a0 m0 work.now) (entries b0 n0 work.now) }
+fn along(work: &[u32], mut a: usize, mut m: usize, mut b: usize, mut n: usize) -> Parting
+    requires m_in_bounds { a + 2 * m ≤ length work.now }
+    requires n_in_bounds { b + 2 * n ≤ length work.now }
+    ensures { result ≡ parting (entries a m work.now) (entries b n work.now) }
 {
-    let mut a = a0;
-    let mut m = m0;
-    let mut b = b0;
-    let mut n = n0;
+    // A step takes an entry of one set or of both, so that no `for` counts the steps.
     while 0 < m + n {
         let s = next(work, a, m, b, n);
         if s.v < s.u {
@@ -95,10 +92,10 @@ fn along(work: &[u32], a0: usize, m0: usize, b0: usize, n0: usize) -> Parting
         if s.u < s.v {
             return Parting::Larger(s.region, s.v, s.u);
         }
-        a = a + 2 * s.da;
-        m = m - s.da;
-        b = b + 2 * s.db;
-        n = n - s.db;
+        a += 2 * s.da;
+        m -= s.da;
+        b += 2 * s.db;
+        n -= s.db;
     }
     Parting::Equal
 }

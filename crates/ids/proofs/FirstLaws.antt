@@ -1,32 +1,26 @@
 -- Of sets sorted stably by number, the one that begins a run of equal ones is the first of them in the job, if all firsts are sorted. Assumes nothing.
-use mathlib.Core.Path.{◌≡◌, refl, sym, ap, ap₂, ◌∙◌}
-use mathlib.Core.Bool.{Bool, true, false, not}
-use mathlib.Core.List.{List, [], ◌∷◌, map}
+use mathlib.Core.Path.{◌≡◌, sym, ap, ◌∙◌}
+use mathlib.Core.Bool.{Bool, true, false}
+use mathlib.Core.List.{List, [], ◌∷◌}
 use mathlib.Core.Logic.{⊎_elim}
-use Prim.Native.Nat.{ℕ, zero, suc, ◌+◌, ◌-◌, ◌*◌, ◌≤◌, ◌<◌}
+use Prim.Native.Nat.{ℕ, zero, suc, ◌-◌, ◌≤◌, ◌<◌}
 use native.Mathlib.Omega.{arith}
 use lib.ListN.{length, get_or}
-use lib.Dec.{eqb}
-use borrow.Author.Tests.{eq-eqb, ne_eqb}
-use Rattle.laws.specs.declared.Order.{Order}
-use Rattle.laws.specs.declared.Order.TheVariants.{Less, Equal, Greater}
-use Rattle.laws.specs.Pick.{pick}
+use Rattle.laws.specs.declared.Order.TheVariants.{Equal}
 use Rattle.laws.specs.Every.{All, EachTwo}
-use Rattle.laws.specs.Bounded.{tabulate, up_to}
+use Rattle.laws.specs.Bounded.{tabulate}
 use Rattle.laws.specs.Bag.{SameBag}
 use Rattle.laws.specs.Order.{is_most}
-use Rattle.laws.specs.LentRange.{seg}
-use Rattle.laws.specs.Sorting.{sorted, Sorts}
+use Rattle.laws.specs.Sorting.{sorted}
 use Rattle.laws.proofs.Cases.{Tri, tri, lt-or-ge}
 use Rattle.laws.proofs.Cases.Tri.{below, same, above}
 use Rattle.laws.proofs.EveryLaws.{all-get_or, two-get_or}
 use Rattle.laws.proofs.BagLaws.{bag-place, bag-length}
 use Rattle.laws.proofs.SortLaws.{sorted-two, sorted_all, sorts}
-use Rattle.sets.specs.Set.{Set, Ascending, Proper}
+use Rattle.sets.specs.Set.{Set}
 use Rattle.sets.specs.Order.{order}
 use Rattle.sets.specs.Ids.{place}
 use Rattle.sets.specs.Lent.{set_of, Held, sets_in, at_most}
-use Rattle.ids.specs.LentFirsts.{is_same, begins_at}
 use Rattle.sets.proofs.SetLaws.{order_trans, order-total, order-both, order-self, order-equal}
 use Rattle.sets.proofs.IdLaws.{place-first, place_here}
 use Rattle.sets.proofs.HeldLaws.{sets-length, sets-at}

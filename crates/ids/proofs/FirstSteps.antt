@@ -1,33 +1,30 @@
 -- The loops that count up, find firsts and give ids: their invariants and steps. Assumes nothing.
 use mathlib.Core.Path.{◌≡◌, refl, sym, ap, ap₂, subst, ◌∙◌}
-use mathlib.Core.Bool.{Bool, true, false, not}
+use mathlib.Core.Bool.{true, false, not}
 use mathlib.Core.List.{List, [], ◌∷◌, map}
 use mathlib.Core.Logic.{⊎_elim}
-use Prim.Native.Nat.{ℕ, zero, suc, ◌+◌, ◌-◌, ◌*◌, ◌≤◌, ◌<◌}
+use Prim.Native.Nat.{ℕ, ◌+◌, ◌-◌, ◌≤◌, ◌<◌}
 use native.Mathlib.Omega.{arith}
-use lib.ListN.{length, get_or, take, set, length-set, length-map}
+use lib.ListN.{length, get_or, take, set, length-map}
 use lib.Seq.{ext_get_or, get_or-set_same, get_or-set_other}
-use lib.Dec.{eqb}
 use borrow.Author.Tests.{eq-eqb, ne_eqb}
 use borrow.Author.Count.{below_more}
 use Rattle.laws.specs.declared.Order.{Order}
 use Rattle.laws.specs.declared.Order.TheVariants.{Less, Equal, Greater}
-use Rattle.laws.specs.Pick.{pick}
-use Rattle.laws.specs.Bounded.{tabulate, up_to}
-use Rattle.laws.specs.LentRange.{Apart, Outside, Only, seg}
+use Rattle.laws.specs.Bounded.{up_to}
+use Rattle.laws.specs.LentRange.{Apart, Only, seg}
 use Rattle.laws.specs.Sorting.{sorted}
-use Rattle.laws.proofs.Cases.{same_or_not, lt-or-ge, Which, which}
-use Rattle.laws.proofs.Cases.Which.{holds, fails}
+use Rattle.laws.proofs.Cases.{same_or_not, lt-or-ge}
 use Rattle.laws.proofs.ListLaws.{get_or-map-in}
 use Rattle.laws.proofs.UpLaws.{up-long, up_at}
 use Rattle.laws.proofs.RangeLaws.{outside-at, only-refl, only-trans, only_set, length-seg, get_or-seg}
 use Rattle.sets.specs.Set.{Set}
 use Rattle.sets.specs.Order.{order}
 use Rattle.sets.specs.Ids.{place, distinct_from, distinct}
-use Rattle.sets.specs.Lent.{set_of, Stored, Held, sets_in, at_most, CountedUp}
+use Rattle.sets.specs.Lent.{set_of, Stored, sets_in, at_most, CountedUp}
 use Rattle.ids.specs.LentFirsts.{is_same, begins_at, FirstsFit, Firsting, BlockFit, FirstsAt, Resolved, GivesIds}
 use Rattle.sets.proofs.IdLaws.{ids-place, first-id, first_count, again-count, again-same, distinct-all-of}
-use Rattle.sets.proofs.HeldLaws.{Kept, kept-only, set_same, held_kept, held-stored, sets-length, sets-at}
+use Rattle.sets.proofs.HeldLaws.{Kept, kept-only, set_same, held_kept, held-stored}
 use Rattle.ids.proofs.FirstLaws.{line_at, order_same, begins-first}
 
 -- ---- counting up
@@ -38,18 +35,6 @@ pub record Counting (at n : ℕ) (old new : List ℕ) (i : ℕ) : Type 0 where
   pub done : (k : ℕ) → k < i → get_or new (at + k) 0 ≡ k
 
 module _ (at n : ℕ) (old : List ℕ) (room : at + n ≤ length old) where
-  pub count-start : Counting at n old old 0
-  count-start = record { within = omega arith; only = only-refl ((at, n) ∷ []) old; done = λ k h. absurd (omega arith) }
-
-  pub count-more : (new : List ℕ) (i : ℕ) → Counting at n old new i → i < n → Counting at n old (set new (at + i) i) (i + 1)
-  count-more new i c h = record {
-    within = omega arith;
-    only = only-trans c.only (only_set ((at, n) ∷ []) new (at + i) i (λ o. omega (arith, o.0.apart (omega arith))));
-    done = below_more _ _
-        (λ k l. get_or-set_other new (at + i) (at + k) i 0 (omega arith) ∙ c.done k l)
-        (get_or-set_same new (at + i) i 0 (omega (arith, c.only.long)));
-  }
-
   pub count-done : (new : List ℕ) (i : ℕ) → Counting at n old new i → n ≤ i → CountedUp at n old new
   count-done new i c h = record {
     only = c.only;
@@ -184,13 +169,7 @@ pub record Resolving (first n : ℕ) (old new : List ℕ) (x : ℕ) : Type 0 whe
   pub each : (F : ℕ → ℕ) → ((k : ℕ) → k < n → (F (get_or old (first + k) 0) ≡ F k) × (get_or old (first + k) 0 ≡ k → F k ≡ k)) → (k : ℕ) → k < x → get_or new (first + k) 0 ≡ F k
 
 module _ (first n : ℕ) (old : List ℕ) (room : first + n ≤ length old) (most : (x : ℕ) → x < n → get_or old (first + x) 0 ≤ x) where
-  pub resolve-start : Resolving first n old old 0
-  resolve-start = record { within = omega arith; only = only-refl ((first, n) ∷ []) old; same = λ k l h. refl; each = λ F f k h. absurd (omega arith) }
-
   module _ {new : List ℕ} {x : ℕ} (s : Resolving first n old new x) (h : x < n) where
-    pub named : get_or new (first + x) 0 ≤ x
-    named = rw (s.same x (omega arith) h) (most x h)
-
     -- what stands at the number that stands at x
     next-is : (F : ℕ → ℕ) → ((k : ℕ) → k < n → (F (get_or old (first + k) 0) ≡ F k) × (get_or old (first + k) 0 ≡ k → F k ≡ k))
         → (y : ℕ) → y ≡ get_or old (first + x) 0 → y ≤ x → get_or new (first + y) 0 ≡ F x

@@ -1,16 +1,16 @@
 -- Screening, set by set: what is to be sorted stands in front and in order, what is not has an earlier equal set. Assumes nothing.
 use mathlib.Core.Path.{◌≡◌, refl, sym, ap, ◌∙◌}
 use mathlib.Core.Bool.{Bool, true, false}
+use Rattle.std.specs.Prelude.{Option, None, Some, IfSome}
 use mathlib.Core.List.{List, [], ◌∷◌, ◌++◌, append-nil}
 use mathlib.Core.Logic.{⊎_elim}
-use Prim.Native.Nat.{ℕ, zero, suc, ◌+◌, ◌-◌, ◌*◌, ◌/◌, ◌%◌, ◌≤◌, ◌<◌}
+use Prim.Native.Nat.{ℕ, ◌+◌, ◌-◌, ◌%◌, ◌≤◌, ◌<◌}
 use native.Mathlib.Omega.{arith}
-use native.Mathlib.Nat.{zero-mod, zero-mul, add-mul, mod-lt, mod-eq_of_lt, mul-le-mul_right, div-mul-le_self, lt-div-mul-add, mul-add-mod_self_right}
+use native.Mathlib.Nat.{zero-mod}
 use lib.ListN.{length, get_or, set, length-set}
 use lib.Seq.{get_or-set_same, get_or-set_other}
 use lib.Dec.{eqb}
 use borrow.Author.Tests.{eq-eqb, ne_eqb}
-use borrow.Author.Count.{below_more}
 use Rattle.laws.specs.declared.Order.TheVariants.{Equal}
 use Rattle.laws.specs.Bounded.{tabulate, up_to}
 use Rattle.laws.specs.LentRange.{Only, seg, Zeroed}
@@ -27,28 +27,6 @@ use Rattle.sets.proofs.HeldLaws.{Kept, kept-only, set_same, held_kept, held-stor
 use Rattle.buckets.specs.LentBuckets.{is_kept}
 use Rattle.ids.specs.LentScreened.{Screened}
 use Rattle.ids.proofs.FirstLaws.{order_same}
-
--- ---- a word of the table: a number up to n, and a tag
-
--- n is a word, so there is at least one tag
-pub tags-some : (n : ℕ) → n < 4294967296 → 0 < 4294967296 / (n + 1)
-tags-some n few = some (4294967296 / (n + 1)) (lt-div-mul-add {a = 4294967296} {b = n + 1} (omega arith))
-  where
-    some : (q : ℕ) → 4294967296 < q * (n + 1) + (n + 1) → 0 < q
-    some zero h = absurd (omega (arith, zero-mul (n + 1)))
-    some (suc q) h = omega arith
-
--- a tag, and a number up to n behind it, have room in a word
-pub tag-room : (h n : ℕ) → n < 4294967296 → h % (4294967296 / (n + 1)) * (n + 1) + n < 4294967296
-tag-room h n few =
-    let t = h % (4294967296 / (n + 1)) in
-    let less : t < 4294967296 / (n + 1) = mod-lt h (tags-some n few) in
-    let most : (t + 1) * (n + 1) ≤ 4294967296 / (n + 1) * (n + 1) = mul-le-mul_right (n + 1) (omega arith) in
-    omega (arith, most, add-mul t 1 (n + 1), div-mul-le_self 4294967296 (n + 1))
-
--- the number is what the word has beside its tag
-pub word_number : (t n x : ℕ) → x < n → (t * (n + 1) + (x + 1)) % (n + 1) ≡ x + 1
-word_number t n x h = mul-add-mod_self_right t (n + 1) (x + 1) ∙ mod-eq_of_lt (omega arith)
 
 -- ---- keeping what is marked, one more
 
@@ -70,6 +48,10 @@ keep_one first w n = ap (keep (is_kept first w)) (up-snoc n) ∙ keep_append (is
 keep-nothing : (f : ℕ → Bool) → keep f [] ≡ []
 unfolding keep
 keep-nothing f = refl
+
+-- what was seen is what a twin is
+pub twin-seen : (v n y : ℕ) (o : Option ℕ) → o ≡ Some y → IfSome o (λ z. z + 1 ≡ v % (n + 1)) → y + 1 ≡ v % (n + 1)
+twin-seen v n y o e h = rw e at h
 
 -- ---- the loop
 
@@ -105,13 +87,14 @@ module _ {old : List ℕ} {index n at first seen : ℕ} (r : IdsFit old index n 
     long : length new ≡ length old
     long = s.only.long
 
-    -- y is the number, and one more, of the set that was seen at slot h, or 0: so it is of one before x
-    pub seen_low : (h : ℕ) → h < n → (v y : ℕ) → v ≡ get_or new (seen + h) 0 → (0 < y → y ≡ v % (n + 1)) → 0 < y → y ≤ x
-    seen_low h l v y v-is y-is p = omega (arith, y-is p ∙ ap (λ (z : ℕ). z % (n + 1)) v-is, s.seen_few h l)
+    -- the set that was seen at slot h is one before x
+    pub seen_low : (h : ℕ) → h < n → (v y : ℕ) → v ≡ get_or new (seen + h) 0 → y + 1 ≡ v % (n + 1) → y < x
+    seen_low h l v y v-is y-is = omega (arith, y-is ∙ ap (λ (z : ℕ). z % (n + 1)) v-is, s.seen_few h l)
 
-    -- the set that was seen is stored
-    pub seen_stored : (h : ℕ) → h < n → x < n → (v y : ℕ) → v ≡ get_or new (seen + h) 0 → (0 < y → y ≡ v % (n + 1)) → 0 < y → Stored new index (y - 1)
-    seen_stored h l b v y v-is y-is p = stored (y - 1) (omega (arith, seen_low h l v y v-is y-is p))
+    -- it is stored
+    pub seen_stored : (h : ℕ) → h < n → x < n → (v : ℕ) → v ≡ get_or new (seen + h) 0 → (o : Option ℕ) → IfSome o (λ y. y + 1 ≡ v % (n + 1)) → IfSome o (λ y. Stored new index y)
+    seen_stored h l b v v-is None e = tt
+    seen_stored h l b v v-is (Some y) e = stored y (omega (arith, seen_low h l v y v-is e))
 
     module _ (h : x < n) (k : ℕ) (lk : k < n) where
       pub screen-new : (z : ℕ) → z % (n + 1) ≡ x + 1 → Screening index n at first seen old (set (set (set new (seen + k) z) (first + x) x) (at + m) x) (x + 1) (m + 1)
@@ -160,32 +143,32 @@ module _ {old : List ℕ} {index n at first seen : ℕ} (r : IdsFit old index n 
                 (same_or_not j k);
           }
 
-      pub screen-twin : (v y : ℕ) → v ≡ get_or new (seen + k) 0 → (0 < y → y ≡ v % (n + 1)) → 0 < y → order (set_of index (y - 1) new) (set_of index x new) ≡ Equal
-          → Screening index n at first seen old (set (set new (first + x) (y - 1)) (at + (n - 1 - (x - m))) x) (x + 1) m
-      screen-twin v y v-is y-is some eq =
+      pub screen-twin : (v y : ℕ) → v ≡ get_or new (seen + k) 0 → y + 1 ≡ v % (n + 1) → order (set_of index y new) (set_of index x new) ≡ Equal
+          → Screening index n at first seen old (set (set new (first + x) y) (at + (n - 1 - (x - m))) x) (x + 1) m
+      screen-twin v y v-is y-is eq =
           let a = r.at-to in
           let b = r.first_to in
           let c = r.room in
           let f = s.few in
           let l = s.only.long in
-          let low : y ≤ x = seen_low k lk v y v-is y-is some in
+          let low : y < x = seen_low k lk v y v-is y-is in
           let p = at + (n - 1 - (x - m)) in
-          let u = set new (first + x) (y - 1) in
+          let u = set new (first + x) y in
           let w = set u p x in
-          let lu : length u ≡ length new = length-set new (first + x) (y - 1) in
+          let lu : length u ≡ length new = length-set new (first + x) y in
           let lw : length w ≡ length u = length-set u p x in
           let other : (i : ℕ) → (i ≡ first + x → ⊥) → (i ≡ at + (n - 1 - (x - m)) → ⊥) → get_or w i 0 ≡ get_or new i 0 = λ i q t.
-          get_or-set_other u p i x 0 t ∙ get_or-set_other new (first + x) i (y - 1) 0 q in
+          get_or-set_other u p i x 0 t ∙ get_or-set_other new (first + x) i y 0 q in
           let at-is : get_or w p 0 ≡ x = get_or-set_same u p x 0 (omega arith) in
-          let first-is : get_or w (first + x) 0 ≡ y - 1 = get_or-set_other u p (first + x) x 0 (omega arith) ∙ get_or-set_same new (first + x) (y - 1) 0 (omega arith) in
+          let first-is : get_or w (first + x) 0 ≡ y = get_or-set_other u p (first + x) x 0 (omega arith) ∙ get_or-set_same new (first + x) y 0 (omega arith) in
           let firsts : (j : ℕ) → j < x → get_or w (first + j) 0 ≡ get_or new (first + j) 0 = λ j q. other (first + j) (omega arith) (omega arith) in
-          let same : set_of index (y - 1) old ≡ set_of index x old =
-          sym (set_same r.held kept (y - 1) (omega arith)) ∙ order_same (held_kept r.held kept) (y - 1) x (omega arith) h eq ∙ set_same r.held kept x h in
+          let same : set_of index y old ≡ set_of index x old =
+          sym (set_same r.held kept y (omega arith)) ∙ order_same (held_kept r.held kept) y x (omega arith) h eq ∙ set_same r.held kept x h in
           record {
             within = omega arith;
             few = omega arith;
             only = only-trans s.only
-                (only-trans (only_set ((at, n) ∷ (first, n) ∷ (seen, n) ∷ []) new (first + x) (y - 1) (λ o. omega (arith, o.1.0.apart (omega arith))))
+                (only-trans (only_set ((at, n) ∷ (first, n) ∷ (seen, n) ∷ []) new (first + x) y (λ o. omega (arith, o.1.0.apart (omega arith))))
                 (only_set ((at, n) ∷ (first, n) ∷ (seen, n) ∷ []) u p x (λ o. omega (arith, o.0.apart (omega arith)))));
             line =
                 seg-ext at at m w new (omega arith) (omega arith) (λ q t. other (at + q) (omega arith) (omega arith)) ∙ s.line ∙ sym (kept_same first new w x firsts)

@@ -27,16 +27,11 @@ pub fn block_end(work: &[u32], index: usize, at: usize, i: usize, n: usize) -> u
     requires i_lt_n { i < n }
     ensures { (i < result) × (result ≤ n) }
 {
-    let mut j = i;
-    while j < n {
-        let x = wide(work[at + j]);
-        j += 1;
-        if odd(work, index, x) {
-            return j;
-        }
-        if BLOCK <= j - i {
-            return j;
+    let end = n.min(i + BLOCK);
+    for j in i..end {
+        if odd(work, index, wide(work[at + j])) {
+            return j + 1;
         }
     }
-    j
+    end
 }

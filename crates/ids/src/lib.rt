@@ -23,10 +23,8 @@ pub fn own_ids(work: &mut [u32], at: usize, n: usize)
     requires n_bound { n ≤ 4294967296 }
     ensures { CountedUp at n work.old work.new }
 {
-    let mut i = 0;
-    while i < n {
+    for i in 0..n {
         work[at + i] = i as u32;
-        i += 1;
     }
 }
 
@@ -54,16 +52,13 @@ fn firsts_block(work: &mut [u32], index: usize, at: usize, first: usize, from: u
     requires { BlockFit work.old index at first from to }
     ensures { (f : BlockFit work.old index at first from to) → Firsting index at f.n first f.fit.all f.old work.new to }
 {
-    let mut i = from;
-    while i < to {
+    for i in from..to {
         let x = wide(work[at + i]);
         if begins(work, index, at, i) {
             work[first + x] = work[at + i];
-            i += 1;
         } else {
             let y = wide(work[at + (i - 1)]);
             work[first + x] = work[first + y];
-            i += 1;
         }
     }
 }
@@ -74,6 +69,7 @@ fn firsts(work: &mut [u32], index: usize, at: usize, n: usize, first: usize)
     ensures { (f : FirstsFit work.old index at n first) → FirstsAt index at n first f.all work.old work.new }
 {
     let mut i = 0;
+    // A block is of any length, so that no `for` finds the next one.
     while i < n {
         let j = block_end(work, index, at, i, n);
         firsts_block(work, index, at, first, i, j);
@@ -87,11 +83,9 @@ fn resolve(work: &mut [u32], first: usize, n: usize)
     requires by_index { (x : ℕ) → x < n → get_or work.old (first + x) 0 ≤ x }
     ensures { Resolved first n work.old work.new }
 {
-    let mut x = 0;
-    while x < n {
+    for x in 0..n {
         let y = wide(work[first + x]);
         work[first + x] = work[first + y];
-        x += 1;
     }
 }
 
@@ -104,16 +98,13 @@ fn give_ids(work: &mut [u32], first: usize, ids: usize, n: usize) -> usize
     ensures { (sets : List Set) → GivesIds first ids n sets work.old work.new result }
 {
     let mut next = 0;
-    let mut k = 0;
-    while k < n {
+    for k in 0..n {
         let f = wide(work[first + k]);
         if f == k {
             work[ids + k] = next as u32;
             next += 1;
-            k += 1;
         } else {
             work[ids + k] = work[ids + f];
-            k += 1;
         }
     }
     next

@@ -1,6 +1,6 @@
 // Before sorting: most sets that equal an earlier one are found at once, by a table of the set that was seen last at each slot, which is a part of the
 // hash. One that is missed there is sorted like any other, so that nothing rests on the hash.
-ghost use Rattle.std.specs.Prelude.{◌≡◌, true, ℕ, ◌+◌, ◌-◌, ◌*◌, ◌%◌, ◌≤◌, ◌<◌, length, get_or};
+ghost use Rattle.std.specs.Prelude.{◌≡◌, ℕ, ◌+◌, ◌-◌, ◌*◌, ◌%◌, ◌≤◌, ◌<◌, Some, IfSome, length, get_or};
 ghost use Rattle.laws.specs.declared.Order.TheVariants.{Equal};
 ghost use Rattle.sets.specs.Order.{order};
 ghost use Rattle.sets.specs.Lent.{set_of, Stored, IdsFit};
@@ -17,13 +17,8 @@ fn hash(work: &[u32], index: usize, x: usize) -> usize
 {
     let start = wide(work[index + 2 * x]);
     let end = start + 2 * wide(work[index + 2 * x + 1]);
-    let mut h: usize = 0;
-    let mut i = start;
-    while i < end {
-        h = (h * 31 + wide(work[i])) % 4294967296;
-        i += 1;
-    }
-    h
+    let words = work[start..end].iter();
+    wide(words.fold(0u32, |h, &word| h.wrapping_mul(31).wrapping_add(word)))
 }
 
 // What hash h has beside its slot, which is one of n: as much of it as a word has room for on top of a number up to n.
@@ -44,32 +39,30 @@ fn word_of(h: usize, n: usize, x: usize) -> u32
     (tag_of(h, n) * (n + 1) + (x + 1)) as u32
 }
 
-// The set that a word of the table is about, as its number and one more, where its tag is that of hash h; else 0. Sets whose tags differ are not
-// equal, so that none of them is fetched to be compared. A word that nothing was written to is 0, and so about none.
-fn seen_of(word: usize, n: usize, h: usize) -> usize
+// The set that a word of the table is about, where its tag is that of hash h. Sets whose tags differ are not equal, so that none of them is fetched to be
+// compared. A word that nothing was written to is 0, and so about none.
+fn seen_of(word: usize, n: usize, h: usize) -> Option<usize>
     requires n_nonzero { 0 < n }
     requires n_bound { n < 4294967296 }
-    ensures { 0 < result → result ≡ word % (n + 1) }
+    ensures { IfSome result (λ y. y + 1 ≡ word % (n + 1)) }
 {
     if word / (n + 1) == tag_of(h, n) {
-        return word % (n + 1);
+        return (word % (n + 1)).checked_sub(1);
     }
-    0
+    None
 }
 
-// Whether set x equals the one that was seen: y is its number and one more, or 0 where none was.
-fn known(work: &[u32], index: usize, x: usize, y: usize) -> bool
+// The set that was seen, where set x equals it.
+fn twin_of(work: &[u32], index: usize, x: usize, seen: Option<usize>) -> Option<usize>
     requires stored { Stored work.now index x }
-    requires stored_2 { 0 < y → Stored work.now index (y - 1) }
-    ensures { result ≡ true → (0 < y) × (order (set_of index (y - 1) work.now) (set_of index x work.now) ≡ Equal) }
+    requires stored_2 { IfSome seen (λ y. Stored work.now index y) }
+    ensures { IfSome result (λ y. (seen ≡ Some y) × (order (set_of index y work.now) (set_of index x work.now) ≡ Equal)) }
 {
-    if y == 0 {
-        return false;
-    }
-    match compare(work, index, y - 1, x) {
-        Parting::Equal => true,
-        Parting::Smaller(_, _, _) => false,
-        Parting::Larger(_, _, _) => false,
+    let y = seen?;
+    match compare(work, index, y, x) {
+        Parting::Equal => Some(y),
+        Parting::Smaller(_, _, _) => None,
+        Parting::Larger(_, _, _) => None,
     }
 }
 
@@ -81,21 +74,18 @@ fn sift(work: &mut [u32], index: usize, n: usize, at: usize, first: usize, seen:
     ensures { Screened index n at first seen work.old work.new result }
 {
     let mut m = 0;
-    let mut x = 0;
-    while x < n {
+    for x in 0..n {
         let h = hash(work, index, x);
         let k = h % n;
-        let y = seen_of(wide(work[seen + k]), n, h);
-        if known(work, index, x, y) {
-            work[first + x] = (y - 1) as u32;
+        let before = seen_of(wide(work[seen + k]), n, h);
+        if let Some(y) = twin_of(work, index, x, before) {
+            work[first + x] = y as u32;
             work[at + (n - 1 - (x - m))] = x as u32;
-            x += 1;
         } else {
             work[seen + k] = word_of(h, n, x);
             work[first + x] = x as u32;
             work[at + m] = x as u32;
             m += 1;
-            x += 1;
         }
     }
     m

@@ -5,6 +5,7 @@
 
 // How a set stands to another. Where they are not equal: the first region index where they differ, the word of the first
 // set there and that of the second (the word of zero where a set has no entry).
+// It stays an enum of its own: what is proved of two sets (PartsAt, PartLaws, specs/Part of parting) speaks of these three cases.
 #[derive(Clone, Copy)]
 pub enum Parting {
     Equal,

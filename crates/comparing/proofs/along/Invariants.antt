@@ -13,7 +13,7 @@ pub record Walk (w : List ℕ) (a0 m0 b0 n0 a m b n : ℕ) : Type 0 where
   pub same : parting (entries a0 m0 w) (entries b0 n0 w) ≡ parting (entries a m w) (entries b n w)
 
 abbrev pub invariant-loop-m : goal.invariant-loop-m
-invariant-loop-m l = Walk l.work l.a0 l.m0 l.b0 l.n0 l.a l.m l.b l.n
+invariant-loop-m l = Walk l.work l.fn.a l.fn.m l.fn.b l.fn.n l.a l.m l.b l.n
 
 abbrev pub decreases-loop-m : goal.decreases-loop-m
 decreases-loop-m l = l.m + l.n

@@ -1,4 +1,3 @@
-use Prim.Native.Nat.{◌-◌}
 use native.Mathlib.Omega.{arith}
 use Rattle.ids.proofs.FirstSteps.{first-start, block_fit, block-done, first_done, new-stored}
 use Rattle.ids.proofs.firsts.Goals as goal

@@ -1,9 +1,5 @@
-use Prim.Native.Nat.{◌-◌, ◌≤◌}
 use Rattle.ids.specs.LentFirsts.{Firsting, BlockFit}
 use Rattle.ids.proofs.firsts_block.Given as goal
 
 abbrev pub invariant-loop-i : goal.invariant-loop-i
-invariant-loop-i l = (l.i ≤ l.to) × ((f : BlockFit l.initial.work l.index l.at l.first l.from l.to) → Firsting l.index l.at f.n l.first f.fit.all f.old l.work l.i)
-
-abbrev pub decreases-loop-i : goal.decreases-loop-i
-decreases-loop-i l = l.to - l.i
+invariant-loop-i l = ((f : BlockFit l.initial.work l.index l.at l.first l.from l.to) → Firsting l.index l.at f.n l.first f.fit.all f.old l.work l.i)

@@ -1,9 +1,5 @@
-use Prim.Native.Nat.{◌-◌}
 use Rattle.ids.proofs.ScreenLaws.{Screening}
 use Rattle.ids.proofs.screening.sift.Given as goal
 
 abbrev pub invariant-loop-x : goal.invariant-loop-x
 invariant-loop-x l = Screening l.index l.n l.at l.first l.seen l.initial.work l.work l.x l.m
-
-abbrev pub decreases-loop-x : goal.decreases-loop-x
-decreases-loop-x l = l.n - l.x
