@@ -26,7 +26,7 @@ use Rattle.encoder.specs.declared.places.Places.{Places}
 use Rattle.encoder.specs.LentPlaces.{Laid}
 use Rattle.encoder.specs.Lent.{group_at}
 use Rattle.encoder.specs.LentArranged.{living_at, living_line, LineFit, LinedUp, heir_slot, goes, HomedFit, Homed, SharedFit, SharedOut, ArrangeFit, Arranged}
-use Rattle.encoder.proofs.PartLaws.{Around, front-part, front-length, behind-part, behind-length, before-at, between-at, tail-at, only-between}
+use Rattle.groups.proofs.PartLaws.{Around, front-part, front-length, behind-part, behind-length, before-at, between-at, tail-at, only-between}
 
 -- ---- the line of the living
 

@@ -8,5 +8,4 @@ pub mod SharedLaws
 pub mod GatherLaws
 pub mod OwnLaws
 pub mod Unique
-pub mod PartLaws
 pub mod ArrangeLaws

@@ -1,5 +1,5 @@
 use Rattle.std.proofs.Common.{arith}
-use Rattle.encoder.proofs.PartLaws.{around}
+use Rattle.groups.proofs.PartLaws.{around}
 use Rattle.encoder.proofs.ArrangeLaws.{homes-fit, homed}
 use Rattle.encoder.proofs.arranging.find_places.Goals as goal
 

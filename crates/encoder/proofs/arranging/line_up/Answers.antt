@@ -1,5 +1,5 @@
 use Rattle.std.proofs.Common.{arith}
-use Rattle.encoder.proofs.PartLaws.{around}
+use Rattle.groups.proofs.PartLaws.{around}
 use Rattle.encoder.proofs.ArrangeLaws.{count-most, line-spots, lined-up}
 use Rattle.encoder.proofs.arranging.line_up.Goals as goal
 

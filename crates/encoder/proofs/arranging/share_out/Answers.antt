@@ -1,5 +1,5 @@
 use Rattle.std.proofs.Common.{◌+◌, ◌-◌, ◌*◌, arith, refl}
-use Rattle.encoder.proofs.PartLaws.{around}
+use Rattle.groups.proofs.PartLaws.{around}
 use Rattle.encoder.proofs.ArrangeLaws.{heads-fit, line-parts, deal-fit, shared-out}
 use Rattle.encoder.proofs.arranging.share_out.Goals as goal
 
