@@ -1,5 +1,6 @@
 -- What the private functions of mode 0 ask of lent words, and what they leave. Assumes nothing.
-use Rattle.std.specs.Prelude.{◌≡◌, Bool, true, false, ◌&&◌, List, [], ◌∷◌, ℕ, ◌+◌, ◌-◌, ◌*◌, ◌≤◌, ◌<◌, eqb, length, get_or}
+use Rattle.std.specs.Prelude.{◌≡◌, Bool, true, false, ◌&&◌, List, [], ◌∷◌, ℕ, ◌+◌, ◌-◌, ◌*◌, ◌≤◌, ◌<◌, eqb, length, get_or, MatchOption}
+use Rattle.std.specs.declared.option.Option.{Option}
 use Rattle.laws.specs.Every.{All}
 use Rattle.laws.specs.Bag.{sum}
 use Rattle.laws.specs.Bounded.{up_to}
@@ -19,8 +20,7 @@ use Rattle.encoder.specs.LentPlaces.{Laid}
 use Rattle.encoder.specs.Lent.{group_at, PackedAt}
 use Rattle.encoder.specs.declared.places.Places.{Places}
 use Rattle.encoder.specs.declared.encoded.Encoded.{Encoded}
-use Rattle.encoder.specs.declared.encoded.Gathering.{Gathering}
-use Rattle.encoder.specs.declared.encoded.Gathering.TheVariants.{Full, Groups}
+use Rattle.encoder.specs.declared.encoded.Gathered.{Gathered}
 
 -- the table of shapes, their row costs where merging has its places later; and the same slots with the living in their order
 abbrev pub shapes_at : Places → Shapes
@@ -139,11 +139,10 @@ tables_of p groups = record {
 }
 
 -- there are too many shapes, or the groups are merging's to join
-abbrev pub Gathers : Places → List ℕ → List ℕ → Gathering → Type 0
-Gathers p old new Full = max_shapes < length (groups_of p.regions (sets_in 0 p.sets old))
-Gathers p old new (Groups groups ids) = JoinFit p groups ids new
+abbrev pub Gathers : Places → List ℕ → List ℕ → Option Gathered → Type 0
+Gathers p old new r = MatchOption r (max_shapes < length (groups_of p.regions (sets_in 0 p.sets old))) (λ g. JoinFit p g.groups g.distinct new)
 
-pub record GatheredAt (p : Places) (old new : List ℕ) (r : Gathering) : Type 0 where
+pub record GatheredAt (p : Places) (old new : List ℕ) (r : Option Gathered) : Type 0 where
   pub only : Only ((p.line, length old) ∷ []) old new
   pub result : Gathers p old new r
 
