@@ -12,8 +12,9 @@ use Rattle.said.specs.Records.{record_count}
 use Rattle.said.specs.Refusals.{shapes_full, early_refusal}
 use Rattle.said.specs.Job.{Said, Outcome, refused, fine, in_axes, records_from}
 use Rattle.encoder.specs.declared.places.Places.{Places}
-use Rattle.encoder.specs.declared.encoded.Gathering.{Gathering}
-use Rattle.encoder.specs.declared.encoded.Gathering.TheVariants.{Full, Groups}
+use Rattle.std.specs.Prelude.{Some, None}
+use Rattle.std.specs.declared.option.Option.{Option}
+use Rattle.encoder.specs.declared.encoded.Gathered.{Gathered}
 use Rattle.encoder.specs.LentArranged.{tables_of, Gathers, GatheredAt}
 use Rattle.encoder.proofs.ReadyLaws.{tables-laid, ready-none, ready}
 use Rattle.panel.specs.declared.Profile.{Profile}
@@ -58,13 +59,13 @@ module _ {axes mode starts : ℕ} {job w : List ℕ} {p : Places} {x : Said} (c 
         ready = ready-none p w (tables-laid c.fit.laid (omega arith));
       })
 
-  module _ {w' : List ℕ} {r : Gathering} (g : GatheredAt p w w' r) (z : mode ≡ 0) where
-    result : (a : Gathering) → r ≡ a → Gathers p w w' a
-    result a q = subst (λ (y : Gathering). Gathers p w w' y) q g.result
+  module _ {w' : List ℕ} {r : Option Gathered} (g : GatheredAt p w w' r) (z : mode ≡ 0) where
+    result : (a : Option Gathered) → r ≡ a → Gathers p w w' a
+    result a q = subst (λ (y : Option Gathered). Gathers p w w' y) q g.result
 
-    pub read-full : r ≡ Full → (s : Stage) → s ≡ refused_at h false shapes_full 0 → ReadAt h axes mode job o s w'
+    pub read-full : r ≡ None → (s : Stage) → s ≡ refused_at h false shapes_full 0 → ReadAt h axes mode job o s w'
     read-full q s is =
-        let many : max_shapes < length (groups_of (length x.used) x.sets) = rw (← c.sets-are, c.regions-are) (result Full q) in
+        let many : max_shapes < length (groups_of (length x.used) x.sets) = rw (← c.sets-are, c.regions-are) (result None q) in
         subst (λ (y : Stage). ReadAt h axes mode job o y w') (sym is)
         (subst (λ (y : Outcome). ReadAt h axes mode job y (refused_at h false shapes_full 0) w') (sym e)
         (record {
@@ -74,14 +75,14 @@ module _ {axes mode starts : ℕ} {job w : List ℕ} {p : Places} {x : Said} (c 
           ready = nowhere-ready w';
         }))
 
-    pub read-groups : (groups ids : ℕ) → r ≡ Groups groups ids → ReadAt h axes mode job o (record { profile = h; early = false; no = 0; at = 0; axes = axes; mode = mode; starts = starts; places = p; groups = groups; distinct = ids }) w'
+    pub read-groups : (groups ids : ℕ) → r ≡ Some (record { groups = groups; distinct = ids }) → ReadAt h axes mode job o (record { profile = h; early = false; no = 0; at = 0; axes = axes; mode = mode; starts = starts; places = p; groups = groups; distinct = ids }) w'
     read-groups groups ids q =
         subst (λ (y : Outcome). ReadAt h axes mode job y (record { profile = h; early = false; no = 0; at = 0; axes = axes; mode = mode; starts = starts; places = p; groups = groups; distinct = ids }) w') (sym e)
         (record {
           profile-is = refl;
           not-early = refl;
-          is = record { axes-is = λ y. refl; mode-is = λ y. refl; full = λ f. absurd (f refl); collected = λ y. collected-kept c g.only; joins = λ y v. result (Groups groups ids) q; alone = λ f. absurd (f z) };
-          ready = ready (result (Groups groups ids) q);
+          is = record { axes-is = λ y. refl; mode-is = λ y. refl; full = λ f. absurd (f refl); collected = λ y. collected-kept c g.only; joins = λ y v. result (Some (record { groups = groups; distinct = ids })) q; alone = λ f. absurd (f z) };
+          ready = ready (result (Some (record { groups = groups; distinct = ids })) q);
         })
 
 -- ---- the whole of it

@@ -9,7 +9,7 @@ ghost use Rattle.opening.specs.LentCollected.{StartsAt};
 ghost use Rattle.opening.specs.LentOpened.{no_places, refused_at, ReadAt, OpenedAt};
 
 use crate::taking::take_job;
-use encoder::{Gathering, Places, gather, lay_out};
+use encoder::{Gathered, Places, gather, lay_out};
 use job::early_no;
 use laws::wide;
 use panel::Profile;
@@ -127,7 +127,7 @@ fn open_records(
             distinct: 0,
         };
     }
-    let Gathering::Groups(groups, distinct) = gather(work, places) else {
+    let Some(Gathered { groups, distinct }) = gather(work, places) else {
         return refuse(profile, false, Refusal::SHAPES_FULL, 0);
     };
     Stage {

@@ -41,12 +41,6 @@ returns-then-mode-ne0 c = read-alone (collected c.requires.records_in_bounds.1 c
 pub gather-requires : goal.gather-requires
 gather-requires c = (collected c.requires.records_in_bounds.1 c.requires.records_in_bounds.2 (λ k. omega (arith, c.type_inv.job k)) c.requires.records_in_bounds.0 c.requires.records_in_bounds.3 c.requires.records_in_bounds.4 (as_read c.take_job-r.ensures c.if-r-ne0.false) c.if-r-ne0.false c.place_starts.ensures c.lay_out-places.ensures).fit
 
-pub enum_known-groups : goal.enum_known-groups
-enum_known-groups c = search rules
-
-pub enum_told-1 : goal.enum_told-1
-enum_told-1 c = search rules
-
 pub refuse-requires-in_default : goal.refuse-requires-in_default
 refuse-requires-in_default c = search rules
 
@@ -60,4 +54,4 @@ pub shape_of-work : goal.shape_of-work
 shape_of-work c = search rules
 
 pub returns : goal.returns
-returns c = read-groups (collected c.requires.records_in_bounds.1 c.requires.records_in_bounds.2 (λ k. omega (arith, c.type_inv.job k)) c.requires.records_in_bounds.0 c.requires.records_in_bounds.3 c.requires.records_in_bounds.4 (as_read c.take_job-r.ensures c.if-r-ne0.false) c.if-r-ne0.false c.place_starts.ensures c.lay_out-places.ensures) _ _ (c.take_job-r.ensures.taken c.if-r-ne0.false) c.gather.ensures c.if-mode-ne0.false _ _ c.in-Groups.is
+returns c = read-groups (collected c.requires.records_in_bounds.1 c.requires.records_in_bounds.2 (λ k. omega (arith, c.type_inv.job k)) c.requires.records_in_bounds.0 c.requires.records_in_bounds.3 c.requires.records_in_bounds.4 (as_read c.take_job-r.ensures c.if-r-ne0.false) c.if-r-ne0.false c.place_starts.ensures c.lay_out-places.ensures) _ _ (c.take_job-r.ensures.taken c.if-r-ne0.false) c.gather.ensures c.if-mode-ne0.false _ _ c.in-Some.is
