@@ -14,6 +14,7 @@ use limits::Limits;
 // Behind the rows, from `rows + sets` on, stand four tables of a word a region, while a store is planned and written: which regions it keeps,
 // their new numbers, and for each final group in turn its columns and their places. Until groups are merged nothing else stands from `rows`
 // on, and there is room for the planes of bits of the slots, three of (regions + 31) / 32 words in each.
+// (Places and not slices: `PackedAt`, `Arranged` and the theorems above them say what stands at each, and most words serve twice.)
 #[derive(Clone, Copy)]
 pub struct Places {
     pub sets: usize,

@@ -7,8 +7,8 @@ use native.Mathlib.Omega.{arith}
 use lib.ListN.{length, get_or}
 use lib.Seq.{ext_get_or}
 use Rattle.laws.proofs.Cases.{lt-or-ge, same_or_not}
-use Rattle.laws.specs.declared.Order.{Order}
-use Rattle.laws.specs.declared.Order.TheVariants.{Less, Equal, Greater}
+use Rattle.std.specs.declared.cmp.Ordering.{Ordering}
+use Rattle.std.specs.declared.cmp.Ordering.TheVariants.{Less, Equal, Greater}
 use Rattle.shapes.specs.Shape.{Shape}
 use Rattle.shapes.specs.Order.{order}
 use Rattle.shapes.proofs.OrderLaws.{order-self}
@@ -33,16 +33,16 @@ inserted-once {i} {w} {old} {u} {v} e p q = ext_get_or 0 u v e same
 
 module _ {t : Shapes} {n s : ℕ} {w : List ℕ} (h : Searchable t n s w) where
   -- equal shapes are neither less nor greater
-  same_not : {o : Order} (x y : Shape) → x ≡ y → order x y ≡ o → Equal ≡ o
+  same_not : {o : Ordering} (x y : Shape) → x ≡ y → order x y ≡ o → Equal ≡ o
   same_not x y e f = sym (order-self x) ∙ ap (order x) e ∙ f
 
-  less : {A : Type 0} → ◌≡◌ {A = Order} Equal Less → A
+  less : {A : Type 0} → ◌≡◌ {A = Ordering} Equal Less → A
   less e = let z : ◌≡◌ {A = ℕ} 0 1 = cc in absurd (omega arith)
 
-  greater : {A : Type 0} → ◌≡◌ {A = Order} Equal Greater → A
+  greater : {A : Type 0} → ◌≡◌ {A = Ordering} Equal Greater → A
   greater e = let z : ◌≡◌ {A = ℕ} 0 1 = cc in absurd (omega arith)
 
-  both : {A : Type 0} → ◌≡◌ {A = Order} Less Greater → A
+  both : {A : Type 0} → ◌≡◌ {A = Ordering} Less Greater → A
   both e = let z : ◌≡◌ {A = ℕ} 0 1 = cc in absurd (omega arith)
 
   one_place : (i j : ℕ) → i < j → FoundAt t n s w i → FoundAt t n s w j → ⊥

@@ -1,7 +1,7 @@
 -- What lent words hold of the table of distinct shapes (`Shapes` of `src/lib.rt` says where it lies). Assumes nothing.
 use Rattle.std.specs.Prelude.{◌≡◌, true, List, [], ◌∷◌, ℕ, ◌+◌, ◌-◌, ◌*◌, ◌≤◌, ◌<◌, length, get_or, MatchResult}
 use Rattle.std.specs.declared.result.Result.{Result}
-use Rattle.laws.specs.declared.Order.TheVariants.{Less, Greater}
+use Rattle.std.specs.declared.cmp.Ordering.TheVariants.{Less, Greater}
 use Rattle.laws.specs.Bounded.{tabulate}
 use Rattle.laws.specs.LentRange.{Only, seg}
 use Rattle.shapes.specs.Shape.{Shape, cost_of_row}

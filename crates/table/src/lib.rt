@@ -7,12 +7,13 @@ ghost use Rattle.shapes.specs.Shape.{cost_of_row};
 ghost use Rattle.shapes.specs.Order.{order};
 ghost use Rattle.table.specs.LentTable.{shape_in, SlotFits, Costed, Searchable, FoundIn, InsertedIn};
 
-use laws::Order;
 use shapes::RowShape;
+use std::cmp::Ordering;
 
 // Where the table lies: the slots, one more than `room` of them, of `regions` words each, from `slots` on; the slot of each group number
 // from `order` on, and the count of sets of each slot from `counts` on, `room` words each. Where the table is `costed`, `room` words with the
-// row cost of each slot stand behind the counts, so that most steps of a search compare two numbers; else each step adds it up.
+// row cost of each slot stand behind the counts, so that most steps of a search compare two numbers; else each step adds it up. (Places in
+// `work` and not slices: merging goes on with the same slots, and `GroupedAt` says what stands where.)
 #[derive(Clone, Copy)]
 pub struct Shapes {
     pub regions: usize,
@@ -46,7 +47,7 @@ fn known_cost(work: &[u32], t: Shapes, s: usize) -> u32
 }
 
 // How the shape in slot a, of that row cost, stands to the one in slot b.
-fn compare_slots(work: &[u32], t: Shapes, a: usize, cost: u32, b: usize) -> Order
+fn compare_slots(work: &[u32], t: Shapes, a: usize, cost: u32, b: usize) -> Ordering
     requires slot_fits { SlotFits t a work.now }
     requires cost_value { cost ≡ cost_of_row (shape_in t a work.now) }
     requires slot_fits_2 { SlotFits t b work.now }
@@ -77,13 +78,13 @@ fn search(work: &[u32], t: Shapes, n: usize, s: usize, cost: u32) -> Result<usiz
         let mid = lo + (hi - lo) / 2;
         let slot = work[t.order + mid] as usize;
         match compare_slots(work, t, s, cost, slot) {
-            Order::Less => {
+            Ordering::Less => {
                 hi = mid;
             }
-            Order::Equal => {
+            Ordering::Equal => {
                 return Ok(mid);
             }
-            Order::Greater => {
+            Ordering::Greater => {
                 lo = mid + 1;
             }
         }
