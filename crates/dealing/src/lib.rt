@@ -5,5 +5,5 @@
 mod homes;
 mod line;
 
-pub use homes::{HomeTables, find_homes, heads, spots};
+pub use homes::{find_homes, heads, spots};
 pub use line::deal;

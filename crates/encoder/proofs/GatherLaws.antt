@@ -22,13 +22,12 @@ use Rattle.sets.specs.Ids.{place, shared_ids, distinct}
 use Rattle.sets.specs.Lent.{set_of, sets_in, is_first_of_like, at_most, IdsFit, Identified}
 use Rattle.sets.proofs.IdLaws.{distinct-most}
 use Rattle.sets.proofs.HeldLaws.{Kept, kept-only, kept_trans, set_same, sets_same, most-same, first-same, held_kept, sets-length}
-use Rattle.grouping.specs.declared.Added.{Added}
-use Rattle.grouping.specs.declared.Added.TheVariants.{Groups, Full}
 use Rattle.groups.specs.Groups.{shape_of, groups_of}
 use Rattle.grouping.specs.LentGroups as tab
 use Rattle.groups.proofs.GroupLaws.{Long, groups-long, groups-unlike, groups-few}
 use Rattle.encoder.specs.declared.places.Places.{Places}
-use Rattle.encoder.specs.declared.encoded.Gathering.TheVariants as gathering
+use Rattle.std.specs.Prelude.{Some, None}
+use Rattle.std.specs.declared.option.Option.{Option}
 use Rattle.encoder.specs.LentPlaces.{Laid}
 use Rattle.encoder.specs.Lent.{Fit}
 use Rattle.encoder.specs.LentArranged.{shapes_at, JoinFit, GatheredAt}
@@ -94,7 +93,7 @@ module _ {p : Places} {w : List ℕ} (f : Fit p w) where
           firsts = firsts₁;
         }
 
-    module _ {w₂ : List ℕ} {r : Added} (g : tab.GroupedAt (shapes_at p) 0 p.sets p.first p.kinds w₁ w₂ r) where
+    module _ {w₂ : List ℕ} {r : Option ℕ} (g : tab.GroupedAt (shapes_at p) 0 p.sets p.first p.kinds w₁ w₂ r) where
       low₂ : (i : ℕ) → i < p.kinds → get_or w₂ i 0 ≡ get_or w₁ i 0
       low₂ i h = (kept-only {end = p.kinds} g.only (omega arith, (omega (arith, lies), (omega (arith, lies), (omega (arith, lies), tt))))).below i h
 
@@ -126,12 +125,12 @@ module _ {p : Places} {w : List ℕ} (f : Fit p w) where
             ),
           )) g.only)
 
-      result : (a : Added) → r ≡ a → tab.Result (shapes_at p) 0 p.sets p.kinds w₁ w₂ a
-      result a e = subst (λ (x : Added). tab.Result (shapes_at p) 0 p.sets p.kinds w₁ w₂ x) e g.result
+      result : (a : Option ℕ) → r ≡ a → tab.Result (shapes_at p) 0 p.sets p.kinds w₁ w₂ a
+      result a e = subst (λ (x : Option ℕ). tab.Result (shapes_at p) 0 p.sets p.kinds w₁ w₂ x) e g.result
 
-      pub gather-full : r ≡ Full → GatheredAt p w w₂ gathering.Full
+      pub gather-full : r ≡ None → GatheredAt p w w₂ None
       gather-full e =
-          let n = rw sets₁ at (result Full e) in
+          let n = rw sets₁ at (result None e) in
           record {
             only = only₂;
             result = ⊎_elim
@@ -142,9 +141,9 @@ module _ {p : Places} {w : List ℕ} (f : Fit p w) where
                 (lt-or-ge 0 p.regions);
           }
 
-      module _ (groups : ℕ) (e : r ≡ Groups groups) where
+      module _ (groups : ℕ) (e : r ≡ Some groups) where
         abbrev into : tab.GroupedInto (shapes_at p) 0 p.sets p.kinds w₁ w₂ groups
-        into = result (Groups groups) e
+        into = result (Some groups) e
 
         line₂ : seg p.line p.sets w₂ ≡ seg p.line p.sets w₁
         line₂ = seg-ext p.line p.line p.sets w₂ w₁ (omega (arith, lies, kept.long)) (omega (arith, lies, d.only.long)) (λ i h. low₂ (p.line + i) (omega (arith, lies)))
@@ -185,5 +184,5 @@ module _ {p : Places} {w : List ℕ} (f : Fit p w) where
           };
         }
 
-        pub gather-groups : GatheredAt p w w₂ (gathering.Groups groups ids)
+        pub gather-groups : GatheredAt p w w₂ (Some (record { groups = groups; distinct = ids }))
         gather-groups = record { only = only₂; result = gather-join }

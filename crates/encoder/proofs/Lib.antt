@@ -2,10 +2,10 @@ pub mod PlacesLaws
 pub mod DenseIds
 pub mod LivingLaws
 pub mod NumberLaws
-pub mod ArrangeLaws
 pub mod CostLaws
 pub mod ReadyLaws
 pub mod SharedLaws
 pub mod GatherLaws
 pub mod OwnLaws
 pub mod Unique
+pub mod ArrangeLaws

@@ -187,9 +187,6 @@ module _ {t : MergeTables} {j m b a : ℕ} {w w' : List ℕ} (o : Optimized t j 
       o.apart g.num h.num r q.1 u s)
       living (all-and (Lives t w') (λ g. g.num < t.groups + j) living o.lives living-below) living-rising
 
-  pub slots_apart : EachTwo (λ x y. x ≡ y → ⊥) (map (slot_of t w') living)
-  slots_apart = two-map (λ x y. x ≡ y → ⊥) (slot_of t w') living group-apart
-
   -- the same of the sorted, by place
   pub line-long : length (map (slot_of t w') (sorted is_ahead living)) ≡ length living
   line-long = length-map (sorted is_ahead living) (slot_of t w') ∙ length-sorted is_ahead living
@@ -218,9 +215,6 @@ module _ {t : MergeTables} {j m b a : ℕ} {w w' : List ℕ} (o : Optimized t j 
 
     pub living-shapes : All (λ g. shape_in s (slot_of t w' g) w' ≡ g.group.shape) living
     living-shapes = all-imp lives-shape living o.lives
-
-    pub living-shape : (g : Living) → Memᴰ g living → shape_in s (slot_of t w' g) w' ≡ g.group.shape
-    living-shape g h = has (λ x. shape_in s (slot_of t w' x) w' ≡ x.group.shape) living living-shapes g h
 
     pub living-line : sorted (no_later s w') (living_in w' t.place (t.groups + j)) ≡ map (slot_of t w') (sorted is_ahead living)
     unfolding no_later is_ahead

@@ -233,9 +233,6 @@ module _ {p : Places} {groups ids : ℕ} {w : List ℕ} (f : JoinFit p groups id
       ap (λ (i : ℕ). is_among i g.origins)
       (number_at gs (kind x h).number none (shape_of p.regions (get_or all x [])) (groups-unlike p.regions all) (omega (arith, (kind x h).below, groups-count-is f)) (e ∙ kind-shape x h))
 
-  homes_at : (g : Living) → Memᴰ g living → (i : ℕ) → Memᴰ i g.origins → get_or w' (p.into + i) 0 ≡ g.num
-  homes_at g h i k = has (λ (i : ℕ). get_or w' (p.into + i) 0 ≡ g.num) g.origins (has _ living o.homes g h) i k
-
   module _ {w'' : List ℕ} {count : ℕ} (r : Arranged p groups (groups + j) w' w'' count) where
     count-is : count ≡ length living
     count-is = r.count-is ∙ line-length

@@ -1,5 +1,6 @@
 -- What the private functions of mode 0 ask of lent words, and what they leave. Assumes nothing.
-use Rattle.std.specs.Prelude.{◌≡◌, true, false, ◌&&◌, List, [], ◌∷◌, ℕ, ◌+◌, ◌-◌, ◌*◌, ◌≤◌, ◌<◌, eqb, length, get_or}
+use Rattle.std.specs.Prelude.{◌≡◌, Bool, true, false, ◌&&◌, List, [], ◌∷◌, ℕ, ◌+◌, ◌-◌, ◌*◌, ◌≤◌, ◌<◌, eqb, length, get_or, MatchOption}
+use Rattle.std.specs.declared.option.Option.{Option}
 use Rattle.laws.specs.Every.{All}
 use Rattle.laws.specs.Bag.{sum}
 use Rattle.laws.specs.Bounded.{up_to}
@@ -19,8 +20,7 @@ use Rattle.encoder.specs.LentPlaces.{Laid}
 use Rattle.encoder.specs.Lent.{group_at, PackedAt}
 use Rattle.encoder.specs.declared.places.Places.{Places}
 use Rattle.encoder.specs.declared.encoded.Encoded.{Encoded}
-use Rattle.encoder.specs.declared.encoded.Gathering.{Gathering}
-use Rattle.encoder.specs.declared.encoded.Gathering.TheVariants.{Full, Groups}
+use Rattle.encoder.specs.declared.encoded.Gathered.{Gathered}
 
 -- the table of shapes, their row costs where merging has its places later; and the same slots with the living in their order
 abbrev pub shapes_at : Places → Shapes
@@ -61,6 +61,41 @@ pub record ArrangeFit (p : Places) (groups k : ℕ) (w : List ℕ) : Type 0 wher
   pub heir-at : (i : ℕ) → i < groups → (q : ℕ) × (q < length (living_line p k w)) × (get_or (living_line p k w) q 0 ≡ heir_slot p w i)
   pub number : (q : ℕ) → q < p.sets → get_or w (p.line + q) 0 < p.sets
   pub kind : (x : ℕ) → x < p.sets → get_or w (p.kinds + x) 0 < groups
+
+-- starting groups lie in slots of their own, and each one's heir has its place
+pub record HomedFit (p : Places) (groups : ℕ) (w : List ℕ) : Type 0 where
+  pub laid : Laid p (length w)
+  pub few : groups ≤ p.room
+  pub below : (i : ℕ) → i < groups → get_or w (p.order + i) 0 < groups
+  pub apart : (i j : ℕ) → i < j → j < groups → get_or w (p.order + i) 0 ≡ get_or w (p.order + j) 0 → ⊥
+  pub heir : (i : ℕ) → i < groups → get_or w (p.into + i) 0 < 2 * p.room
+  pub lives : (i : ℕ) → i < groups → 0 < get_or w (p.place + get_or w (p.into + i) 0) 0
+  pub slot : (i : ℕ) → i < groups → heir_slot p w i < groups
+
+pub record Homed (p : Places) (groups : ℕ) (old new : List ℕ) : Type 0 where
+  pub only : Only ((p.homes, groups) ∷ []) old new
+  pub at : (i : ℕ) → i < groups → get_or new (p.homes + get_or old (p.order + i) 0) 0 ≡ get_or old (p.spots + heir_slot p old i) 0
+
+-- the set x goes to final group q: it is the first of its like, and its slot has its home there
+abbrev pub goes : Places → List ℕ → ℕ → ℕ → Bool
+goes p w q x = eqb (get_or w (p.first + x) 0) x && eqb (get_or w (p.homes + get_or w (p.kinds + x) 0) 0) q
+
+-- each final group has a slot, each set has one, and each slot has a home
+pub record SharedFit (p : Places) (groups count : ℕ) (w : List ℕ) : Type 0 where
+  pub laid : Laid p (length w)
+  pub few : groups ≤ p.room
+  pub count-few : count ≤ groups
+  pub slot : (q : ℕ) → q < count → get_or w (p.living + q) 0 < groups
+  pub number : (q : ℕ) → q < p.sets → get_or w (p.line + q) 0 < p.sets
+  pub kind : (x : ℕ) → x < p.sets → get_or w (p.kinds + x) 0 < groups
+  pub home : (s : ℕ) → s < groups → get_or w (p.homes + s) 0 < count
+
+pub record SharedOut (p : Places) (count : ℕ) (old new : List ℕ) : Type 0 where
+  pub only : Only ((p.finals, 3 * count) ∷ (p.rows, p.sets) ∷ []) old new
+  pub shape : (q : ℕ) → q < count → get_or new (group_at p q) 0 ≡ p.slots + get_or old (p.living + q) 0 * p.regions
+  pub rows_in : (q : ℕ) → q < count → (p.rows ≤ get_or new (group_at p q + 1) 0) × (get_or new (group_at p q + 1) 0 + get_or new (group_at p q + 2) 0 ≤ p.rows + p.sets)
+  pub rows_few : sum (λ q. get_or new (group_at p q + 2) 0) count ≤ p.sets
+  pub rows : (q : ℕ) → q < count → seg (get_or new (group_at p q + 1) 0) (get_or new (group_at p q + 2) 0) new ≡ keep (goes p old q) (seg p.line p.sets old)
 
 -- The final groups stand in the order of the line, and each one's rows are the sets, in their order and of equal ones the first, whose slot has
 -- its home there. The home of each slot is left in work.
@@ -104,11 +139,10 @@ tables_of p groups = record {
 }
 
 -- there are too many shapes, or the groups are merging's to join
-abbrev pub Gathers : Places → List ℕ → List ℕ → Gathering → Type 0
-Gathers p old new Full = max_shapes < length (groups_of p.regions (sets_in 0 p.sets old))
-Gathers p old new (Groups groups ids) = JoinFit p groups ids new
+abbrev pub Gathers : Places → List ℕ → List ℕ → Option Gathered → Type 0
+Gathers p old new r = MatchOption r (max_shapes < length (groups_of p.regions (sets_in 0 p.sets old))) (λ g. JoinFit p g.groups g.distinct new)
 
-pub record GatheredAt (p : Places) (old new : List ℕ) (r : Gathering) : Type 0 where
+pub record GatheredAt (p : Places) (old new : List ℕ) (r : Option Gathered) : Type 0 where
   pub only : Only ((p.line, length old) ∷ []) old new
   pub result : Gathers p old new r
 

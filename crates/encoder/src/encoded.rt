@@ -12,9 +12,9 @@ pub struct Encoded {
     pub after: u64,
 }
 
-// Too many shapes, or how many groups there are of how many distinct sets.
+// How many groups there are, of how many distinct sets.
 #[derive(Clone, Copy)]
-pub enum Gathering {
-    Full,
-    Groups(usize, usize),
+pub struct Gathered {
+    pub groups: usize,
+    pub distinct: usize,
 }

@@ -7,7 +7,7 @@ mod owning;
 mod places;
 mod sharing;
 
-pub use encoded::{Encoded, Gathering};
+pub use encoded::{Encoded, Gathered};
 pub use owning::own;
 pub use places::{Places, lay_out, log_words};
 pub use sharing::{gather, regroup, tables};

@@ -1,5 +1,5 @@
 // Where the tables of a build stand in work, behind the sets.
-ghost use Rattle.std.specs.Prelude.{◌≡◌, ◌-◌, ◌*◌, ◌≤◌, min};
+ghost use Rattle.std.specs.Prelude.{◌≡◌, ◌+◌, ◌-◌, ◌*◌, ◌≤◌};
 ghost use Rattle.limits.specs.Limits.{most_records, max_regions, max_shapes};
 ghost use Rattle.encoder.specs.LentPlaces.{room_for, PlacesAt};
 
@@ -14,6 +14,7 @@ use limits::Limits;
 // Behind the rows, from `rows + sets` on, stand four tables of a word a region, while a store is planned and written: which regions it keeps,
 // their new numbers, and for each final group in turn its columns and their places. Until groups are merged nothing else stands from `rows`
 // on, and there is room for the planes of bits of the slots, three of (regions + 31) / 32 words in each.
+// (Places and not slices: `PackedAt`, `Arranged` and the theorems above them say what stands at each, and most words serve twice.)
 #[derive(Clone, Copy)]
 pub struct Places {
     pub sets: usize,
@@ -38,24 +39,17 @@ pub struct Places {
     pub rows: usize,
 }
 
-// The smaller of two numbers.
-fn least(a: usize, b: usize) -> usize
-    ensures { result ≡ min a b }
-{
-    if a < b {
-        return a;
-    }
-    b
-}
-
 // How many groups there may be: no more than sets, and at most 1,024; one, where no region is in use, since all sets are empty then.
 fn room_for(sets: usize, regions: usize) -> usize
-    ensures { result ≡ room_for sets regions }
+    requires { regions ≤ max_regions }
+    ensures is { result ≡ room_for sets regions }
+    ensures most { (result ≤ sets) × (result ≤ max_shapes) }
+    ensures few { (result + 1) * regions ≤ (max_shapes + 1) * max_regions }
 {
     if regions == 0 {
-        return least(sets, 1);
+        return sets.min(1);
     }
-    least(sets, Limits::SHAPES)
+    sets.min(Limits::SHAPES)
 }
 
 // Three words for each merge that so many groups can have. Where there are no groups there is no log.
@@ -63,10 +57,7 @@ pub fn log_words(groups: usize) -> usize
     requires { groups ≤ max_shapes }
     ensures { result ≡ 3 * (groups - 1) }
 {
-    if groups == 0 {
-        return 0;
-    }
-    3 * (groups - 1)
+    3 * groups.saturating_sub(1)
 }
 
 // The tables of so many sets and regions, from `base` on.

@@ -5,16 +5,16 @@ ghost use Rattle.encoder.specs.Lent.{Fit};
 ghost use Rattle.encoder.specs.LentArranged.{tables_of, GatheredAt, JoinFit, RegroupFit, JoinedGroups};
 
 use crate::arranging::arrange;
-use crate::encoded::{Encoded, Gathering};
+use crate::encoded::{Encoded, Gathered};
 use crate::places::Places;
-use grouping::{Added, group};
+use grouping::group;
 use ids::identify;
 use merging::Merged;
 use slots::MergeTables;
 use table::Shapes;
 
-// Numbers and groups the sets that are held before the tables.
-pub fn gather(work: &mut [u32], p: Places) -> Gathering
+// Numbers and groups the sets that are held before the tables. None where they have too many shapes.
+pub fn gather(work: &mut [u32], p: Places) -> Option<Gathered>
     requires { Fit p work.old }
     ensures { GatheredAt p work.old work.new result }
 {
@@ -27,10 +27,8 @@ pub fn gather(work: &mut [u32], p: Places) -> Gathering
         counts: p.counts,
         costed: true,
     };
-    let Added::Groups(groups) = group(work, t, 0, p.sets, p.first, p.kinds) else {
-        return Gathering::Full;
-    };
-    Gathering::Groups(groups, distinct)
+    let groups = group(work, t, 0, p.sets, p.first, p.kinds)?;
+    Some(Gathered { groups, distinct })
 }
 
 // Where merging finds so many groups. The words from `rows` on are free until they are arranged: the planes stand there.

@@ -1,28 +1,27 @@
 -- One more set in the table of shapes: in the group that has its shape, or as a group of its own. Assumes nothing.
-use mathlib.Core.Path.{◌≡◌, refl, sym, ap, ap₂, ◌∙◌, subst}
+use mathlib.Core.Path.{◌≡◌, refl, sym, ap, ◌∙◌}
 use mathlib.Core.List.{List, [], ◌∷◌, ◌++◌}
 use mathlib.Core.Logic.{⊎_elim}
-use Prim.Native.Nat.{ℕ, zero, suc, ◌+◌, ◌-◌, ◌*◌, ◌≤◌, ◌<◌}
+use Prim.Native.Nat.{ℕ, ◌+◌, ◌-◌, ◌*◌, ◌≤◌, ◌<◌}
 use native.Mathlib.Omega.{arith}
 use lib.ListN.{length, get_or, take, drop, set, length-set}
 use lib.Seq.{ext_get_or, get_or-set_same, get_or-set_other}
 use borrow.Author.Count.{below_more}
-use Rattle.laws.specs.Every.{All, EachTwo}
-use Rattle.laws.specs.LentRange.{Apart, Outside, Only, seg}
+use Rattle.laws.specs.Every.{All}
+use Rattle.laws.specs.LentRange.{Only}
 use Rattle.laws.proofs.Cases.{Tri, tri, same_or_not}
 use Rattle.laws.proofs.Cases.Tri.{below, same, above}
 use Rattle.laws.proofs.Products.{row_fits}
 use Rattle.laws.proofs.ListLaws.{length-insert, insert-front, insert-here, insert-back}
 use Rattle.laws.proofs.BoundedLaws.{length-tabulate, get_or-tabulate, tabulate-same}
 use Rattle.laws.proofs.EveryLaws.{all-get_or, all-intro, two-get_or}
-use Rattle.laws.proofs.RangeLaws.{only-refl, only-trans, only_set, only-weaken, only-seg}
-use Rattle.shapes.specs.Shape.{Shape, cost_of_row}
-use Rattle.shapes.specs.Order.{order}
+use Rattle.laws.proofs.RangeLaws.{only-trans, only_set, only-weaken, only-seg}
+use Rattle.shapes.specs.Shape.{cost_of_row}
 use Rattle.shapes.specs.Group.{Group}
 use Rattle.shapes.specs.Lent.{Narrow}
 use Rattle.groups.specs.Groups.{Before, with_shape}
 use Rattle.table.specs.declared.Shapes.{Shapes}
-use Rattle.table.specs.LentTable.{shape_in, slot_in, group_in, groups_in, SlotFits, Searchable, FoundAt, FoundGap, FoundIn, InsertedAt}
+use Rattle.table.specs.LentTable.{shape_in, slot_in, group_in, groups_in, SlotFits, Searchable, FoundAt, FoundGap}
 use Rattle.grouping.specs.LentGroups.{Laid, Table, JoinFit, JoinedIn, NewFit, NewIn, AddFit, AddedOne, AddedNone}
 use Rattle.groups.proofs.GroupLaws.{one, more, Long, with_all, with-before, with_at, with-new, before-unlike}
 use Rattle.table.proofs.TableSteps.{shape-in-length}

@@ -1,16 +1,15 @@
 -- Sets put into the table of shapes one after the other: the steps of `add_set` and of the loop of `group`. Assumes nothing.
-use mathlib.Core.Path.{◌≡◌, refl, sym, ap, ap₂, ◌∙◌, subst}
-use mathlib.Core.List.{List, [], ◌∷◌, ◌++◌, map}
+use mathlib.Core.Path.{◌≡◌, refl, sym, ap, ap₂, ◌∙◌}
+use mathlib.Core.List.{List, [], ◌∷◌, map}
 use mathlib.Core.Logic.{⊎_elim}
-use Prim.Native.Nat.{ℕ, zero, suc, ◌+◌, ◌-◌, ◌*◌, ◌≤◌, ◌<◌}
+use Prim.Native.Nat.{ℕ, ◌+◌, ◌*◌, ◌≤◌, ◌<◌}
 use native.Mathlib.Omega.{arith}
 use lib.ListN.{length, get_or, take, set, length-set, length-map, length-take, get_or-eq_default}
 use lib.Seq.{get_or-set_same, get_or-set_other}
 use borrow.Author.Count.{below_more}
-use Rattle.laws.specs.Every.{All, EachTwo}
 use Rattle.laws.specs.Bag.{weigh}
 use Rattle.laws.specs.Bounded.{tabulate}
-use Rattle.laws.specs.LentRange.{Apart, Outside, Only, seg}
+use Rattle.laws.specs.LentRange.{Only}
 use Rattle.laws.specs.Signed.{value}
 use Rattle.laws.proofs.Cases.{lt-or-ge}
 use Rattle.laws.proofs.Products.{row_fits}
@@ -18,22 +17,22 @@ use Rattle.laws.proofs.ListLaws.{map-append}
 use Rattle.laws.proofs.BagLaws.{weigh-at}
 use Rattle.laws.proofs.BoundedLaws.{length-tabulate, get_or-tabulate}
 use Rattle.laws.proofs.RangeLaws.{only-refl, only-trans, only_set, only-weaken, only-seg}
-use Rattle.shapes.specs.Shape.{Shape, cost_of_row}
+use Rattle.shapes.specs.Shape.{cost_of_row}
 use Rattle.shapes.specs.Width.{width_of, cost_of}
 use Rattle.shapes.specs.Group.{Group}
 use Rattle.shapes.specs.Lent.{Narrow}
 use Rattle.shapes.proofs.WidthLaws.{cost-most}
 use Rattle.sets.specs.Set.{Set, word_of}
 use Rattle.sets.specs.Ids.{place, distinct, distinct_from}
-use Rattle.groups.specs.Groups.{Before, shape_of, with_shape, groups_from, groups_of}
-use Rattle.sets.specs.Lent.{entries_at, count_of, set_of, Stored, Held, sets_in}
+use Rattle.groups.specs.Groups.{shape_of, with_shape, groups_from, groups_of}
+use Rattle.sets.specs.Lent.{entries_at, count_of, set_of, sets_in}
 use Rattle.shaping.specs.Lent.{ShapedAt}
 use Rattle.table.specs.declared.Shapes.{Shapes}
-use Rattle.grouping.specs.declared.Added.{Added}
-use Rattle.grouping.specs.declared.Added.TheVariants.{Groups, Full}
-use Rattle.table.specs.LentTable.{shape_in, slot_in, group_in, groups_in}
-use Rattle.grouping.specs.LentGroups.{Laid, Table, AddFit, AddedOne, AddedNone, AddedIn, SetFit, SetOne, SetNone, AddedSet, GroupFit, GroupedInto, grouped, Result, GroupedAt}
-use Rattle.sets.proofs.IdLaws.{Grows, grows-here, first-distinct, again-distinct, again-same, distinct-most, distinct-all-of, place-first}
+use Rattle.std.specs.Prelude.{Some, None}
+use Rattle.std.specs.declared.option.Option.{Option}
+use Rattle.table.specs.LentTable.{shape_in, slot_in, groups_in}
+use Rattle.grouping.specs.LentGroups.{Laid, Table, AddFit, AddedOne, AddedNone, AddedIn, SetFit, SetOne, SetNone, AddedSet, GroupFit, grouped, GroupedAt}
+use Rattle.sets.proofs.IdLaws.{grows-here, first-distinct, again-distinct, again-same, distinct-most, distinct-all-of, place-first}
 use Rattle.sets.proofs.HeldLaws.{Kept, kept-only, held_kept, held-stored, set_same, sets-length, sets-at}
 use Rattle.groups.proofs.GroupLaws.{shape-length, with-length, from-length, from-count, from-append}
 use Rattle.grouping.proofs.AddSteps.{none, groups-length, groups-at, group-sets, groups-kept, slot-end, slot-room, slots-first}
@@ -127,9 +126,9 @@ module _ {t : Shapes} {index x m kind : ℕ} {w : List ℕ} (f : SetFit t index 
     pub set-none : {u : List ℕ} → AddedNone t m v u → SetNone t index x m w u
     set-none {u} a = record { only = rw a.same all_slots; full = rw (same-groups, sought-is) at a.full }
 
-    pub set-added : (u : List ℕ) (r : Added) → AddedIn t m kind v u r → AddedSet t index x m kind w u r
-    set-added u (Groups r) a = set-one a
-    set-added u Full a = set-none a
+    pub set-added : (u : List ℕ) (r : Option ℕ) → AddedIn t m kind v u r → AddedSet t index x m kind w u r
+    set-added u (Some r) a = set-one a
+    set-added u None a = set-none a
 
 -- ---- the loop: the first k sets are in the table, in m groups
 
@@ -261,7 +260,7 @@ module _ {t : Shapes} {index n first kinds : ℕ} {old : List ℕ} (f : GroupFit
               let a = (with-length (groups_in t m new) (shape_of t.regions (set_of index k new))).0 in
               omega (arith, groups-length t m new, groups-length t r next, ap length s.groups)
 
-      pub group-full : get_or new (first + k) 0 ≡ k → {next : List ℕ} → SetNone t index k m new next → GroupedAt t index n first kinds old next Full
+      pub group-full : get_or new (first + k) 0 ≡ k → {next : List ℕ} → SetNone t index k m new next → GroupedAt t index n first kinds old next None
       unfolding groups_of
       group-full e {next} s = record {
         only = only-trans g.only (only-weaken (λ j o. (o.1.0, tt)) s.only);
@@ -326,7 +325,7 @@ module _ {t : Shapes} {index n first kinds : ℕ} {old : List ℕ} (f : GroupFit
               (λ i p. get_or-set_other new (kinds + k) (t.counts + slot_in t i new) v 0 (omega (arith, f.kinds-to, slots-first f.laid, f.laid.order-to)))
               (λ i p. shape_same v (slot_in t i new) (g.table.below i p))
 
-    pub group-done : n ≤ k → GroupedAt t index n first kinds old new (Groups m)
+    pub group-done : n ≤ k → GroupedAt t index n first kinds old new (Some m)
     unfolding groups_of
     group-done h = record {
       only = g.only;
@@ -337,15 +336,3 @@ module _ {t : Shapes} {index n first kinds : ℕ} {old : List ℕ} (f : GroupFit
         kind-shape = λ j p. g.kind-shape j (omega arith);
       };
     }
-
--- ---- the answers taken apart
-
-pub added-groups : {t : Shapes} {index x m kind : ℕ} {w u : List ℕ} (a : Added) (r : ℕ) → a ≡ Groups r → AddedSet t index x m kind w u a → SetOne t index x m kind w u r
-added-groups {t} {index} {x} {m} {kind} {w} {u} a r e s = subst (λ (y : Added). AddedSet t index x m kind w u y) e s
-
-pub added_full : {t : Shapes} {index x m : ℕ} (kind : ℕ) {w u : List ℕ} (a : Added) → a ≡ Full → AddedSet t index x m kind w u a → SetNone t index x m w u
-added_full {t} {index} {x} {m} kind {w} {u} a e s = subst (λ (y : Added). AddedSet t index x m kind w u y) e s
-
-pub added-long : (t : Shapes) (index x m kind : ℕ) (w u : List ℕ) (a : Added) → AddedSet t index x m kind w u a → length u ≡ length w
-added-long t index x m kind w u (Groups r) s = s.only.long
-added-long t index x m kind w u Full s = s.only.long

@@ -1,5 +1,6 @@
 -- What lent words hold of groups in the table of shapes, and what one more set leaves there. Assumes nothing.
-use Rattle.std.specs.Prelude.{◌≡◌, true, List, [], ◌∷◌, ℕ, ◌+◌, ◌*◌, ◌≤◌, ◌<◌, length, get_or, set}
+use Rattle.std.specs.Prelude.{◌≡◌, true, List, [], ◌∷◌, ℕ, ◌+◌, ◌*◌, ◌≤◌, ◌<◌, length, get_or, set, MatchOption}
+use Rattle.std.specs.declared.option.Option.{Option}
 use Rattle.laws.specs.Every.{All, EachTwo}
 use Rattle.laws.specs.LentRange.{Only}
 use Rattle.shapes.specs.Shape.{cost_of_row}
@@ -9,8 +10,6 @@ use Rattle.sets.specs.Lent.{entries_at, count_of, set_of, Stored, Held, sets_in}
 use Rattle.groups.specs.Groups.{Before, shape_of, with_shape, groups_of}
 use Rattle.table.specs.declared.Shapes.{Shapes}
 use Rattle.table.specs.LentTable.{shape_in, slot_in, groups_in, SlotFits, InsertedAt}
-use Rattle.grouping.specs.declared.Added.{Added}
-use Rattle.grouping.specs.declared.Added.TheVariants.{Groups, Full}
 
 -- the parts of the table stand one behind the other
 pub record Laid (t : Shapes) (w : List ℕ) : Type 0 where
@@ -74,9 +73,8 @@ pub record AddedNone (t : Shapes) (m : ℕ) (old new : List ℕ) : Type 0 where
   pub same : new ≡ old
   pub full : t.room < length (with_shape (groups_in t m old) (shape_in t m old))
 
-abbrev pub AddedIn : Shapes → ℕ → ℕ → List ℕ → List ℕ → Added → Type 0
-AddedIn t m kind old new (Groups r) = AddedOne t m kind old new r
-AddedIn t m kind old new Full = AddedNone t m old new
+abbrev pub AddedIn : Shapes → ℕ → ℕ → List ℕ → List ℕ → Option ℕ → Type 0
+AddedIn t m kind old new r = MatchOption r (AddedNone t m old new) (AddedOne t m kind old new)
 
 -- the same of set x
 pub record SetFit (t : Shapes) (index x m kind : ℕ) (w : List ℕ) : Type 0 where
@@ -98,9 +96,8 @@ pub record SetNone (t : Shapes) (index x m : ℕ) (old new : List ℕ) : Type 0 
   pub only : Only ((t.slots, (t.room + 1) * t.regions) ∷ []) old new
   pub full : t.room < length (with_shape (groups_in t m old) (shape_of t.regions (set_of index x old)))
 
-abbrev pub AddedSet : Shapes → ℕ → ℕ → ℕ → ℕ → List ℕ → List ℕ → Added → Type 0
-AddedSet t index x m kind old new (Groups r) = SetOne t index x m kind old new r
-AddedSet t index x m kind old new Full = SetNone t index x m old new
+abbrev pub AddedSet : Shapes → ℕ → ℕ → ℕ → ℕ → List ℕ → List ℕ → Option ℕ → Type 0
+AddedSet t index x m kind old new r = MatchOption r (SetNone t index x m old new) (SetOne t index x m kind old new)
 
 -- n held sets with their firsts, and the table behind them
 pub record GroupFit (t : Shapes) (index n first kinds : ℕ) (w : List ℕ) : Type 0 where
@@ -124,10 +121,9 @@ pub record GroupedInto (t : Shapes) (index n kinds : ℕ) (old new : List ℕ) (
 abbrev pub grouped : Shapes → ℕ → ℕ → List (ℕ × ℕ)
 grouped t n kinds = (kinds, n) ∷ (t.slots, (t.room + 1) * t.regions) ∷ (t.order, t.room) ∷ (t.counts, 2 * t.room) ∷ []
 
-abbrev pub Result : Shapes → ℕ → ℕ → ℕ → List ℕ → List ℕ → Added → Type 0
-Result t index n kinds old new (Groups r) = GroupedInto t index n kinds old new r
-Result t index n kinds old new Full = t.room < length (groups_of t.regions (sets_in index n old))
+abbrev pub Result : Shapes → ℕ → ℕ → ℕ → List ℕ → List ℕ → Option ℕ → Type 0
+Result t index n kinds old new r = MatchOption r (t.room < length (groups_of t.regions (sets_in index n old))) (GroupedInto t index n kinds old new)
 
-pub record GroupedAt (t : Shapes) (index n first kinds : ℕ) (old new : List ℕ) (r : Added) : Type 0 where
+pub record GroupedAt (t : Shapes) (index n first kinds : ℕ) (old new : List ℕ) (r : Option ℕ) : Type 0 where
   pub only : Only (grouped t n kinds) old new
   pub result : Result t index n kinds old new r

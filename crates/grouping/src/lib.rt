@@ -4,16 +4,8 @@
 ghost use Rattle.std.specs.Prelude.{◌≡◌, ◌+◌, ◌<◌, ◌≤◌, length, get_or};
 ghost use Rattle.grouping.specs.LentGroups.{AddFit, AddedIn, JoinFit, JoinedIn, NewFit, NewIn, SetFit, AddedSet, GroupFit, GroupedAt};
 
-use laws::wide;
 use shaping::shape_of;
-use table::{Found, Shapes, find_shape, insert_at, row_cost};
-
-// How many groups there are, or that there is no room for one more.
-#[derive(Clone, Copy)]
-pub enum Added {
-    Groups(usize),
-    Full,
-}
+use table::{Shapes, find_shape, insert_at, row_cost};
 
 // Counts one more set in group i, and makes the word at `kind` its slot.
 fn join_group(work: &mut [u32], t: Shapes, i: usize, kind: usize)
@@ -22,8 +14,7 @@ fn join_group(work: &mut [u32], t: Shapes, i: usize, kind: usize)
 {
     let place = t.order + i;
     let slot = work[place];
-    let count = t.counts + wide(slot);
-    work[count] = work[count] + 1;
+    work[t.counts + slot as usize] += 1;
     work[kind] = slot;
 }
 
@@ -34,36 +25,41 @@ fn new_group(work: &mut [u32], t: Shapes, groups: usize, i: usize, kind: usize)
 {
     let slot = groups as u32;
     let cost = row_cost(work, t, groups);
-    insert_at(work, t.order, groups, i, slot);
-    let count = t.counts + groups;
+    insert_at(&mut work[t.order..t.order + (groups + 1)], i, slot);
     let known = t.counts + t.room + groups;
-    work[count] = 1;
+    work[t.counts + groups] = 1;
     work[known] = cost;
     work[kind] = slot;
 }
 
-// Counts a set whose shape stands in slot `groups`, and makes the word at `kind` the slot of its group.
-fn add_shape(work: &mut [u32], t: Shapes, groups: usize, kind: usize) -> Added
+// Counts a set whose shape stands in slot `groups`, and makes the word at `kind` the slot of its group. Answers how many groups there are then,
+// or None where there is no room for one more.
+fn add_shape(work: &mut [u32], t: Shapes, groups: usize, kind: usize) -> Option<usize>
     requires { AddFit t groups kind work.old }
     ensures { AddedIn t groups kind work.old work.new result }
 {
     match find_shape(work, t, groups, groups) {
-        Found::At(i) => {
+        Ok(i) => {
             join_group(work, t, i, kind);
-            Added::Groups(groups)
+            Some(groups)
         }
-        Found::Missing(i) => {
-            if groups < t.room {
-                new_group(work, t, groups, i, kind);
-                return Added::Groups(groups + 1);
-            }
-            Added::Full
+        Err(i) if groups < t.room => {
+            new_group(work, t, groups, i, kind);
+            Some(groups + 1)
         }
+        Err(_) => None,
     }
 }
 
 // The same of set x: its shape goes into slot `groups` first.
-fn add_set(work: &mut [u32], t: Shapes, index: usize, x: usize, groups: usize, kind: usize) -> Added
+fn add_set(
+    work: &mut [u32],
+    t: Shapes,
+    index: usize,
+    x: usize,
+    groups: usize,
+    kind: usize,
+) -> Option<usize>
     requires { SetFit t index x groups kind work.old }
     ensures { AddedSet t index x groups kind work.old work.new result }
 {
@@ -81,24 +77,18 @@ pub fn group(
     n: usize,
     first: usize,
     kinds: usize,
-) -> Added
+) -> Option<usize>
     requires { GroupFit t index n first kinds work.old }
     ensures { GroupedAt t index n first kinds work.old work.new result }
 {
     let mut groups = 0;
-    let mut k = 0;
-    while k < n {
-        let f = wide(work[first + k]);
+    for k in 0..n {
+        let f = work[first + k] as usize;
         if f == k {
-            let Added::Groups(more) = add_set(work, t, index, k, groups, kinds + k) else {
-                return Added::Full;
-            };
-            groups = more;
-            k += 1;
+            groups = add_set(work, t, index, k, groups, kinds + k)?;
         } else {
             work[kinds + k] = work[kinds + f];
-            k += 1;
         }
     }
-    Added::Groups(groups)
+    Some(groups)
 }

@@ -4,8 +4,8 @@ use mathlib.Core.List.{List, [], ◌∷◌, ◌++◌, map}
 use Prim.Native.Nat.{ℕ, zero, suc, ◌+◌, ◌-◌, ◌≤◌, ◌<◌}
 use native.Mathlib.Omega.{arith}
 use lib.ListN.{length, get_or, take, drop, set, length-map}
-use Rattle.laws.specs.declared.Order.{Order}
-use Rattle.laws.specs.declared.Order.TheVariants.{Less, Equal, Greater}
+use Rattle.std.specs.declared.cmp.Ordering.{Ordering}
+use Rattle.std.specs.declared.cmp.Ordering.TheVariants.{Less, Equal, Greater}
 use Rattle.laws.specs.Order.{flipped}
 use Rattle.laws.specs.Every.{All, EachTwo}
 use Rattle.laws.specs.Bag.{weigh}
@@ -45,12 +45,12 @@ unfolding with_shape put_shape
 with-more g gs s e = rw e
 
 -- an order, with its equation
-pub data Said (o : Order) : Type 0 where
+pub data Said (o : Ordering) : Type 0 where
   less : o ≡ Less → Said o
   equal : o ≡ Equal → Said o
   greater : o ≡ Greater → Said o
 
-pub said : (o : Order) → Said o
+pub said : (o : Ordering) → Said o
 said Less = less refl
 said Equal = equal refl
 said Greater = greater refl

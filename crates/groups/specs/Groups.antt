@@ -1,8 +1,8 @@
 -- The shape of a set (RULES W3), and the starting groups of mode 0 in their order (M1). The number of a group is its
 -- place in the list.
 use Rattle.std.specs.Prelude.{◌≡◌, List, [], ◌∷◌, map, ℕ, ◌+◌}
-use Rattle.laws.specs.declared.Order.{Order}
-use Rattle.laws.specs.declared.Order.TheVariants.{Less, Equal, Greater}
+use Rattle.std.specs.declared.cmp.Ordering.{Ordering}
+use Rattle.std.specs.declared.cmp.Ordering.TheVariants.{Less, Equal, Greater}
 use Rattle.laws.specs.Bounded.{tabulate}
 use Rattle.laws.specs.Signed.{value}
 use Rattle.shapes.specs.Width.{width_of, cost_of}
@@ -23,7 +23,7 @@ abbrev pub Before : Group → Group → Type 0
 Before g h = order g.shape h.shape ≡ Less
 
 -- a shape beside the first group, by their order: before it, in it, or in the groups behind it
-unfoldable pub put_shape : Order → Shape → Group → List Group → List Group → List Group
+unfoldable pub put_shape : Ordering → Shape → Group → List Group → List Group → List Group
 put_shape Less s g behind later = record { shape = s; sets = 1 } ∷ g ∷ behind
 put_shape Equal s g behind later = record { shape = g.shape; sets = g.sets + 1 } ∷ behind
 put_shape Greater s g behind later = g ∷ later

@@ -9,8 +9,8 @@ use lib.ListN.{length, get_or, take, set, length-map}
 use lib.Seq.{ext_get_or, get_or-set_same, get_or-set_other}
 use borrow.Author.Tests.{eq-eqb, ne_eqb}
 use borrow.Author.Count.{below_more}
-use Rattle.laws.specs.declared.Order.{Order}
-use Rattle.laws.specs.declared.Order.TheVariants.{Less, Equal, Greater}
+use Rattle.std.specs.declared.cmp.Ordering.{Ordering}
+use Rattle.std.specs.declared.cmp.Ordering.TheVariants.{Less, Equal, Greater}
 use Rattle.laws.specs.Bounded.{up_to}
 use Rattle.laws.specs.LentRange.{Apart, Only, seg}
 use Rattle.laws.specs.Sorting.{sorted}
@@ -106,7 +106,7 @@ module _ {index at n first : ℕ} {old : List ℕ} (r : FirstsFit old index at n
         (λ (p : i ≤ 0). let b = rw (eq-eqb i 0 (omega arith)) at e in let z : ◌≡◌ {A = ℕ} 0 1 = cc in absurd (omega arith))
         (lt-or-ge 0 i)
       where
-        said : (o : Order) → not (is_same o) ≡ false → o ≡ Equal
+        said : (o : Ordering) → not (is_same o) ≡ false → o ≡ Equal
         said Less h = unfold is_same in let z : ◌≡◌ {A = ℕ} 0 1 = cc in absurd (omega arith)
         said Equal h = refl
         said Greater h = unfold is_same in let z : ◌≡◌ {A = ℕ} 0 1 = cc in absurd (omega arith)
@@ -292,7 +292,7 @@ pub begins-none : (w : List ℕ) (index at i : ℕ) → i ≡ 0 → true ≡ beg
 unfolding begins_at
 begins-none w index at i e = rw (eq-eqb i 0 e)
 
-pub begins-some : (w : List ℕ) (index at i x y : ℕ) (o : Order) → (i ≡ 0 → ⊥) → x ≡ get_or w (at + (i - 1)) 0 → y ≡ get_or w (at + i) 0
+pub begins-some : (w : List ℕ) (index at i x y : ℕ) (o : Ordering) → (i ≡ 0 → ⊥) → x ≡ get_or w (at + (i - 1)) 0 → y ≡ get_or w (at + i) 0
     → order (set_of index x w) (set_of index y w) ≡ o → not (is_same o) ≡ begins_at w index at i
 unfolding begins_at
-begins-some w index at i x y o n p q e = rw (ne_eqb i 0 n) (ap (λ (o : Order). not (is_same o)) (sym e ∙ ap₂ (λ (a b : ℕ). order (set_of index a w) (set_of index b w)) p q))
+begins-some w index at i x y o n p q e = rw (ne_eqb i 0 n) (ap (λ (o : Ordering). not (is_same o)) (sym e ∙ ap₂ (λ (a b : ℕ). order (set_of index a w) (set_of index b w)) p q))

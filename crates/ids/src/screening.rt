@@ -1,7 +1,7 @@
 // Before sorting: most sets that equal an earlier one are found at once, by a table of the set that was seen last at each slot, which is a part of the
 // hash. One that is missed there is sorted like any other, so that nothing rests on the hash.
 ghost use Rattle.std.specs.Prelude.{◌≡◌, ℕ, ◌+◌, ◌-◌, ◌*◌, ◌%◌, ◌≤◌, ◌<◌, Some, IfSome, length, get_or};
-ghost use Rattle.laws.specs.declared.Order.TheVariants.{Equal};
+ghost use Rattle.std.specs.declared.cmp.Ordering.TheVariants.{Equal};
 ghost use Rattle.sets.specs.Order.{order};
 ghost use Rattle.sets.specs.Lent.{set_of, Stored, IdsFit};
 ghost use Rattle.ids.specs.LentScreened.{Screened};

@@ -7,12 +7,12 @@ use lib.ListN.{length}
 use Rattle.groups.specs.Groups.{groups_of, max_shapes}
 use Rattle.said.specs.Job.{Said, Outcome, refused, fine}
 use Rattle.encoder.specs.declared.places.Places.{Places}
-use Rattle.encoder.specs.declared.encoded.Gathering.{Gathering}
-use Rattle.encoder.specs.declared.encoded.Gathering.TheVariants.{Full, Groups}
+use Rattle.std.specs.declared.option.Option.{Option}
+use Rattle.encoder.specs.declared.encoded.Gathered.{Gathered}
 use Rattle.encoder.specs.LentArranged.{Gathers, GatheredAt}
 use Rattle.encoder.proofs.ReadyLaws.{tables-laid, ready-none, ready}
 use Rattle.panel.specs.declared.Profile.{Profile}
-use Rattle.std.specs.Prelude.{Ok, Err}
+use Rattle.std.specs.Prelude.{Some, None, Ok, Err}
 use Rattle.refusals.specs.declared.Refused.{Refused}
 use Rattle.refusals.specs.declared.Refusal.TheVariants.{ShapesFull}
 use Rattle.refusals.specs.Refusals.{number}
@@ -33,21 +33,21 @@ module _ {axes mode starts : ℕ} {job w : List ℕ} {p : Places} {x : Said} (c 
     ready = ready-none p w (tables-laid c.fit.laid (omega arith));
   }
 
-  module _ {w' : List ℕ} {r : Gathering} (g : GatheredAt p w w' r) (z : mode ≡ 0) where
-    result : (a : Gathering) → r ≡ a → Gathers p w w' a
-    result a q = subst (λ (y : Gathering). Gathers p w w' y) q g.result
+  module _ {w' : List ℕ} {r : Option Gathered} (g : GatheredAt p w w' r) (z : mode ≡ 0) where
+    result : (a : Option Gathered) → r ≡ a → Gathers p w w' a
+    result a q = subst (λ (y : Option Gathered). Gathers p w w' y) q g.result
 
     longer : length w' ≡ length w₀
     longer = g.only.long ∙ long
 
-    pub read-full : r ≡ Full → OpenedAt h axes mode job o w₀ w' (Err (record { refusal = ShapesFull; place = 0 }))
+    pub read-full : r ≡ None → OpenedAt h axes mode job o w₀ w' (Err (record { refusal = ShapesFull; place = 0 }))
     read-full q =
-        let many : max_shapes < length (groups_of (length x.used) x.sets) = rw (← c.sets-are, c.regions-are) (result Full q) in
+        let many : max_shapes < length (groups_of (length x.used) x.sets) = rw (← c.sets-are, c.regions-are) (result None q) in
         record { long = longer; is = rw e (record { shared = z; number_is = refl; place-is = refl; many = many }); ready = tt }
 
-    pub read-groups : (groups ids : ℕ) → r ≡ Groups groups ids → OpenedAt h axes mode job o w₀ w' (Ok (record { axes = axes; mode = mode; starts = starts; places = p; groups = groups; distinct = ids }))
+    pub read-groups : (groups ids : ℕ) → r ≡ Some (record { groups = groups; distinct = ids }) → OpenedAt h axes mode job o w₀ w' (Ok (record { axes = axes; mode = mode; starts = starts; places = p; groups = groups; distinct = ids }))
     read-groups groups ids q = record {
       long = longer;
-      is = rw e (record { axes-is = refl; mode-is = refl; collected = collected-kept c g.only; joins = λ v. result (Groups groups ids) q; alone = λ f. absurd (f z) });
-      ready = ready (result (Groups groups ids) q);
+      is = rw e (record { axes-is = refl; mode-is = refl; collected = collected-kept c g.only; joins = λ v. result (Some (record { groups = groups; distinct = ids })) q; alone = λ f. absurd (f z) });
+      ready = ready (result (Some (record { groups = groups; distinct = ids })) q);
     }

@@ -9,7 +9,7 @@ ghost use Rattle.opening.specs.LentCollected.{StartsAt};
 ghost use Rattle.opening.specs.LentOpened.{no_places, OpenedAt};
 
 use crate::taking::take_job;
-use encoder::{Gathering, Places, gather, lay_out};
+use encoder::{Gathered, Places, gather, lay_out};
 use panel::Profile;
 use records::coords_start;
 use refusals::{Refusal, Refused};
@@ -93,7 +93,7 @@ pub fn open(
             distinct: 0,
         });
     }
-    let Gathering::Groups(groups, distinct) = gather(work, places) else {
+    let Some(Gathered { groups, distinct }) = gather(work, places) else {
         return Err(Refused {
             refusal: Refusal::ShapesFull,
             place: 0,

@@ -8,8 +8,8 @@ use native.Mathlib.Numerals.{sub-one}
 use native.Mathlib.Omega.{arith}
 use lib.ListN.{get_or}
 use borrow.Author.Tests.{lt-ltb, le-ltb, eq-eqb, ne_eqb}
-use Rattle.laws.specs.declared.Order.{Order}
-use Rattle.laws.specs.declared.Order.TheVariants.{Less, Equal, Greater}
+use Rattle.std.specs.declared.cmp.Ordering.{Ordering}
+use Rattle.std.specs.declared.cmp.Ordering.TheVariants.{Less, Equal, Greater}
 use Rattle.laws.specs.Order.{flipped, is_most}
 use Rattle.laws.proofs.Cases.{Tri, tri}
 use Rattle.laws.proofs.Cases.Tri.{below, same, above}
@@ -172,19 +172,19 @@ at-most-not {f} {g} (lower s p m) (greater r _ q l) = go (tri s r)
     go (same i) = let l' : g s < f s = rw i l in omega arith
     go (above i) = omega (arith, p r i)
 
-at-most-of : {f g : ℕ → ℕ} (o : Order) → Compared 0 f g o → is_most o ≡ true → AtMost f g
+at-most-of : {f g : ℕ → ℕ} (o : Ordering) → Compared 0 f g o → is_most o ≡ true → AtMost f g
 unfolding is_most
 at-most-of Less (less r _ p l) e = lower r (λ k. p k (omega arith)) l
 at-most-of Equal (equal p) e = level (λ k. p k (omega arith))
 at-most-of Greater (greater r _ p l) e = let z : ◌≡◌ {A = ℕ} 0 1 = cc in absurd (omega arith)
 
-is-most-of : {f g : ℕ → ℕ} (o : Order) → Compared 0 f g o → AtMost f g → is_most o ≡ true
+is-most-of : {f g : ℕ → ℕ} (o : Ordering) → Compared 0 f g o → AtMost f g → is_most o ≡ true
 unfolding is_most
 is-most-of Less c m = refl
 is-most-of Equal c m = refl
 is-most-of Greater c m = absurd (at-most-not m c)
 
-at-most-back : {f g : ℕ → ℕ} (o : Order) → Compared 0 f g o → is_most o ≡ false → AtMost g f
+at-most-back : {f g : ℕ → ℕ} (o : Ordering) → Compared 0 f g o → is_most o ≡ false → AtMost g f
 unfolding is_most
 at-most-back Less (less r _ p l) e = let z : ◌≡◌ {A = ℕ} 0 1 = cc in absurd (omega arith)
 at-most-back Equal (equal p) e = let z : ◌≡◌ {A = ℕ} 0 1 = cc in absurd (omega arith)
@@ -212,7 +212,7 @@ unfolding entries
 entries_none a w = refl
 
 -- What is right of two functions is one answer: so `Compared` says "if and only if".
-pub compared-unique : {f g : ℕ → ℕ} (o q : Order) → Compared 0 f g o → Compared 0 f g q → o ≡ q
+pub compared-unique : {f g : ℕ → ℕ} (o q : Ordering) → Compared 0 f g o → Compared 0 f g q → o ≡ q
 compared-unique Less Less c d = refl
 compared-unique Less Equal (less r _ _ l) (equal e) = absurd (omega (arith, e r (omega arith)))
 compared-unique Less Greater (less r t p l) d = absurd (at-most-not (lower r (λ k. p k (omega arith)) l) d)
@@ -225,7 +225,7 @@ compared-unique Greater Greater c d = refl
 
 -- ---- the order the other way round, and equal sets
 
-compared-flip : {f g : ℕ → ℕ} {o : Order} → Compared 0 f g o → Compared 0 g f (flipped o)
+compared-flip : {f g : ℕ → ℕ} {o : Ordering} → Compared 0 f g o → Compared 0 g f (flipped o)
 unfolding flipped
 compared-flip (less r t p l) = greater r t (λ k a b. sym (p k a b)) l
 compared-flip (equal p) = equal (λ k a. sym (p k a))
@@ -239,7 +239,7 @@ pub order-both : (a b : Set) → Ascending 0 a → Ascending 0 b → is_most (or
 unfolding is_most flipped
 order-both a b p q l m = go (order a b) l (sym (ap is_most (order_flip a b p q)) ∙ m)
   where
-    go : (o : Order) → is_most o ≡ true → is_most (flipped o) ≡ true → o ≡ Equal
+    go : (o : Ordering) → is_most o ≡ true → is_most (flipped o) ≡ true → o ≡ Equal
     go Less x y = let z : ◌≡◌ {A = ℕ} 0 1 = cc in absurd (omega arith)
     go Equal x y = refl
     go Greater x y = let z : ◌≡◌ {A = ℕ} 0 1 = cc in absurd (omega arith)
@@ -270,7 +270,7 @@ words_same regions t (e ∷ a) (d ∷ b) p q x y h = go (λ k. words_same region
 pub order-equal : (regions : ℕ) (a b : Set) → Ascending 0 a → Ascending 0 b → Proper regions a → Proper regions b → order a b ≡ Equal → a ≡ b
 order-equal regions a b p q x y e = go (order a b) (order-right a b 0 p q) e
   where
-    go : (o : Order) → Compared 0 (word_of a) (word_of b) o → o ≡ Equal → a ≡ b
+    go : (o : Ordering) → Compared 0 (word_of a) (word_of b) o → o ≡ Equal → a ≡ b
     go Less c e = let z : ◌≡◌ {A = ℕ} 0 1 = cc in absurd (omega arith)
     go Equal (equal h) e = words_same regions 0 a b p q x y h
     go Greater c e = let z : ◌≡◌ {A = ℕ} 0 1 = cc in absurd (omega arith)

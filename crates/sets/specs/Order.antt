@@ -1,8 +1,8 @@
 -- The order of sets, and where two of them part (RULES F1): by their values from region 0 up, zero where a set has none.
 -- Words are ordered as the values are (`word-order` of laws).
 use Rattle.std.specs.Prelude.{◌≡◌, List, [], ◌∷◌, ℕ, ◌≤◌, ◌<◌, ltb}
-use Rattle.laws.specs.declared.Order.{Order}
-use Rattle.laws.specs.declared.Order.TheVariants.{Less, Equal, Greater}
+use Rattle.std.specs.declared.cmp.Ordering.{Ordering}
+use Rattle.std.specs.declared.cmp.Ordering.TheVariants.{Less, Equal, Greater}
 use Rattle.laws.specs.Pick.{pick}
 use Rattle.laws.specs.Signed.{zero_word}
 use Rattle.sets.specs.declared.Parting.{Parting}
@@ -10,7 +10,7 @@ use Rattle.sets.specs.declared.Parting.TheVariants as parts
 use Rattle.sets.specs.Set.{Set}
 
 -- what `o` says of two functions of the regions, from region t on: they agree everywhere, or at the first region where they differ the one is smaller
-pub data Compared (t : ℕ) (f g : ℕ → ℕ) : Order → Type 0 where
+pub data Compared (t : ℕ) (f g : ℕ → ℕ) : Ordering → Type 0 where
   less : (r : ℕ) → t ≤ r → ((k : ℕ) → t ≤ k → k < r → f k ≡ g k) → f r < g r → Compared t f g Less
   equal : ((k : ℕ) → t ≤ k → f k ≡ g k) → Compared t f g Equal
   greater : (r : ℕ) → t ≤ r → ((k : ℕ) → t ≤ k → k < r → f k ≡ g k) → g r < f r → Compared t f g Greater
@@ -49,11 +49,11 @@ parting [] b = part_none b
 parting (e ∷ a) b = part_head e (parting a) b
 
 -- what that says of their order
-unfoldable pub order_of : Parting → Order
+unfoldable pub order_of : Parting → Ordering
 order_of parts.Equal = Equal
 order_of (parts.Smaller r v u) = Less
 order_of (parts.Larger r v u) = Greater
 
 -- the order of two sets
-unfoldable pub order : Set → Set → Order
+unfoldable pub order : Set → Set → Ordering
 order a b = order_of (parting a b)

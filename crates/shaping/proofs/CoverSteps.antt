@@ -1,27 +1,25 @@
 -- The loops that write mode 1's shape. Assumes nothing.
 use mathlib.Core.Path.{◌≡◌, refl, sym, ap, ap₂, ◌∙◌}
-use mathlib.Core.List.{List, [], ◌∷◌, ◌++◌}
-use Prim.Native.Nat.{ℕ, zero, suc, ◌+◌, ◌-◌, ◌*◌, ◌≤◌, ◌<◌, max}
+use mathlib.Core.List.{List, [], ◌∷◌}
+use Prim.Native.Nat.{ℕ, ◌+◌, ◌-◌, ◌*◌, ◌≤◌, ◌<◌}
 use native.Mathlib.Numerals.{add-one}
 use native.Mathlib.Omega.{arith}
-use lib.ListN.{length, get_or, take, set, length-set, replicate, length-replicate, get_or-replicate}
-use lib.Seq.{ext_get_or, take-suc, take_all, get_or-set_same, get_or-set_other}
-use borrow.Author.Count.{below_more}
-use Rattle.laws.specs.Every.{All}
-use Rattle.laws.specs.LentRange.{Apart, Outside, Only, Zeroed, seg}
-use Rattle.laws.proofs.RangeLaws.{only-refl, only-trans, only_set, only-weaken, only-seg, length-seg, get_or-seg}
+use lib.ListN.{length, get_or, take, replicate, length-replicate}
+use Rattle.std.proofs.lemmas.List.{get_or-replicate}
+use lib.Seq.{take-suc, take_all}
+use Rattle.laws.specs.LentRange.{Apart, Only, Zeroed, seg}
+use Rattle.laws.proofs.RangeLaws.{only-refl, only-trans, only-weaken, only-seg, get_or-seg}
+use borrow.Rule.Slice.PartMut.{put_mid}
+use Rattle.laws.proofs.PartLaws.{only-mid, seg-mid}
 use Rattle.laws.proofs.ZeroLaws.{zeroed-part}
-use Rattle.shapes.specs.Shape.{Shape, join}
+use Rattle.shapes.specs.Shape.{join}
 use Rattle.shapes.specs.Lent.{JoinedAt}
-use Rattle.shapes.proofs.ShapeLaws.{join-at, join-length}
-use Rattle.sets.specs.Set.{Set}
-use Rattle.sets.specs.Lent.{set_of, entries_at, count_of, Stored, Held, sets_in}
+use Rattle.sets.specs.Lent.{set_of, entries_at, count_of, Stored, sets_in}
 use Rattle.sets.proofs.HeldLaws.{Kept, kept-only, held_kept, held-stored, set_same, sets-length, sets-at, sets_same}
 use Rattle.groups.specs.Groups.{shape_of}
-use Rattle.groups.specs.Cover.{cover_from, cover_of}
+use Rattle.groups.specs.Cover.{cover_from}
 use Rattle.shaping.specs.Lent.{ShapedAt, CoverFit, CoveredAt, CoverAt}
-use Rattle.groups.proofs.GroupLaws.{shape-length}
-use Rattle.groups.proofs.CoverLaws.{cover-snoc, cover-length}
+use Rattle.groups.proofs.CoverLaws.{cover-snoc}
 
 -- ---- joining each
 
@@ -84,4 +82,14 @@ module _ {index n at tmp regions : ℕ} {old : List ℕ} (f : CoverFit index n a
     covered c = record {
       only = only-trans (only-weaken (λ k o. (o.0, tt)) z.only) c.only;
       is = c.is ∙ ap₂ (cover_from regions) (zeroed-part z (omega (arith, f.room, f.at-to))) (sets_same f.held zeroed);
+    }
+
+-- ---- a part lent, and all of it zero
+
+pub filled : (at n : ℕ) (w s : List ℕ) → at + n ≤ length w → s ≡ replicate n 0 → Zeroed at n w (put_mid at (at + n - at) w s)
+filled at n w s room z =
+    let fits : length s ≡ at + n - at = ap length z ∙ length-replicate n 0 ∙ omega arith in
+    record {
+      only = only-mid at n w s room fits;
+      is = λ k h. sym (get_or-seg at n (put_mid at (at + n - at) w s) k h) ∙ ap (λ (x : List ℕ). get_or x k 0) (seg-mid at n w s room fits ∙ z) ∙ get_or-replicate n k 0 0 h;
     }

@@ -1,3 +1,3 @@
-pub mod ShapeSteps
+pub mod WidthSteps
 pub mod CoverSteps
 pub mod Unique

@@ -3,7 +3,6 @@ ghost use Rattle.std.specs.Prelude.{◌≡◌, ◌+◌, ◌≤◌, length};
 ghost use Rattle.shaping.specs.Lent.{CoverFit, CoveredAt, CoverAt};
 
 use crate::shaping::shape_of;
-use laws::zero_part;
 use shapes::RowShape;
 
 // Joins the shapes of n sets to the one from `at` on; the words from `tmp` on are scratch for one shape.
@@ -11,11 +10,9 @@ fn join_each(work: &mut [u32], index: usize, n: usize, at: usize, tmp: usize, re
     requires { CoverFit index n at tmp regions work.old }
     ensures { CoveredAt index n at tmp regions work.old work.new }
 {
-    let mut x = 0;
-    while x < n {
+    for x in 0..n {
         shape_of(work, index, x, tmp, regions);
         RowShape::join(work, at, tmp, regions);
-        x += 1;
     }
 }
 
@@ -24,6 +21,6 @@ pub fn cover(work: &mut [u32], index: usize, n: usize, at: usize, tmp: usize, re
     requires { CoverFit index n at tmp regions work.old }
     ensures { CoverAt index n at tmp regions work.old work.new }
 {
-    zero_part(work, at, regions);
+    work[at..at + regions].fill(0);
     join_each(work, index, n, at, tmp, regions);
 }

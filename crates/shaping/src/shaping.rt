@@ -1,47 +1,23 @@
 // The shape of a set: the width of its value at each region that it names, and none at all others.
-ghost use Rattle.std.specs.Prelude.{◌≡◌, ◌+◌, ◌*◌, ◌<◌, ◌≤◌, length, get_or};
-ghost use Rattle.laws.specs.Signed.{value};
-ghost use Rattle.shapes.specs.Width.{width_of, cost_of};
-ghost use Rattle.sets.specs.Lent.{Stored, entries_at, count_of};
-ghost use Rattle.shaping.specs.Lent.{FillFit, EntriesFit, ShapedFrom, ShapedAt};
+ghost use Rattle.std.specs.Prelude.{◌≡◌, ◌+◌, ◌*◌, ◌/◌, ◌≤◌, length};
+ghost use Rattle.sets.specs.Lent.{Stored, entries, entries_at, count_of};
+ghost use Rattle.groups.specs.Groups.{shape_of};
+ghost use Rattle.shaping.specs.Lent.{ShapedAt};
 
-use laws::{wide, zero_part};
 use shapes::ColumnBits;
 
-// The cost of the width of the value whose word is at p.
-fn width_at(work: &[u32], p: usize) -> u32
-    requires { p < length work.now }
-    ensures { result ≡ cost_of (width_of (value (get_or work.now p 0))) }
+// The shape of some entries, each of two words: a region and its value's word. They are walked from the last to the first: what is left is
+// then a list's end.
+fn widths(pairs: &[u32], shape: &mut [u32])
+    ensures { shape.new ≡ shape_of (length shape.old) (entries 0 (length pairs.now / 2) pairs.now) }
 {
-    let bits = ColumnBits::for_val(work[p]);
-    bits.cost()
-}
-
-// The widths of m entries from index `from` on, into those words from `at` on whose regions they name, where all are 0. They are walked from
-// the last to the first: what is left is then a list's end.
-fn fill(work: &mut [u32], from: usize, m: usize, at: usize, regions: usize)
-    requires { FillFit work.old from m at regions }
-    ensures { ShapedFrom from m at regions work.old work.new }
-{
-    let mut j = m;
-    while 0 < j {
-        let region = wide(work[from + 2 * j - 2]);
-        if region < regions {
-            work[at + region] = width_at(work, from + 2 * j - 1);
-            j -= 1;
-        } else {
-            j -= 1;
+    shape.fill(0);
+    for j in (0..pairs.len() / 2).rev() {
+        let region = pairs[2 * j] as usize;
+        if region < shape.len() {
+            shape[region] = ColumnBits::for_val(pairs[2 * j + 1]).cost();
         }
     }
-}
-
-// The same into words that may hold anything.
-fn widths(work: &mut [u32], from: usize, m: usize, at: usize, regions: usize)
-    requires { EntriesFit work.old from m at regions }
-    ensures { ShapedFrom from m at regions work.old work.new }
-{
-    zero_part(work, at, regions);
-    fill(work, from, m, at, regions);
 }
 
 // Writes the shape of set x into the words from `at` on.
@@ -51,7 +27,9 @@ pub fn shape_of(work: &mut [u32], index: usize, x: usize, at: usize, regions: us
     requires regions_in_bounds { at + regions ≤ length work.old }
     ensures { ShapedAt index x at regions work.old work.new }
 {
-    let from = wide(work[index + 2 * x]);
-    let m = wide(work[index + 2 * x + 1]);
-    widths(work, from, m, at, regions);
+    let from = work[index + 2 * x] as usize;
+    let m = work[index + 2 * x + 1] as usize;
+    let (front, rest) = work.split_at_mut(at);
+    let (shape, _) = rest.split_at_mut(regions);
+    widths(&front[from..from + 2 * m], shape);
 }

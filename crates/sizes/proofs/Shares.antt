@@ -4,8 +4,8 @@ use mathlib.Core.List.{List, [], ◌∷◌, map}
 use Prim.Native.Nat.{ℕ, ◌+◌}
 use native.Mathlib.Omega.{arith}
 use lib.ListN.{length}
-use Rattle.laws.specs.declared.Order.{Order}
-use Rattle.laws.specs.declared.Order.TheVariants.{Less, Equal, Greater}
+use Rattle.std.specs.declared.cmp.Ordering.{Ordering}
+use Rattle.std.specs.declared.cmp.Ordering.TheVariants.{Less, Equal, Greater}
 use Rattle.laws.specs.Every.{All}
 use Rattle.laws.specs.Bag.{weigh}
 use Rattle.laws.proofs.EveryLaws.{all, all_map}
@@ -23,12 +23,12 @@ use Rattle.groups.proofs.GroupLaws.Said.{less, equal, greater}
 -- ---- how many sets have a shape
 
 -- n where the order is Equal
-abbrev pub where_equal : Order → ℕ → ℕ
+abbrev pub where_equal : Ordering → ℕ → ℕ
 where_equal Less n = 0
 where_equal Equal n = n
 where_equal Greater n = 0
 
-equal-more : (o : Order) (n : ℕ) → where_equal o (n + 1) ≡ where_equal o n + where_equal o 1
+equal-more : (o : Ordering) (n : ℕ) → where_equal o (n + 1) ≡ where_equal o n + where_equal o 1
 equal-more Less n = refl
 equal-more Equal n = refl
 equal-more Greater n = refl
@@ -65,11 +65,11 @@ pub share-none : (u : Shape) (gs : List Group) → All (λ h. order u h.shape �
 unfolding weigh
 share-none u [] h = refl
 share-none u (g ∷ gs) h =
-    let z : share u g ≡ 0 = ap (λ (o : Order). where_equal o g.sets) h.0 in
+    let z : share u g ≡ 0 = ap (λ (o : Ordering). where_equal o g.sets) h.0 in
     omega (arith, share-none u gs h.1)
 
 pub share-self : (g : Group) → share g.shape g ≡ g.sets
-share-self g = ap (λ (o : Order). where_equal o g.sets) (order-self g.shape)
+share-self g = ap (λ (o : Ordering). where_equal o g.sets) (order-self g.shape)
 
 pub groups-share : (regions : ℕ) (u : Shape) (sets : List Set) → weigh (share u) (groups_of regions sets) ≡ weigh (λ s. is_shape u (shape_of regions s)) (distinct sets)
 unfolding groups_of weigh

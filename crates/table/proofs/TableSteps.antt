@@ -1,26 +1,23 @@
 -- The steps of looking a shape up in the table, and of inserting a number. Assumes nothing.
-use mathlib.Core.Path.{◌≡◌, refl, sym, ap, ap₂, ◌∙◌, subst}
-use mathlib.Core.List.{List, [], ◌∷◌}
-use mathlib.Core.Logic.{⊎_elim}
-use Prim.Native.Nat.{ℕ, zero, suc, ◌+◌, ◌-◌, ◌*◌, ◌/◌, ◌≤◌, ◌<◌}
+use mathlib.Core.Path.{◌≡◌, sym, ap, ◌∙◌}
+use mathlib.Core.List.{List}
+use Prim.Native.Nat.{ℕ, ◌+◌, ◌-◌, ◌*◌, ◌≤◌, ◌<◌}
 use native.Mathlib.Omega.{arith}
-use lib.ListN.{length, get_or, set, take, drop, length-set}
-use lib.Seq.{get_or-set_same, get_or-set_other}
-use Rattle.laws.specs.declared.Order.{Order}
-use Rattle.laws.specs.declared.Order.TheVariants.{Less, Equal, Greater}
-use Rattle.laws.specs.LentRange.{Apart, Only, seg}
-use Rattle.laws.proofs.Cases.{Tri, tri, lt-or-ge}
+use lib.ListN.{length, get_or, take, drop}
+use lib.Seq.{get_or-take, get_or-drop}
+use Rattle.std.specs.declared.cmp.Ordering.TheVariants.{Less, Equal, Greater}
+use borrow.Rule.Slice.PartMut.{put_mid}
+use Rattle.laws.proofs.PartLaws.{only-mid, seg-mid}
+use Rattle.laws.specs.LentRange.{seg}
+use Rattle.laws.proofs.Cases.{Tri, tri}
 use Rattle.laws.proofs.Cases.Tri.{below, same, above}
-use Rattle.laws.proofs.RangeLaws.{only-refl, only-trans, only_set, only-weaken, length-seg}
-use Rattle.laws.proofs.OrderLaws.{Chain}
+use Rattle.laws.proofs.RangeLaws.{length-seg, get_or-seg}
 use Rattle.shapes.specs.Shape.{Shape, cost_of_row}
 use Rattle.shapes.specs.Order.{order}
 use Rattle.shapes.specs.Lent.{Narrow, Measured}
-use Rattle.shapes.proofs.OrderLaws.{order-equal, order_flip, order-chain}
+use Rattle.shapes.proofs.OrderLaws.{order-equal, order-chain}
 use Rattle.table.specs.declared.Shapes.{Shapes}
-use Rattle.table.specs.declared.Found.{Found}
-use Rattle.table.specs.declared.Found.TheVariants.{At, Missing}
-use Rattle.table.specs.LentTable.{shape_in, slot_in, SlotFits, Searchable, FoundAt, FoundGap, FoundIn, InsertedAt}
+use Rattle.table.specs.LentTable.{shape_in, slot_in, SlotFits, Searchable, FoundAt, FoundGap, InsertedIn, InsertedAt}
 use Rattle.groups.proofs.GroupLaws.{flip-less, flip-more}
 
 pub shape-in-length : (t : Shapes) (s : ℕ) (w : List ℕ) → SlotFits t s w → length (shape_in t s w) ≡ t.regions
@@ -94,47 +91,23 @@ module _ {t : Shapes} {n s : ℕ} {w : List ℕ} (r : Searchable t n s w) where
   pub search-done : {lo hi : ℕ} → Searching t n s w lo hi → hi ≤ lo → FoundGap t n s w lo
   search-done {lo} {hi} i h = record { most = omega (arith, i.within, i.most); behind = i.behind; ahead = λ k p q. i.ahead k (omega arith) q }
 
--- ---- inserting
+-- ---- inserting into a part that is lent
 
-pub record Inserting (at n i : ℕ) (old new : List ℕ) (k : ℕ) : Type 0 where
-  pub from : i ≤ k
-  pub within : k ≤ n
-  pub only : Only ((at, n + 1) ∷ []) old new
-  pub front : (j : ℕ) → j < k → get_or new (at + j) 0 ≡ get_or old (at + j) 0
-  pub back : (j : ℕ) → k < j → j ≤ n → get_or new (at + j) 0 ≡ get_or old (at + (j - 1)) 0
+module _ (at n i v : ℕ) (old s : List ℕ) (most : i ≤ n) (room : at + (n + 1) ≤ length old) (fits : length s ≡ at + (n + 1) - at)
+    (d : InsertedIn i v (take (at + (n + 1) - at) (drop at old)) s) where
+  before : (k : ℕ) → k < n + 1 → get_or (take (at + (n + 1) - at) (drop at old)) k 0 ≡ get_or old (at + k) 0
+  before k h = get_or-take (at + (n + 1) - at) (drop at old) k 0 (omega arith) ∙ get_or-drop at old k 0
 
-module _ (at n i : ℕ) (old : List ℕ) (p : i ≤ n) (room : at + n < length old) where
-  pub insert-start : Inserting at n i old old n
-  insert-start = record { from = p; within = omega arith; only = only-refl ((at, n + 1) ∷ []) old; front = λ j h. refl; back = λ j h l. absurd (omega arith) }
+  after : (k : ℕ) → k < n + 1 → get_or (put_mid at (at + (n + 1) - at) old s) (at + k) 0 ≡ get_or s k 0
+  after k h = sym (get_or-seg at (n + 1) (put_mid at (at + (n + 1) - at) old s) k h) ∙ ap (λ (x : List ℕ). get_or x k 0) (seg-mid at (n + 1) old s room fits)
 
-  module _ {new : List ℕ} {k : ℕ} (s : Inserting at n i old new k) where
-    pub insert-more : i < k → Inserting at n i old (set new (at + k) (get_or new (at + (k - 1)) 0)) (k - 1)
-    insert-more h =
-        let v = get_or new (at + (k - 1)) 0 in
-        let w = s.within in
-        record {
-          from = omega arith;
-          within = omega arith;
-          only = only-trans s.only (only_set ((at, n + 1) ∷ []) new (at + k) v (λ o. omega (arith, o.0.apart (omega arith))));
-          front = λ j l. get_or-set_other new (at + k) (at + j) v 0 (omega arith) ∙ s.front j (omega arith);
-          back = λ j l m. go j l m (tri k j);
-        }
-      where
-        go : (j : ℕ) → k - 1 < j → j ≤ n → Tri k j → get_or (set new (at + k) (get_or new (at + (k - 1)) 0)) (at + j) 0 ≡ get_or old (at + (j - 1)) 0
-        go j l m (below q) = get_or-set_other new (at + k) (at + j) _ 0 (omega arith) ∙ s.back j q m
-        go j l m (same q) =
-            rw (← q) (get_or-set_same new (at + k) (get_or new (at + (k - 1)) 0) 0 (omega (arith, s.within, s.only.long)) ∙ s.front (k - 1) (omega arith))
-        go j l m (above q) = absurd (omega arith)
-
-    pub insert-done : k ≤ i → (v : ℕ) → InsertedAt at n i v old (set new (at + i) v)
-    insert-done h v =
-        let e : k ≡ i = omega (arith, s.from) in
-        record {
-          only = only-trans s.only (only_set ((at, n + 1) ∷ []) new (at + i) v (λ o. omega (arith, o.0.apart (omega arith))));
-          front = λ j l. get_or-set_other new (at + i) (at + j) v 0 (omega arith) ∙ s.front j (omega arith);
-          here = get_or-set_same new (at + i) v 0 (omega (arith, s.only.long));
-          back = λ j l m. get_or-set_other new (at + i) (at + j) v 0 (omega arith) ∙ s.back j (omega arith) m;
-        }
+  pub inserted : InsertedAt at n i v old (put_mid at (at + (n + 1) - at) old s)
+  inserted = record {
+    only = only-mid at (n + 1) old s room fits;
+    front = λ k h. after k (omega arith) ∙ d.front k h ∙ before k (omega arith);
+    here = after i (omega arith) ∙ d.here;
+    back = λ k h l. after k (omega arith) ∙ d.back k h (omega arith) ∙ before (k - 1) (omega arith);
+  }
 
 -- ---- a slot lent as a part of the slice
 
@@ -154,16 +127,3 @@ module _ (t : Shapes) (s : ℕ) (w : List ℕ) where
 
   pub part_length : SlotFits t s w → length (take (t.slots + s * t.regions + t.regions - (t.slots + s * t.regions)) (drop (t.slots + s * t.regions) w)) ≡ t.regions
   part_length f = rw part-shape (shape-in-length t s w f)
-
--- what the comparison with the slot of group `mid` said
-pub slot-said : (t : Shapes) (s : ℕ) (w : List ℕ) (mid x : ℕ) (o p : Order) → x ≡ slot_in t mid w → o ≡ order (shape_in t s w) (shape_in t x w) → o ≡ p
-    → order (shape_in t s w) (shape_in t (slot_in t mid w) w) ≡ p
-slot-said t s w mid x o p e f g = ap (λ (y : ℕ). order (shape_in t s w) (shape_in t y w)) (sym e) ∙ sym f ∙ g
-
--- ---- the answers taken apart
-
-pub found_at : {t : Shapes} {n s : ℕ} {w : List ℕ} (r : Found) (i : ℕ) → r ≡ At i → FoundIn t n s w r → FoundAt t n s w i
-found_at {t} {n} {s} {w} r i e f = subst (λ (x : Found). FoundIn t n s w x) e f
-
-pub found-gap : {t : Shapes} {n s : ℕ} {w : List ℕ} (r : Found) (i : ℕ) → r ≡ Missing i → FoundIn t n s w r → FoundGap t n s w i
-found-gap {t} {n} {s} {w} r i e f = subst (λ (x : Found). FoundIn t n s w x) e f

@@ -1,6 +1,7 @@
 -- What lent words hold of the table of distinct shapes (`Shapes` of `src/lib.rt` says where it lies). Assumes nothing.
-use Rattle.std.specs.Prelude.{◌≡◌, true, List, [], ◌∷◌, ℕ, ◌+◌, ◌-◌, ◌*◌, ◌≤◌, ◌<◌, length, get_or}
-use Rattle.laws.specs.declared.Order.TheVariants.{Less, Greater}
+use Rattle.std.specs.Prelude.{◌≡◌, true, List, [], ◌∷◌, ℕ, ◌+◌, ◌-◌, ◌*◌, ◌≤◌, ◌<◌, length, get_or, MatchResult}
+use Rattle.std.specs.declared.result.Result.{Result}
+use Rattle.std.specs.declared.cmp.Ordering.TheVariants.{Less, Greater}
 use Rattle.laws.specs.Bounded.{tabulate}
 use Rattle.laws.specs.LentRange.{Only, seg}
 use Rattle.shapes.specs.Shape.{Shape, cost_of_row}
@@ -8,8 +9,6 @@ use Rattle.shapes.specs.Order.{order}
 use Rattle.shapes.specs.Group.{Group}
 use Rattle.shapes.specs.Lent.{Narrow}
 use Rattle.table.specs.declared.Shapes.{Shapes}
-use Rattle.table.specs.declared.Found.{Found}
-use Rattle.table.specs.declared.Found.TheVariants.{At, Missing}
 
 -- the shape in slot s
 unfoldable pub shape_in : Shapes → ℕ → List ℕ → Shape
@@ -53,9 +52,15 @@ pub record FoundGap (t : Shapes) (n s : ℕ) (w : List ℕ) (i : ℕ) : Type 0 w
   pub behind : (k : ℕ) → k < i → order (shape_in t s w) (shape_in t (slot_in t k w) w) ≡ Greater
   pub ahead : (k : ℕ) → i ≤ k → k < n → order (shape_in t s w) (shape_in t (slot_in t k w) w) ≡ Less
 
-abbrev pub FoundIn : Shapes → ℕ → ℕ → List ℕ → Found → Type 0
-FoundIn t n s w (At i) = FoundAt t n s w i
-FoundIn t n s w (Missing i) = FoundGap t n s w i
+-- it is at a number, or it is missing
+abbrev pub FoundIn : Shapes → ℕ → ℕ → List ℕ → Result ℕ ℕ → Type 0
+FoundIn t n s w r = MatchResult r (FoundAt t n s w) (FoundGap t n s w)
+
+-- v is the i-th word, and those behind it moved up
+pub record InsertedIn (i v : ℕ) (old new : List ℕ) : Type 0 where
+  pub front : (k : ℕ) → k < i → get_or new k 0 ≡ get_or old k 0
+  pub here : get_or new i 0 ≡ v
+  pub back : (k : ℕ) → i < k → k < length new → get_or new k 0 ≡ get_or old (k - 1) 0
 
 -- v is the i-th of the words from `at` on, and those behind it moved up
 pub record InsertedAt (at n i v : ℕ) (old new : List ℕ) : Type 0 where

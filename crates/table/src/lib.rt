@@ -5,14 +5,15 @@
 ghost use Rattle.std.specs.Prelude.{◌≡◌, ◌+◌, ◌*◌, ◌<◌, ◌≤◌, length};
 ghost use Rattle.shapes.specs.Shape.{cost_of_row};
 ghost use Rattle.shapes.specs.Order.{order};
-ghost use Rattle.table.specs.LentTable.{shape_in, SlotFits, Costed, Searchable, FoundIn, InsertedAt};
+ghost use Rattle.table.specs.LentTable.{shape_in, SlotFits, Costed, Searchable, FoundIn, InsertedIn};
 
-use laws::{Order, wide};
 use shapes::RowShape;
+use std::cmp::Ordering;
 
 // Where the table lies: the slots, one more than `room` of them, of `regions` words each, from `slots` on; the slot of each group number
 // from `order` on, and the count of sets of each slot from `counts` on, `room` words each. Where the table is `costed`, `room` words with the
-// row cost of each slot stand behind the counts, so that most steps of a search compare two numbers; else each step adds it up.
+// row cost of each slot stand behind the counts, so that most steps of a search compare two numbers; else each step adds it up. (Places in
+// `work` and not slices: merging goes on with the same slots, and `GroupedAt` says what stands where.)
 #[derive(Clone, Copy)]
 pub struct Shapes {
     pub regions: usize,
@@ -21,13 +22,6 @@ pub struct Shapes {
     pub order: usize,
     pub counts: usize,
     pub costed: bool,
-}
-
-// Where a shape is in the table: at a number, or missing, with the number before which it would come.
-#[derive(Clone, Copy)]
-pub enum Found {
-    At(usize),
-    Missing(usize),
 }
 
 // The row cost of the shape in slot s, added up.
@@ -53,7 +47,7 @@ fn known_cost(work: &[u32], t: Shapes, s: usize) -> u32
 }
 
 // How the shape in slot a, of that row cost, stands to the one in slot b.
-fn compare_slots(work: &[u32], t: Shapes, a: usize, cost: u32, b: usize) -> Order
+fn compare_slots(work: &[u32], t: Shapes, a: usize, cost: u32, b: usize) -> Ordering
     requires slot_fits { SlotFits t a work.now }
     requires cost_value { cost ≡ cost_of_row (shape_in t a work.now) }
     requires slot_fits_2 { SlotFits t b work.now }
@@ -71,35 +65,35 @@ fn compare_slots(work: &[u32], t: Shapes, a: usize, cost: u32, b: usize) -> Orde
     )
 }
 
-// Looks for the shape in slot s, of that row cost, among the first n numbers.
-fn search(work: &[u32], t: Shapes, n: usize, s: usize, cost: u32) -> Found
+// Looks for the shape in slot s, of that row cost, among the first n numbers. (The library's `binary_search_by` asks for a closure that may be
+// called at any word, and here only slots of the table may be compared.)
+fn search(work: &[u32], t: Shapes, n: usize, s: usize, cost: u32) -> Result<usize, usize>
     requires searchable { Searchable t n s work.now }
     requires cost_value { cost ≡ cost_of_row (shape_in t s work.now) }
     ensures { FoundIn t n s work.now result }
 {
     let mut lo = 0;
     let mut hi = n;
-    let base = t.order;
     while lo < hi {
         let mid = lo + (hi - lo) / 2;
-        let slot = wide(work[base + mid]);
+        let slot = work[t.order + mid] as usize;
         match compare_slots(work, t, s, cost, slot) {
-            Order::Less => {
+            Ordering::Less => {
                 hi = mid;
             }
-            Order::Equal => {
-                return Found::At(mid);
+            Ordering::Equal => {
+                return Ok(mid);
             }
-            Order::Greater => {
+            Ordering::Greater => {
                 lo = mid + 1;
             }
         }
     }
-    Found::Missing(lo)
+    Err(lo)
 }
 
-// Looks for the shape in slot s among the first n numbers.
-pub fn find_shape(work: &[u32], t: Shapes, n: usize, s: usize) -> Found
+// Looks for the shape in slot s among the first n numbers: where it is, or, where it is missing, the number before which it would come.
+pub fn find_shape(work: &[u32], t: Shapes, n: usize, s: usize) -> Result<usize, usize>
     requires { Searchable t n s work.now }
     ensures { FoundIn t n s work.now result }
 {
@@ -107,15 +101,12 @@ pub fn find_shape(work: &[u32], t: Shapes, n: usize, s: usize) -> Found
     search(work, t, n, s, cost)
 }
 
-// Makes v the i-th of n words from `at` on, moving the later ones up by one.
-pub fn insert_at(work: &mut [u32], at: usize, n: usize, i: usize, v: u32)
-    requires { (i ≤ n) × (at + n < length work.old) }
-    ensures { InsertedAt at n i v work.old work.new }
+// Makes v the i-th of the words, moving the later ones up by one; the last one is dropped.
+pub fn insert_at(words: &mut [u32], i: usize, v: u32)
+    requires { i < length words.old }
+    ensures { InsertedIn i v words.old words.new }
 {
-    let mut k = n;
-    while i < k {
-        work[at + k] = work[at + (k - 1)];
-        k -= 1;
-    }
-    work[at + i] = v;
+    let last = words.len() - 1;
+    words.copy_within(i..last, i + 1);
+    words[i] = v;
 }

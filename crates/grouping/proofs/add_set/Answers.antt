@@ -1,4 +1,4 @@
-use Rattle.grouping.proofs.GroupSteps.{slot-in, entries-before, add_fit, set-added, added-long}
+use Rattle.grouping.proofs.GroupSteps.{slot-in, entries-before, add_fit, set-added}
 use native.Mathlib.Omega.{arith}
 use Rattle.grouping.proofs.add_set.Goals as goal
 
@@ -13,9 +13,6 @@ shape_of-requires c = record { stored = c.requires.stored; work_bound = entries-
 
 pub add_shape-requires : goal.add_shape-requires
 add_shape-requires c = add_fit c.requires c.shape_of.ensures
-
-pub shape_of-work : goal.shape_of-work
-shape_of-work c = added-long _ _ _ _ c.args.kind _ _ c.add_shape.result (set-added c.requires c.shape_of.ensures _ c.add_shape.result c.add_shape.ensures)
 
 pub returns : goal.returns
 returns c = set-added c.requires c.shape_of.ensures _ c.add_shape.result c.add_shape.ensures

@@ -1,9 +1,6 @@
-use Prim.Native.Nat.{◌-◌}
-use Rattle.dealing.proofs.HomeSteps.{Homing}
+use Rattle.std.proofs.Common.{◌≡◌, ℕ, ◌-◌, ◌<◌, get_or}
+use Rattle.dealing.specs.LentHomes.{heir_place}
 use Rattle.dealing.proofs.homes.find_homes.Given as goal
 
 abbrev pub invariant-loop-i : goal.invariant-loop-i
-invariant-loop-i l = Homing l.t l.initial.work l.work l.i
-
-abbrev pub decreases-loop-i : goal.decreases-loop-i
-decreases-loop-i l = l.t.groups - l.i
+invariant-loop-i l = (j : ℕ) → j < l.i → get_or l.home (get_or l.from j 0) 0 ≡ get_or l.spot (heir_place l.into l.place j - 1) 0

@@ -1,9 +1,5 @@
-use Prim.Native.Nat.{◌-◌}
-use Rattle.dealing.proofs.HomeSteps.{Heading}
+use Rattle.std.proofs.Common.{◌≡◌, ℕ, ◌+◌, ◌*◌, ◌<◌, get_or}
 use Rattle.dealing.proofs.homes.heads.Given as goal
 
 abbrev pub invariant-loop-p : goal.invariant-loop-p
-invariant-loop-p l = Heading l.slots l.regions l.order l.m l.finals l.initial.work l.work l.p
-
-abbrev pub decreases-loop-p : goal.decreases-loop-p
-decreases-loop-p l = l.m - l.p
+invariant-loop-p l = (q : ℕ) → q < l.p → get_or l.finals (3 * q) 0 ≡ l.slots + get_or l.order q 0 * l.regions

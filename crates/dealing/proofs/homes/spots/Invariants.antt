@@ -1,9 +1,5 @@
-use Prim.Native.Nat.{◌-◌}
-use Rattle.dealing.proofs.HomeSteps.{Spotting}
+use Rattle.std.proofs.Common.{◌≡◌, ℕ, ◌<◌, get_or}
 use Rattle.dealing.proofs.homes.spots.Given as goal
 
 abbrev pub invariant-loop-p : goal.invariant-loop-p
-invariant-loop-p l = Spotting l.order l.m l.spot l.n l.initial.work l.work l.p
-
-abbrev pub decreases-loop-p : goal.decreases-loop-p
-decreases-loop-p l = l.m - l.p
+invariant-loop-p l = (q : ℕ) → q < l.p → get_or l.spot (get_or l.order q 0) 0 ≡ q

@@ -1,6 +1,5 @@
 use Rattle.encoder.proofs.OwnLaws.{ids-fit, rows_fit, slots-few, cover-fit, words-fit, cost-fit, own-done}
 use native.Mathlib.Omega.{arith}
-use borrow.Author.Rules.{rules}
 use Rattle.encoder.proofs.owning.own.Goals as goal
 
 pub own_ids-requires : goal.own_ids-requires
@@ -24,9 +23,6 @@ put_group-requires c = let q = c.requires in words-fit q.fit q.sets_nonzero c.ow
 
 pub cost_at-cost-requires : goal.cost_at-cost-requires
 cost_at-cost-requires c = let q = c.requires in cost-fit q.fit q.sets_nonzero c.own_ids.ensures c.own_ids-2.ensures c.cover.ensures c.put_group.ensures
-
-pub shape_of-work : goal.shape_of-work
-shape_of-work c = search rules
 
 pub returns : goal.returns
 returns c = let q = c.requires in own-done q.fit q.sets_nonzero c.own_ids.ensures c.own_ids-2.ensures c.cover.ensures c.put_group.ensures _ c.cost_at-cost.ensures

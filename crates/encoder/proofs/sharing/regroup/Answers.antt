@@ -1,7 +1,6 @@
 use native.Mathlib.Omega.{arith}
 use Rattle.encoder.proofs.ReadyLaws.{groups-fit}
 use Rattle.encoder.proofs.SharedLaws.{merges-less, arrange-fit, joined-groups}
-use borrow.Author.Rules.{rules}
 use Rattle.encoder.proofs.sharing.regroup.Goals as goal
 
 pub overflow_add-groups : goal.overflow_add-groups
@@ -9,9 +8,6 @@ overflow_add-groups c = omega (arith, groups-fit c.requires.fit, c.requires.fit.
 
 pub arrange-count-requires : goal.arrange-count-requires
 arrange-count-requires c = arrange-fit c.requires.fit c.requires.joined
-
-pub shape_of-work : goal.shape_of-work
-shape_of-work c = search rules
 
 pub returns : goal.returns
 returns c = λ old f o. joined-groups f o c.arrange-count.ensures

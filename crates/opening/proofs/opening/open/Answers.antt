@@ -33,4 +33,4 @@ pub returns-in_default : goal.returns-in_default
 returns-in_default c = read-full (collected c.requires.records_in_bounds.1 c.requires.records_in_bounds.2 (λ k. omega (arith, c.type_inv.job k)) c.requires.records_in_bounds.0 c.requires.records_in_bounds.3 c.requires.records_in_bounds.4 _ c.in_ok-counts.ensures.is.held c.in_ok-counts.ensures.only c.place_starts.ensures c.lay_out-places.ensures) _ _ c.in_ok-counts.ensures.is.taken _ (c.place_starts.ensures.only.long ∙ c.in_ok-counts.ensures.only.long) c.gather.ensures c.if-mode-ne0.false c.in_default.is
 
 pub returns : goal.returns
-returns c = read-groups (collected c.requires.records_in_bounds.1 c.requires.records_in_bounds.2 (λ k. omega (arith, c.type_inv.job k)) c.requires.records_in_bounds.0 c.requires.records_in_bounds.3 c.requires.records_in_bounds.4 _ c.in_ok-counts.ensures.is.held c.in_ok-counts.ensures.only c.place_starts.ensures c.lay_out-places.ensures) _ _ c.in_ok-counts.ensures.is.taken _ (c.place_starts.ensures.only.long ∙ c.in_ok-counts.ensures.only.long) c.gather.ensures c.if-mode-ne0.false _ _ c.in-Groups.is
+returns c = read-groups (collected c.requires.records_in_bounds.1 c.requires.records_in_bounds.2 (λ k. omega (arith, c.type_inv.job k)) c.requires.records_in_bounds.0 c.requires.records_in_bounds.3 c.requires.records_in_bounds.4 _ c.in_ok-counts.ensures.is.held c.in_ok-counts.ensures.only c.place_starts.ensures c.lay_out-places.ensures) _ _ c.in_ok-counts.ensures.is.taken _ (c.place_starts.ensures.only.long ∙ c.in_ok-counts.ensures.only.long) c.gather.ensures c.if-mode-ne0.false _ _ c.in-Some.is

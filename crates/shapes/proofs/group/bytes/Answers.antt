@@ -1,13 +1,6 @@
 use Rattle.laws.proofs.Products.{product}
-use borrow.Author.Rules.{rules}
 use native.Mathlib.Omega.{arith}
 use Rattle.shapes.proofs.group.bytes.Goals as goal
-
-pub overhead-requires : goal.overhead-requires
-overhead-requires c = search rules
-
-pub overflow_cast-result : goal.overflow_cast-result
-overflow_cast-result c = search rules
 
 pub overflow_mul-result : goal.overflow_mul-result
 overflow_mul-result c = omega (arith, product 262144 8589934592 {a = c.args.row} {b = c.args.sets} (omega arith) (omega arith))

@@ -1,15 +1,13 @@
-use Rattle.shaping.proofs.CoverSteps.{fit-zeroed, covered}
-use borrow.Author.Rules.{rules}
+use Rattle.std.proofs.Common.{arith, rules, ◌≡◌, replicate}
+use Rattle.shaping.proofs.CoverSteps.{fit-zeroed, covered, filled}
 use Rattle.shaping.proofs.covering.cover.Goals as goal
 
-pub zero_part-requires : goal.zero_part-requires
-zero_part-requires c = search rules
-
 pub join_each-requires : goal.join_each-requires
-join_each-requires c = fit-zeroed c.requires c.zero_part.ensures
-
-pub shape_of-work : goal.shape_of-work
-shape_of-work c = search rules
+join_each-requires c =
+    let z : c.fill.new.self ≡ replicate c.args.regions 0 = search rules in
+    fit-zeroed c.requires (filled c.args.at c.args.regions c.args.work.now c.fill.new.self (omega (arith, c.requires.at-to, c.requires.room)) z)
 
 pub returns : goal.returns
-returns c = covered c.requires c.zero_part.ensures c.join_each.ensures
+returns c =
+    let z : c.fill.new.self ≡ replicate c.args.regions 0 = search rules in
+    covered c.requires (filled c.args.at c.args.regions c.args.work.now c.fill.new.self (omega (arith, c.requires.at-to, c.requires.room)) z) c.join_each.ensures

@@ -1,4 +1,3 @@
-use Prim.Native.Nat.{◌-◌}
 use Rattle.shaping.proofs.CoverSteps.{cover-start, cover-stored, cover-before, cover-room, cover-apart, join-rooms, cover-next, cover-done}
 use native.Mathlib.Omega.{arith}
 use Rattle.shaping.proofs.covering.join_each.Goals as goal
@@ -12,17 +11,8 @@ shape_of-requires-in-loop-x c = record { stored = cover-stored c.requires c.loop
 pub join-requires : goal.join-requires
 join-requires c = record { n_in_bounds = (join-rooms c.requires c.loop-x.invariant (omega arith) c.shape_of.ensures).0; n_in_bounds_2 = (join-rooms c.requires c.loop-x.invariant (omega arith) c.shape_of.ensures).1; apart = cover-apart c.requires c.loop-x.invariant (omega arith) }
 
-pub overflow_add-x : goal.overflow_add-x
-overflow_add-x c = omega arith
-
-pub loop-x-smaller : goal.loop-x-smaller
-loop-x-smaller c = omega arith
-
 pub loop-x-preserved : goal.loop-x-preserved
 loop-x-preserved c = cover-next c.requires c.loop-x.invariant (omega arith) c.shape_of.ensures c.join.ensures
-
-pub shape_of-work : goal.shape_of-work
-shape_of-work c = c.loop-x.invariant.only.long
 
 pub returns : goal.returns
 returns c = cover-done c.requires c.loop-x.invariant (omega arith)
