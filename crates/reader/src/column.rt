@@ -2,7 +2,7 @@
 ghost use Rattle.std.specs.Prelude.{◌≡◌, ◌≤◌, ◌<◌};
 ghost use Rattle.reader.specs.Store.{column_start, column_width};
 
-// The column of a region, counted from 0.
+// The column of a region, counted from 0. No Option: that callers take it by `let .. else` on `Column` may not change.
 #[derive(Clone, Copy)]
 pub enum Column {
     At(usize),

@@ -57,12 +57,10 @@ fn find(s: &[u8], at: usize, n: usize, x: usize) -> Column
     requires n_in_bounds { at + 2 * n ≤ length s.now }
     ensures { result ≡ find x 0 (words s.now at n) }
 {
-    let mut j: usize = 0;
-    while j < n {
+    for j in 0..n {
         if be(s, at + 2 * j, 2) == x {
             return Column::At(j);
         }
-        j += 1;
     }
     Column::Missing
 }

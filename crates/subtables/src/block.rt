@@ -61,18 +61,14 @@ fn block_end(work: &[u32], sets: SetList, i: usize) -> usize
     requires i_lt_count { i < sets.count }
     ensures { (i < result) × (result ≤ sets.count) }
 {
-    let mut j = i;
-    while j < sets.count {
+    let end = sets.count.min(i + BLOCK);
+    for j in i..end {
         let x = work[sets.ids + j] as usize;
-        j += 1;
         if odd(work, sets.index, x) {
-            return j;
-        }
-        if BLOCK <= j - i {
-            return j;
+            return j + 1;
         }
     }
-    j
+    end
 }
 
 // One row for each of the sets of a block, each written into its own part of the output.
@@ -95,12 +91,10 @@ fn write_block(
 {
     let n = column_at(word, cols.len());
     let mut a = at;
-    let mut i: usize = 0;
-    while i < sets.count {
+    for i in 0..sets.count {
         let x = work[sets.ids + i] as usize;
         write_set(&mut out[a..], word, cols, places, work, sets.index, x);
         a += n;
-        i += 1;
     }
     a
 }

@@ -11,21 +11,14 @@ use rows::{column_of, put};
 fn twos(word: u32) -> u32
     ensures { result ≡ twos 4 (value word) }
 {
-    if word < 0x8000_0000 {
-        return word + 0x8000_0000;
-    }
-    word - 0x8000_0000
+    word.wrapping_add(0x8000_0000)
 }
 
 fn clear_row(row: &mut [u8], n: usize)
     requires { n ≤ length row.old }
     ensures { row.new ≡ replicate n 0 ++ drop n row.old }
 {
-    let mut i: usize = 0;
-    while i < n {
-        row[i] = 0;
-        i += 1;
-    }
+    row[..n].fill(0);
 }
 
 // Puts each value of the set of count entries from start on into its column; a region with no column is skipped.
@@ -46,9 +39,7 @@ fn lay(
     requires count_in_bounds { start + 2 * count ≤ length work.now }
     ensures { row.new ≡ row_bytes word 0 (cell_words (entries_at start count work.now) cols.now) ++ drop (column_start word (length cols.now)) row.old }
 {
-    let mut i = count;
-    while 0 < i {
-        i -= 1;
+    for i in (0..count).rev() {
         let region = work[start + 2 * i] as usize;
         let value = work[start + 2 * i + 1];
         let Column::At(j) = column_of(places, region) else {

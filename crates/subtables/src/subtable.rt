@@ -30,13 +30,10 @@ fn write_indexes(out: &mut [u8], at: usize, cols: &[u32], numbers: &[u32]) -> us
     requires cols_in_bounds { at + 2 * length cols.now ≤ length out.old }
     ensures { Put at (index_bytes (number_in numbers.now) cols.now) out.old out.new result }
 {
-    let mut j: usize = 0;
-    while j < cols.len() {
-        let region = cols[j] as usize;
-        put(out, at + 2 * j, 2, numbers[region]);
-        j += 1;
+    for (j, region) in cols.iter().enumerate() {
+        put(out, at + 2 * j, 2, numbers[*region as usize]);
     }
-    at + 2 * j
+    at + 2 * cols.len()
 }
 
 // One subtable of the sets' rows. One of no rows is null, and has no bytes.
@@ -91,15 +88,13 @@ pub fn write_runs(
 {
     let runs = run_count(sets.count);
     let mut a = at;
-    let mut k: usize = 0;
-    while k < runs {
+    for k in 0..runs {
         let run = SetList {
             index: sets.index,
             ids: sets.ids + Encoding::MAX_ITEMS * k,
             count: run_items(sets.count, k),
         };
         a = write_table(out, a, word, cols, places, numbers, work, run);
-        k += 1;
     }
     a
 }

@@ -1,44 +1,19 @@
 use borrow.Author.Tests.{lt-ltb, le-ltb}
 use native.Mathlib.Omega.{arith}
 use Rattle.reader.specs.Store.{column_start}
-use borrow.Author.Rules.{rules}
 use Rattle.reader.proofs.column.column_at.Goals as goal
-
-pub overflow_mul-result : goal.overflow_mul-result
-overflow_mul-result c = search rules
 
 pub returns-then-j-w : goal.returns-then-j-w
 unfolding column_start
 returns-then-j-w c = record { value = simp (lt-ltb _ _ c.if-word-lt32768.true, lt-ltb _ _ c.if-j-w.true); upper_bound = omega arith }
 
-pub overflow_mul-result-then-word-lt32768 : goal.overflow_mul-result-then-word-lt32768
-overflow_mul-result-then-word-lt32768 c = search rules
-
-pub overflow_mul-result-then-word-lt32768-2 : goal.overflow_mul-result-then-word-lt32768-2
-overflow_mul-result-then-word-lt32768-2 c = search rules
-
-pub overflow_add-result : goal.overflow_add-result
-overflow_add-result c = search rules
-
 pub returns-then-word-lt32768 : goal.returns-then-word-lt32768
 unfolding column_start
 returns-then-word-lt32768 c = record { value = simp (lt-ltb _ _ c.if-word-lt32768.true, le-ltb _ _ c.if-j-w.false); upper_bound = omega arith }
 
-pub overflow_mul-result-then-j-w-2 : goal.overflow_mul-result-then-j-w-2
-overflow_mul-result-then-j-w-2 c = search rules
-
 pub returns-then-j-w-2 : goal.returns-then-j-w-2
 unfolding column_start
 returns-then-j-w-2 c = record { value = simp (le-ltb _ _ c.if-word-lt32768.false, lt-ltb _ _ c.if-j-w-2.true); upper_bound = omega arith }
-
-pub overflow_mul-result-2 : goal.overflow_mul-result-2
-overflow_mul-result-2 c = search rules
-
-pub overflow_mul-result-3 : goal.overflow_mul-result-3
-overflow_mul-result-3 c = search rules
-
-pub overflow_add-result-2 : goal.overflow_add-result-2
-overflow_add-result-2 c = search rules
 
 pub returns : goal.returns
 unfolding column_start

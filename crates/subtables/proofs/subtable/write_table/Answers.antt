@@ -7,7 +7,6 @@ use Rattle.rows.specs.Lent.{number_in, set_at}
 use Rattle.rows.proofs.PutLaws.{index-length}
 use Rattle.rows.proofs.RunLaws.{empty-put, head-length, table-room, table-put}
 use native.Mathlib.Omega.{arith}
-use borrow.Author.Rules.{rules}
 use Rattle.subtables.proofs.subtable.write_table.Goals as goal
 
 pub returns-then-sets-eq0 : goal.returns-then-sets-eq0
@@ -34,9 +33,6 @@ write_rows-requires c =
     table-room (number_in a.numbers.now) a.word a.cols.now (set_at a.sets.index a.work.now) (seg a.sets.ids a.sets.count a.work.now) a.sets.count a.at a.out.now (length-seg a.sets.ids a.sets.count a.work.now c.requires.count_in_bounds) c.requires.work_in_bounds c.if-sets-eq0.false in
     let a = c.args in
     record { word_bound = c.requires.word_bound; cols_len_bound = c.requires.cols_len_bound; placed = c.requires.placed; count_in_bounds = c.requires.count_in_bounds; all = c.requires.all; cols_in_bounds = omega (arith, room, c.write_head-a.ensures.end, c.write_head-a.auto.out, head-length a.sets.count a.word (length a.cols.now), c.write_indexes-b.ensures.end, c.write_indexes-b.auto.out, index-length (number_in a.numbers.now) a.cols.now) }
-
-pub shape_of-out : goal.shape_of-out
-shape_of-out c = search rules
 
 pub returns : goal.returns
 returns c =
