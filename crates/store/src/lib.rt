@@ -32,13 +32,9 @@ pub fn mark_shape(work: &mut [u32], shape: usize, regions: usize, marks: usize)
     requires regions_in_bounds { marks + regions ≤ length work.old }
     ensures { NamedIn shape regions marks work.old work.new }
 {
-    let mut r: usize = 0;
-    while r < regions {
+    for r in 0..regions {
         if work[shape + r] != 0 {
             work[marks + r] = 1;
-            r += 1;
-        } else {
-            r += 1;
         }
     }
 }
@@ -76,10 +72,8 @@ pub fn map_run(work: &[u32], ids: usize, items: usize, outer: usize, map: &mut [
     requires all { All (λ x. x < length map.old) (seg ids items work.now) }
     ensures { map.new ≡ stored (in_run outer 0 (seg ids items work.now)) map.old }
 {
-    let mut i: usize = 0;
-    while i < items {
+    for i in 0..items {
         let x = work[ids + i] as usize;
         map[x] = (outer * 65536 + i) as u32;
-        i += 1;
     }
 }
