@@ -6,11 +6,9 @@ ghost use Rattle.glyphs.specs.Packing.{together, inner_bit_count, entry_of, byte
 pub fn together(words: &[u32]) -> u32
     ensures { result ≡ together words.now }
 {
-    let mut all: u32 = 0;
-    let mut i: usize = 0;
-    while i < words.len() {
-        all = all | words[i];
-        i += 1;
+    let mut all = 0;
+    for word in words {
+        all |= *word;
     }
     all
 }

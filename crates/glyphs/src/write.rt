@@ -76,11 +76,9 @@ fn write_entries(
     ensures { Put at (entries_of size bits (take count words.now)) out.old out.new result }
 {
     let mut a = at;
-    let mut i: usize = 0;
-    while i < count {
-        put(out, a, size, entry(bits, words[i]));
+    for word in &words[..count] {
+        put(out, a, size, entry(bits, *word));
         a += size;
-        i += 1;
     }
     a
 }

@@ -21,11 +21,9 @@ fn map_runs(work: &[u32], ids: usize, count: usize, first: usize, map: &mut [u32
     ensures upper_bound { result ≤ first + 17 }
 {
     let runs = run_count(count);
-    let mut k: usize = 0;
-    while k < runs {
+    for k in 0..runs {
         let from = ids + Encoding::MAX_ITEMS * k;
         map_run(work, from, run_items(count, k), first + k, map);
-        k += 1;
     }
     first + runs
 }
@@ -53,10 +51,8 @@ pub fn write_map(work: &[u32], t: Finals, map: &mut [u32])
     requires by_index_3 { (g : ℕ) → g < t.count → IdsBelow (length map.old) work.now (t.groups + 3 * g) }
     ensures { map.new ≡ stored (id_words 0 (all_runs (finals_at t.regions t.groups t.count work.now))) map.old }
 {
-    let mut first: usize = 0;
-    let mut g: usize = 0;
-    while g < t.count {
+    let mut first = 0;
+    for g in 0..t.count {
         first = map_group(work, t, t.groups + 3 * g, first, map);
-        g += 1;
     }
 }

@@ -1,4 +1,6 @@
-use Rattle.widths.proofs.AnswerLaws.{many-answer, many-left, short-answer, short-left, bare-answer, bare-left, cut-answer, cut_left, done-small, done-answer, done-left}
+use mathlib.Core.Path.{sym, ◌∙◌}
+use borrow.Author.Tests.{eqb-true, eqb-false}
+use Rattle.widths.proofs.AnswerLaws.{room-is, many-answer, many-left, short-answer, short-left, bare-answer, bare-left, cut-answer, cut_left, done-small, done-answer, done-left}
 use native.Mathlib.Omega.{arith}
 use borrow.Author.Rules.{rules}
 use Rattle.widths.proofs.write.write_widths.Goals as goal
@@ -9,21 +11,18 @@ returns-then-words-gt-MOST c =
     let h = c.if-words-gt-MOST.true in
     record { value = many-answer a.store.now a.words.now a.out.now h; out_after = many-left a.store.now a.words.now a.out.now h }
 
-pub room-end-requires : goal.room-end-requires
-room-end-requires c = search rules
-
 pub returns-then-end-lt20 : goal.returns-then-end-lt20
 returns-then-end-lt20 c =
     let a = c.args in
     let few = c.if-words-gt-MOST.false in
-    let e = c.room-end.ensures.value in
+    let e = room-is _ _ c.min-end.ensures in
     record { value = short-answer a.store.now a.words.now a.out.now few _ e (omega arith); out_after = short-left a.store.now a.words.now a.out.now few _ e (omega arith) }
 
 pub returns-then-end-store : goal.returns-then-end-store
 returns-then-end-store c =
     let a = c.args in
     let few = c.if-words-gt-MOST.false in
-    let e = c.room-end.ensures.value in
+    let e = room-is _ _ c.min-end.ensures in
     record { value = short-answer a.store.now a.words.now a.out.now few _ e (omega arith); out_after = short-left a.store.now a.words.now a.out.now few _ e (omega arith) }
 
 pub overflow_add-at : goal.overflow_add-at
@@ -32,15 +31,12 @@ overflow_add-at c = search rules
 pub write_front-requires : goal.write_front-requires
 write_front-requires c = search rules
 
-pub shape_of-out-then-words-eq0 : goal.shape_of-out-then-words-eq0
-shape_of-out-then-words-eq0 c = search rules
-
-pub returns-then-words-eq0 : goal.returns-then-words-eq0
-returns-then-words-eq0 c =
+pub returns-then-is_empty : goal.returns-then-is_empty
+returns-then-is_empty c =
     let a = c.args in
     let few = c.if-words-gt-MOST.false in
-    let e = c.room-end.ensures.value in
-    let none = c.if-words-eq0.true in
+    let e = room-is _ _ c.min-end.ensures in
+    let none = eqb-true _ _ (sym c.is_empty.ensures ∙ c.if-is_empty.true) in
     record { value = bare-answer a.store.now a.words.now a.out.now few _ e (omega arith) none; out_after = bare-left a.store.now a.words.now a.out.now few _ e (omega arith) none _ _ c.write_front.ensures }
 
 pub slice_bounds-write_glyphs-count : goal.slice_bounds-write_glyphs-count
@@ -68,8 +64,8 @@ pub returns-in_default : goal.returns-in_default
 returns-in_default c =
     let a = c.args in
     let few = c.if-words-gt-MOST.false in
-    let e = c.room-end.ensures.value in
-    let some = c.if-words-eq0.false in
+    let e = room-is _ _ c.min-end.ensures in
+    let some = eqb-false _ _ (sym c.is_empty.ensures ∙ c.if-is_empty.false) in
     let g = c.write_glyphs.ensures in
     record { value = cut-answer a.store.now a.words.now a.out.now few _ e (omega arith) some (omega arith) _ _ g.value c.in_default.is; out_after = cut_left a.store.now a.words.now a.out.now few _ e (omega arith) some (omega arith) _ _ g.value c.in_default.is _ g.out_after }
 
@@ -83,8 +79,8 @@ pub overflow_add-result : goal.overflow_add-result
 overflow_add-result c =
     let a = c.args in
     let few = c.if-words-gt-MOST.false in
-    let e = c.room-end.ensures.value in
-    let some = c.if-words-eq0.false in
+    let e = room-is _ _ c.min-end.ensures in
+    let some = eqb-false _ _ (sym c.is_empty.ensures ∙ c.if-is_empty.false) in
     let g = c.write_glyphs.ensures in
     omega (arith, done-small a.store.now a.words.now a.out.now few _ e (omega arith) some (omega arith) _ _ g.value c.in-Done.is)
 
@@ -95,7 +91,7 @@ pub returns : goal.returns
 returns c =
     let a = c.args in
     let few = c.if-words-gt-MOST.false in
-    let e = c.room-end.ensures.value in
-    let some = c.if-words-eq0.false in
+    let e = room-is _ _ c.min-end.ensures in
+    let some = eqb-false _ _ (sym c.is_empty.ensures ∙ c.if-is_empty.false) in
     let g = c.write_glyphs.ensures in
     record { value = done-answer a.store.now a.words.now a.out.now few _ e (omega arith) some (omega arith) _ _ g.value c.in-Done.is; out_after = done-left a.store.now a.words.now a.out.now few _ e (omega arith) some (omega arith) _ _ g.value c.in-Done.is _ _ _ g.out_after c.write_front-2.ensures }

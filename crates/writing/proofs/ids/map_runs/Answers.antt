@@ -13,9 +13,6 @@ use Rattle.store.proofs.MapLaws.{runs-all, runs-more, runs_done}
 use native.Mathlib.Omega.{arith}
 use Rattle.writing.proofs.ids.map_runs.Goals as goal
 
-pub run_count-runs-requires : goal.run_count-runs-requires
-run_count-runs-requires c = omega (arith, c.requires.count_le_most_records)
-
 pub loop-k-init : goal.loop-k-init
 loop-k-init c =
     let a = c.args in
@@ -31,9 +28,6 @@ overflow_add-from c =
     let starts : 65535 * c.loop-k.k ≤ c.args.count = run-starts c.args.count c.loop-k.k (omega (arith, c.run_count-runs.ensures)) in
     omega (arith, starts, c.requires.count_in_bounds)
 
-pub run_items-requires : goal.run_items-requires
-run_items-requires c = record { k_bound = omega (arith, c.run_count-runs.ensures); count_bound = omega (arith, c.requires.count_le_most_records) }
-
 pub overflow_add-first : goal.overflow_add-first
 overflow_add-first c =
     let few : c.loop-k.k < 17 = omega (arith, c.run_count-runs.ensures, runs-few c.args.count c.requires.count_le_most_records) in
@@ -47,12 +41,6 @@ map_run-requires c =
     let h = starts in
     let e = c.run_items.ensures in
     record { in_bounds = omega (arith, c.requires.count_in_bounds); le_max_items = omega arith; outer_bound = omega (arith, few, c.requires.first_bound); all = rw c.loop-k.invariant.2 (all-part (λ x. x < length a.map.now) a.ids a.count _ _ a.work.now c.requires.count_in_bounds (omega arith) (omega arith) c.requires.all) }
-
-pub overflow_add-k : goal.overflow_add-k
-overflow_add-k c = omega arith
-
-pub loop-k-smaller : goal.loop-k-smaller
-loop-k-smaller c = omega arith
 
 pub loop-k-preserved : goal.loop-k-preserved
 loop-k-preserved c =
@@ -71,9 +59,6 @@ loop-k-preserved c =
 
 pub overflow_add-result : goal.overflow_add-result
 overflow_add-result c = omega (arith, c.run_count-runs.ensures, runs-few c.args.count c.requires.count_le_most_records, c.requires.first_bound)
-
-pub shape_of-map : goal.shape_of-map
-shape_of-map c = c.loop-k.invariant.2
 
 pub returns : goal.returns
 returns c =

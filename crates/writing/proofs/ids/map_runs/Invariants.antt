@@ -15,6 +15,3 @@ invariant-loop-k l =
     × (l.k ≤ l.runs)
     × (length l.map ≡ length l.initial.map)
     × ((s : Shape) → stored (id_words (l.first + l.k) (tabulate l.k (run_count_for (length (seg l.ids l.count l.work)) - l.k) (λ i. record { shape = s; ids = run_at (seg l.ids l.count l.work) i }))) l.map ≡ stored (id_words l.first (runs_of (record { shape = s; ids = seg l.ids l.count l.work }))) l.initial.map)
-
-abbrev pub decreases-loop-k : goal.decreases-loop-k
-decreases-loop-k l = l.runs - l.k
