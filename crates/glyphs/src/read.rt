@@ -5,19 +5,7 @@ ghost use Rattle.reader.specs.Store.{Word};
 ghost use Rattle.glyphs.specs.Reading.{entries_from, count_in, is_map_ok, size_in, entry_of_glyph, place_of, read_map};
 
 use crate::width::power;
-use reader::be;
-
-// A glyph's word, outer x 65,536 + inner, or a refusal's number.
-#[derive(Clone, Copy)]
-pub enum Entry {
-    Word(u32),
-    Refused(u8),
-}
-
-impl Entry {
-    // The number of its refusal.
-    pub const BAD_GLYPH_MAP: u8 = 42;
-}
+use reader::{ReadError, be};
 
 // Where the entries of a map of this format start.
 fn start(format: usize) -> usize
@@ -95,18 +83,18 @@ fn entry_at(s: &[u8], glyph: usize) -> usize
     be(s, at, size)
 }
 
-// The word of a glyph: the entry's bits above the inner ones are its outer number.
-pub fn read_glyph(map: &[u8], glyph: u32) -> Entry
+// The word of a glyph, outer x 65,536 + inner: the entry's bits above the inner ones are its outer number.
+pub fn read_glyph(map: &[u8], glyph: u32) -> Result<u32, ReadError>
     ensures { result ≡ read_map map.now glyph }
 {
     if !map_ok(map) {
-        return Entry::Refused(Entry::BAD_GLYPH_MAP);
+        return Err(ReadError::BadGlyphMap);
     }
     let e = entry_at(map, glyph as usize);
     let p = power(be(map, 1, 1) % 16 + 1);
     let outer = e / p;
     if 65535 < outer {
-        return Entry::Refused(Entry::BAD_GLYPH_MAP);
+        return Err(ReadError::BadGlyphMap);
     }
-    Entry::Word((outer * 65536 + e % p) as u32)
+    Ok((outer * 65536 + e % p) as u32)
 }

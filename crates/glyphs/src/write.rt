@@ -2,28 +2,29 @@
 ghost use Rattle.std.specs.Prelude.{◌≡◌, ◌+◌, ◌*◌, ◌≤◌, ◌<◌, length, take};
 ghost use Rattle.rows.specs.Lent.{Put};
 ghost use Rattle.glyphs.specs.Packing.{head_of, head_for, head_length, entries_of};
-ghost use Rattle.glyphs.specs.Answers.{glyphs_of, glyphs_left};
+ghost use Rattle.glyphs.specs.Answers.{glyphs_of, glyphs_left, write_number};
 
 use crate::kept::kept;
 use crate::width::{bytes_for, entry, inner_bits, together};
 use rows::put;
 
-// The bytes written, or a refusal's number.
-#[derive(Clone, Copy)]
-pub enum Glyphs {
-    Done(usize),
-    Refused(u8),
+// Why a glyph map, or a width table, is not written, by the numbers that a host gets.
+#[derive(Clone, Copy, Debug, PartialEq, Eq)]
+pub enum WriteError {
+    TooManyGlyphs = 40,
+    GlyphMapShort = 41,
 }
 
-impl Glyphs {
-    // The most glyphs of a map.
-    pub const MOST: usize = 1048576;
+impl From<WriteError> for u64 {
+    ghost from_gives = { λ e n. n ≡ write_number e };
 
-    // The numbers of its refusals.
-    pub const TOO_MANY_GLYPHS: u8 = 40;
-
-    pub const GLYPH_MAP_SHORT: u8 = 41;
+    fn from(error: WriteError) -> u64 {
+        error as u64
+    }
 }
+
+// The most glyphs of a map.
+pub const MOST: usize = 1048576;
 
 // A head whose count has k bytes.
 fn put_head(out: &mut [u8], format: u32, k: usize, form: u32, count: u32)
@@ -83,13 +84,13 @@ fn write_entries(
     a
 }
 
-// Writes the map of a word for each glyph. Refused before the first byte, or written whole.
-pub fn write_glyphs(words: &[u32], out: &mut [u8]) -> Glyphs
+// Writes the map of a word for each glyph, and answers its bytes. Refused before the first byte, or written whole.
+pub fn write_glyphs(words: &[u32], out: &mut [u8]) -> Result<usize, WriteError>
     ensures value { result ≡ glyphs_of words.now (length out.old) }
     ensures out_after { out.new ≡ glyphs_left words.now out.old }
 {
-    if Glyphs::MOST < words.len() {
-        return Glyphs::Refused(Glyphs::TOO_MANY_GLYPHS);
+    if MOST < words.len() {
+        return Err(WriteError::TooManyGlyphs);
     }
     let all = together(words);
     let bits = inner_bits(all);
@@ -98,10 +99,10 @@ pub fn write_glyphs(words: &[u32], out: &mut [u8]) -> Glyphs
     let at = head_size(count);
     let bytes = at + count * size;
     if out.len() < bytes {
-        return Glyphs::Refused(Glyphs::GLYPH_MAP_SHORT);
+        return Err(WriteError::GlyphMapShort);
     }
     let form = (size - 1) * 16 + (bits - 1);
     write_head(out, form as u32, count);
     write_entries(out, at, words, count, bits, size);
-    Glyphs::Done(bytes)
+    Ok(bytes)
 }

@@ -1,26 +1,28 @@
 // Reads one value of an item variation store, whatever its bytes are.
 ghost use Rattle.std.specs.Prelude.{◌≡◌, true, ◌+◌, ◌*◌, ◌≤◌, ◌<◌, ◌^◌, length};
 ghost use Rattle.laws.specs.Signed.{signed};
-ghost use Rattle.reader.specs.Store.{words, is_header_ok, find, is_subtable_ok, subtable_reading, read_store};
+ghost use Rattle.reader.specs.Store.{words, is_header_ok, find, is_subtable_ok, read_number, subtable_reading, read_store};
 
 use crate::bytes::be;
 use crate::column::{Column, column_at, column_bytes};
 use crate::marks::columns_ok;
 
-#[derive(Clone, Copy)]
-pub enum Reading {
-    Written(i32),
-    NoColumn,
-    Refused(u8),
+// Why nothing is read of a store, of a glyph map or of a width table, by the numbers that a host gets.
+#[derive(Clone, Copy, Debug, PartialEq, Eq)]
+pub enum ReadError {
+    BadStore = 20,
+    NoRow = 21,
+    NoRegion = 22,
+    BadGlyphMap = 42,
+    BadWidths = 43,
 }
 
-impl Reading {
-    // The numbers of its refusals.
-    pub const BAD_STORE: u8 = 20;
+impl From<ReadError> for u64 {
+    ghost from_gives = { λ e n. n ≡ read_number e };
 
-    pub const NO_ROW: u8 = 21;
-
-    pub const NO_REGION: u8 = 22;
+    fn from(error: ReadError) -> u64 {
+        error as u64
+    }
 }
 
 pub fn header_ok(s: &[u8]) -> bool
@@ -111,46 +113,46 @@ fn signed(k: usize, x: usize) -> i32
     -1 - ((m - (x + 1)) as i32)
 }
 
-// The value that region has in row inner of the subtable at.
-fn read_subtable(s: &[u8], at: usize, inner: usize, region: usize) -> Reading
+// The value that region has in row inner of the subtable at; none where it has no column there.
+fn read_subtable(s: &[u8], at: usize, inner: usize, region: usize) -> Result<Option<i32>, ReadError>
     requires { (is_header_ok s.now ≡ true) × (at < 4294967296) }
     ensures { result ≡ subtable_reading s.now at inner region }
 {
     if at == 0 {
-        return Reading::Refused(Reading::NO_ROW);
+        return Err(ReadError::NoRow);
     }
     let list = be(s, 2, 4);
     let regions = be(s, list + 2, 2);
     if !subtable_ok(s, at, regions) {
-        return Reading::Refused(Reading::BAD_STORE);
+        return Err(ReadError::BadStore);
     }
     if be(s, at, 2) <= inner {
-        return Reading::Refused(Reading::NO_ROW);
+        return Err(ReadError::NoRow);
     }
     if regions <= region {
-        return Reading::Refused(Reading::NO_REGION);
+        return Err(ReadError::NoRegion);
     }
     let n = be(s, at + 4, 2);
     let Column::At(j) = find(s, at + 6, n, region) else {
-        return Reading::NoColumn;
+        return Ok(None);
     };
     let word = be(s, at + 2, 2);
     let k = column_bytes(word, j);
     let place = at + 6 + 2 * n + inner * column_at(word, n) + column_at(word, j);
-    Reading::Written(signed(k, be(s, place, k)))
+    Ok(Some(signed(k, be(s, place, k))))
 }
 
-// The value of a region of the store's list in row inner of subtable outer. Reads the header with its offsets, the region list's
+// The value of a region of the store's list in row inner of subtable outer; none where the region has no column there. Reads the header with its offsets, the region list's
 // counts and the named subtable, and nothing else.
-pub fn read(store: &[u8], outer: u32, inner: u32, region: u32) -> Reading
+pub fn read(store: &[u8], outer: u32, inner: u32, region: u32) -> Result<Option<i32>, ReadError>
     ensures { result ≡ read_store store.now outer inner region }
 {
     if !header_ok(store) {
-        return Reading::Refused(Reading::BAD_STORE);
+        return Err(ReadError::BadStore);
     }
     let o = outer as usize;
     if be(store, 6, 2) <= o {
-        return Reading::Refused(Reading::NO_ROW);
+        return Err(ReadError::NoRow);
     }
     let at = be(store, 8 + 4 * o, 4);
     read_subtable(store, at, inner as usize, region as usize)

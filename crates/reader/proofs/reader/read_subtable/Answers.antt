@@ -3,11 +3,10 @@ use mir.ValLaws.{to_z-of_z}
 use Prim.Native.Nat.{◌+◌, ◌*◌, ◌≤◌, ◌<◌}
 use lib.ListN.{length}
 use Rattle.reader.specs.declared.column.Column.TheVariants.{At}
-use Rattle.reader.specs.declared.reader.Reading.TheVariants.{Written}
 use mathlib.Core.Path.{◌≡◌, sym, ap, ◌∙◌}
 use borrow.Author.Tests.{eq-eqb, ne_eqb, le-leb, lt-leb, not-false}
 use native.Mathlib.Omega.{arith}
-use Rattle.reader.specs.Store.{subtable_reading, cell, column_start}
+use Rattle.reader.specs.Store.{Written, subtable_reading, cell, column_start}
 use Rattle.laws.specs.Bytes.{be}
 use Rattle.laws.proofs.Products.{row_fits}
 use Rattle.reader.proofs.StoreLaws.{header-fits, SubtableFits, subtable-fits, find-below, words-length}

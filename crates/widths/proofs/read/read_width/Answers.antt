@@ -1,3 +1,4 @@
+use Rattle.std.proofs.lemmas.Result.{err_from_is_err_and}
 use mathlib.Core.Path.{◌≡◌, sym, ◌∙◌}
 use mathlib.Core.Bool.{true}
 use borrow.Author.Tests.{not-true, not-false}
@@ -68,36 +69,25 @@ slice_bounds-read_glyph-end c = search rules
 pub read_glyph-requires : goal.read_glyph-requires
 read_glyph-requires c = search rules
 
-pub enum_known-w : goal.enum_known-w
-enum_known-w c = search rules
-
-pub slice_bounds-read-count-in-Word : goal.slice_bounds-read-count-in-Word
-slice_bounds-read-count-in-Word c =
+pub slice_bounds-read-count-2 : goal.slice_bounds-read-count-2
+slice_bounds-read-count-2 c =
     let good : is_table_ok c.args.table.now ≡ true = sym c.table_ok.ensures ∙ not-false _ c.if-not-table_ok.false-raw in
     let fits : TableFits c.args.table.now = table_fits _ (good) in
     omega (arith, (fits).store, c.be-store.ensures.is)
 
-pub slice_bounds-read-start-in-Word : goal.slice_bounds-read-start-in-Word
-slice_bounds-read-start-in-Word c =
+pub slice_bounds-read-start-2 : goal.slice_bounds-read-start-2
+slice_bounds-read-start-2 c =
     let good : is_table_ok c.args.table.now ≡ true = sym c.table_ok.ensures ∙ not-false _ c.if-not-table_ok.false-raw in
     let fits : TableFits c.args.table.now = table_fits _ (good) in
     omega (arith, (fits).store, c.be-store.ensures.is)
 
-pub slice_bounds-read-end-in-Word : goal.slice_bounds-read-end-in-Word
-slice_bounds-read-end-in-Word c = search rules
-
-pub read-requires-in-Word : goal.read-requires-in-Word
-read-requires-in-Word c = search rules
-
-pub enum_known-n : goal.enum_known-n
-enum_known-n c = search rules
-
-pub returns-in-Word : goal.returns-in-Word
-returns-in-Word c =
+pub returns : goal.returns
+returns c =
     let good : is_table_ok c.args.table.now ≡ true = sym c.table_ok.ensures ∙ not-false _ c.if-not-table_ok.false-raw in
-    word-answer c.args.table.now c.args.glyph c.args.region (good) _ _ c.be-store.ensures.is c.be-map.ensures.is c.if-map-eq0.false _ _ _ c.in-Word.is c.read_glyph.ensures c.read-in-Word.ensures
+    word-answer c.args.table.now c.args.glyph c.args.region (good) _ _ c.be-store.ensures.is c.be-map.ensures.is c.if-map-eq0.false _ _ _ c.in_ok-word.was c.read_glyph.ensures c.read-2.ensures
 
-pub returns-in-Refused : goal.returns-in-Refused
-returns-in-Refused c =
+pub returns-in_err-word : goal.returns-in_err-word
+returns-in_err-word c =
     let good : is_table_ok c.args.table.now ≡ true = sym c.table_ok.ensures ∙ not-false _ c.if-not-table_ok.false-raw in
-    bad-map c.args.table.now c.args.glyph c.args.region (good) _ _ c.be-store.ensures.is c.be-map.ensures.is c.if-map-eq0.false _ _ c.in-Refused.is c.read_glyph.ensures
+    let p = err_from_is_err_and c.from_residual.result c.from_residual.ensures.1 in
+    rw (p.1, p.2) (bad-map c.args.table.now c.args.glyph c.args.region (good) _ _ c.be-store.ensures.is c.be-map.ensures.is c.if-map-eq0.false _ _ c.in_err-word.was c.read_glyph.ensures)

@@ -1,3 +1,4 @@
+use Rattle.std.proofs.lemmas.Result.{err_from_is_err_and}
 use mathlib.Core.Path.{sym, ◌∙◌}
 use borrow.Author.Tests.{eqb-true, eqb-false}
 use Rattle.widths.proofs.AnswerLaws.{room-is, many-answer, many-left, short-answer, short-left, bare-answer, bare-left, cut-answer, cut_left, done-small, done-answer, done-left}
@@ -51,23 +52,15 @@ slice_bounds-write_glyphs-end c = search rules
 pub write_glyphs-requires : goal.write_glyphs-requires
 write_glyphs-requires c = search rules
 
-pub enum_known-n : goal.enum_known-n
-enum_known-n c = search rules
-
-pub enum_told-1 : goal.enum_told-1
-enum_told-1 c = search rules
-
-pub shape_of-out-in_default : goal.shape_of-out-in_default
-shape_of-out-in_default c = search rules
-
-pub returns-in_default : goal.returns-in_default
-returns-in_default c =
+pub returns-in_err-n : goal.returns-in_err-n
+returns-in_err-n c =
     let a = c.args in
     let few = c.if-words-gt-MOST.false in
     let e = room-is _ _ c.min-end.ensures in
     let some = eqb-false _ _ (sym c.is_empty.ensures ∙ c.if-is_empty.false) in
     let g = c.write_glyphs.ensures in
-    record { value = cut-answer a.store.now a.words.now a.out.now few _ e (omega arith) some (omega arith) _ _ g.value c.in_default.is; out_after = cut_left a.store.now a.words.now a.out.now few _ e (omega arith) some (omega arith) _ _ g.value c.in_default.is _ g.out_after }
+    let p = err_from_is_err_and c.from_residual.result c.from_residual.ensures.1 in
+    record { value = rw (p.1, p.2) (cut-answer a.store.now a.words.now a.out.now few _ e (omega arith) some (omega arith) _ g.value _ c.in_err-n.was); out_after = cut_left a.store.now a.words.now a.out.now few _ e (omega arith) some (omega arith) _ g.value _ c.in_err-n.was _ g.out_after }
 
 pub overflow_cast-at : goal.overflow_cast-at
 overflow_cast-at c = search rules
@@ -82,7 +75,7 @@ overflow_add-result c =
     let e = room-is _ _ c.min-end.ensures in
     let some = eqb-false _ _ (sym c.is_empty.ensures ∙ c.if-is_empty.false) in
     let g = c.write_glyphs.ensures in
-    omega (arith, done-small a.store.now a.words.now a.out.now few _ e (omega arith) some (omega arith) _ _ g.value c.in-Done.is)
+    omega (arith, done-small a.store.now a.words.now a.out.now few _ e (omega arith) some (omega arith) _ g.value _ c.in_ok-n.was)
 
 pub shape_of-out : goal.shape_of-out
 shape_of-out c = search rules
@@ -94,4 +87,4 @@ returns c =
     let e = room-is _ _ c.min-end.ensures in
     let some = eqb-false _ _ (sym c.is_empty.ensures ∙ c.if-is_empty.false) in
     let g = c.write_glyphs.ensures in
-    record { value = done-answer a.store.now a.words.now a.out.now few _ e (omega arith) some (omega arith) _ _ g.value c.in-Done.is; out_after = done-left a.store.now a.words.now a.out.now few _ e (omega arith) some (omega arith) _ _ g.value c.in-Done.is _ _ _ g.out_after c.write_front-2.ensures }
+    record { value = done-answer a.store.now a.words.now a.out.now few _ e (omega arith) some (omega arith) _ g.value _ c.in_ok-n.was; out_after = done-left a.store.now a.words.now a.out.now few _ e (omega arith) some (omega arith) _ g.value _ c.in_ok-n.was _ _ _ g.out_after c.write_front-2.ensures }
