@@ -2,6 +2,7 @@
 ghost use Rattle.std.specs.Prelude.{◌≡◌, ◌≤◌, length};
 ghost use Rattle.glyphs.specs.Packing.{count_of};
 
+#[tactic(auto, unfolding(crate::specs::Packing::count_of))]
 pub fn kept(words: &[u32]) -> usize
     ensures value { result ≡ count_of words.now }
     ensures upper_bound { result ≤ length words.now }

@@ -8,6 +8,7 @@ use crate::width::power;
 use reader::{ReadError, be};
 
 // Where the entries of a map of this format start.
+#[tactic(auto, unfolding(crate::specs::Reading::entries_from))]
 fn start(format: usize) -> usize
     ensures value { result ≡ entries_from format }
     ensures in_range { (4 ≤ result) × (result ≤ 6) }
@@ -19,6 +20,7 @@ fn start(format: usize) -> usize
 }
 
 // How many entries the map says that it has: a number of two bytes, or of four.
+#[tactic(auto, unfolding(crate::specs::Reading::count_in))]
 fn count(s: &[u8]) -> usize
     requires in_bounds { 4 ≤ length s.now }
     requires s_in_bounds { entries_from (be 1 s.now 0) ≤ length s.now }
@@ -31,6 +33,7 @@ fn count(s: &[u8]) -> usize
     be(s, 2, 4)
 }
 
+#[tactic(auto, unfolding(crate::specs::Reading::is_map_ok))]
 fn map_ok(s: &[u8]) -> bool
     ensures { result ≡ is_map_ok s.now }
 {
@@ -60,6 +63,7 @@ fn map_ok(s: &[u8]) -> bool
 }
 
 // The number of a glyph's entry: past the end the last.
+#[tactic(auto, unfolding(crate::specs::Reading::entry_of_glyph))]
 fn entry_no(n: usize, glyph: usize) -> usize
     requires { 0 < n }
     ensures value { result ≡ entry_of_glyph n glyph }
@@ -72,6 +76,7 @@ fn entry_no(n: usize, glyph: usize) -> usize
 }
 
 // The entry of a glyph, as it stands there.
+#[tactic(auto, unfolding(crate::specs::Reading::place_of))]
 fn entry_at(s: &[u8], glyph: usize) -> usize
     requires { is_map_ok s.now ≡ true }
     ensures word { Word (size_in s.now) s.now (place_of s.now glyph) result }
@@ -84,6 +89,7 @@ fn entry_at(s: &[u8], glyph: usize) -> usize
 }
 
 // The word of a glyph, outer x 65,536 + inner: the entry's bits above the inner ones are its outer number.
+#[tactic(auto, unfolding(crate::specs::Reading::read_map, crate::specs::Reading::word_of))]
 pub fn read_glyph(map: &[u8], glyph: u32) -> Result<u32, ReadError>
     ensures { result ≡ read_map map.now glyph }
 {

@@ -14,6 +14,7 @@ pub fn together(words: &[u32]) -> u32
 }
 
 // The bits that the inner numbers need together: what the leading zeros of all of them ored leave of 16.
+#[tactic(auto, unfolding(crate::specs::Packing::inner_bit_count))]
 pub fn inner_bits(all: u32) -> usize
     ensures value { result ≡ inner_bit_count all }
     ensures in_range { (1 ≤ result) × (result ≤ 16) }
@@ -36,6 +37,7 @@ pub fn power(bits: usize) -> usize
 }
 
 // A word as an entry: its outer number above the inner bits.
+#[tactic(auto, unfolding(crate::specs::Packing::entry_of))]
 pub fn entry(bits: usize, word: u32) -> u32
     requires { bits ≤ 16 }
     ensures { result ≡ entry_of bits word }
@@ -46,6 +48,7 @@ pub fn entry(bits: usize, word: u32) -> u32
 }
 
 // The fewest bytes that hold an entry.
+#[tactic(auto, unfolding(crate::specs::Packing::bytes_for_entry))]
 pub fn bytes_for(entry: u32) -> usize
     ensures value { result ≡ bytes_for_entry entry }
     ensures in_range { (1 ≤ result) × (result ≤ 4) }

@@ -1,5 +1,5 @@
 // Writes a glyph map: the head, then an entry for each word that is not a trailing repeat.
-ghost use Rattle.std.specs.Prelude.{◌≡◌, ◌+◌, ◌*◌, ◌≤◌, ◌<◌, length, take};
+ghost use Rattle.std.specs.Prelude.{◌≡◌, ◌+◌, ◌*◌, ◌≤◌, ◌<◌, length};
 ghost use Rattle.rows.specs.Lent.{Put};
 ghost use Rattle.glyphs.specs.Packing.{head_of, head_for, head_length, entries_of};
 ghost use Rattle.glyphs.specs.Answers.{glyphs_of, glyphs_left, write_number};
@@ -38,6 +38,7 @@ fn put_head(out: &mut [u8], format: u32, k: usize, form: u32, count: u32)
 }
 
 // The bytes of the head of so many entries.
+#[tactic(auto, unfolding(crate::specs::Packing::head_length))]
 fn head_size(count: usize) -> usize
     ensures value { result ≡ head_length count }
     ensures upper_bound { result ≤ 6 }
@@ -49,6 +50,7 @@ fn head_size(count: usize) -> usize
 }
 
 // Format 0 where the count has two bytes, else format 1.
+#[tactic(auto, unfolding(crate::specs::Packing::head_for))]
 fn write_head(out: &mut [u8], form: u32, count: usize)
     requires count_bound { count < 4294967296 }
     requires count_in_bounds { head_length count ≤ length out.old }
@@ -61,23 +63,15 @@ fn write_head(out: &mut [u8], form: u32, count: usize)
     put_head(out, 1, 4, form, count as u32);
 }
 
-// The entries of the first count words, each of `size` bytes.
-fn write_entries(
-    out: &mut [u8],
-    at: usize,
-    words: &[u32],
-    count: usize,
-    bits: usize,
-    size: usize,
-) -> usize
+// The entries of words, each of `size` bytes.
+fn write_entries(out: &mut [u8], at: usize, words: &[u32], bits: usize, size: usize) -> usize
     requires bits_bound { bits ≤ 16 }
     requires size_bound { size ≤ 4 }
-    requires count_in_bounds { count ≤ length words.now }
-    requires size_in_bounds { at + count * size ≤ length out.old }
-    ensures { Put at (entries_of size bits (take count words.now)) out.old out.new result }
+    requires size_in_bounds { at + length words.now * size ≤ length out.old }
+    ensures { Put at (entries_of size bits words.now) out.old out.new result }
 {
     let mut a = at;
-    for word in &words[..count] {
+    for word in words {
         put(out, a, size, entry(bits, *word));
         a += size;
     }
@@ -85,6 +79,7 @@ fn write_entries(
 }
 
 // Writes the map of a word for each glyph, and answers its bytes. Refused before the first byte, or written whole.
+#[tactic(auto, unfolding(crate::specs::Answers::glyphs_of, crate::specs::Answers::glyphs_left))]
 pub fn write_glyphs(words: &[u32], out: &mut [u8]) -> Result<usize, WriteError>
     ensures value { result ≡ glyphs_of words.now (length out.old) }
     ensures out_after { out.new ≡ glyphs_left words.now out.old }
@@ -103,6 +98,6 @@ pub fn write_glyphs(words: &[u32], out: &mut [u8]) -> Result<usize, WriteError>
     }
     let form = (size - 1) * 16 + (bits - 1);
     write_head(out, form as u32, count);
-    write_entries(out, at, words, count, bits, size);
+    write_entries(out, at, &words[..count], bits, size);
     Ok(bytes)
 }

@@ -56,6 +56,7 @@ fn size_group(work: &[u32], t: Finals, group: usize) -> Sum
 }
 
 // Of all groups.
+#[tactic(auto, unfolding(store::specs::Lent::sizes_at))]
 pub fn size_groups(work: &[u32], t: Finals) -> Sum
     requires regions_le_max_regions { t.regions ≤ max_regions }
     requires count_le_max_shapes { t.count ≤ max_shapes }

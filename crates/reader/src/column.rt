@@ -10,6 +10,7 @@ pub enum Column {
 }
 
 // Where column j begins in a row; of the column count, how long a row is.
+#[tactic(auto, unfolding(crate::specs::Store::column_start))]
 pub fn column_at(word: usize, j: usize) -> usize
     requires word_bound { word < 65536 }
     requires j_bound { j < 65536 }
@@ -30,6 +31,7 @@ pub fn column_at(word: usize, j: usize) -> usize
 }
 
 // The bytes of column j.
+#[tactic(auto, unfolding(crate::specs::Store::column_width))]
 pub fn column_bytes(word: usize, j: usize) -> usize
     ensures value { result ≡ column_width word j }
     ensures upper_bound { result ≤ 4 }

@@ -25,6 +25,7 @@ impl From<ReadError> for u64 {
     }
 }
 
+#[tactic(auto, unfolding(crate::specs::Store::is_header_ok))]
 pub fn header_ok(s: &[u8]) -> bool
     ensures { result ≡ is_header_ok s.now }
 {
@@ -54,6 +55,7 @@ pub fn header_ok(s: &[u8]) -> bool
 }
 
 // The first of the n region indexes from at on that is x.
+#[tactic(auto, unfolding(crate::specs::Store::find, crate::specs::Store::words))]
 fn find(s: &[u8], at: usize, n: usize, x: usize) -> Column
     requires n_bound { n < 65536 }
     requires n_in_bounds { at + 2 * n ≤ length s.now }
@@ -67,6 +69,7 @@ fn find(s: &[u8], at: usize, n: usize, x: usize) -> Column
     Column::Missing
 }
 
+#[tactic(auto, unfolding(crate::specs::Store::is_subtable_ok))]
 pub fn subtable_ok(s: &[u8], at: usize, regions: usize) -> bool
     requires { at < 4294967296 }
     ensures { result ≡ is_subtable_ok s.now at regions }
@@ -114,6 +117,7 @@ fn signed(k: usize, x: usize) -> i32
 }
 
 // The value that region has in row inner of the subtable at; none where it has no column there.
+#[tactic(auto, unfolding(crate::specs::Store::subtable_reading, crate::specs::Store::cell))]
 fn read_subtable(s: &[u8], at: usize, inner: usize, region: usize) -> Result<Option<i32>, ReadError>
     requires { (is_header_ok s.now ≡ true) × (at < 4294967296) }
     ensures { result ≡ subtable_reading s.now at inner region }
@@ -144,6 +148,7 @@ fn read_subtable(s: &[u8], at: usize, inner: usize, region: usize) -> Result<Opt
 
 // The value of a region of the store's list in row inner of subtable outer; none where the region has no column there. Reads the header with its offsets, the region list's
 // counts and the named subtable, and nothing else.
+#[tactic(auto, unfolding(crate::specs::Store::read_store))]
 pub fn read(store: &[u8], outer: u32, inner: u32, region: u32) -> Result<Option<i32>, ReadError>
     ensures { result ≡ read_store store.now outer inner region }
 {

@@ -47,6 +47,7 @@ pub struct Form {
 }
 
 // The regions of a shape's columns, wider first: three passes by width. The shape stands in work, and the columns come behind it.
+#[tactic(auto, unfolding(crate::specs::Columns::word_count, crate::specs::Columns::columns_of))]
 pub fn columns(work: &mut [u32], shape: usize, regions: usize, cols: usize) -> Form
     requires regions_bound { regions < 32768 }
     requires regions_bound_2 { shape + regions ≤ cols }
@@ -78,6 +79,7 @@ fn count_width(shape: &[u32], width: u32) -> usize
 }
 
 // The form of a shape's rows alone: its columns are counted and not written.
+#[tactic(auto, unfolding(crate::specs::Columns::word_count, crate::specs::Columns::columns_of))]
 pub fn form_alone(shape: &[u32]) -> Form
     requires { length shape.now < 32768 }
     ensures { (result.word ≡ word_count shape.now) × (result.count ≡ length (columns_of shape.now)) }

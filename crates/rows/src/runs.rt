@@ -6,6 +6,7 @@ ghost use Rattle.rows.specs.Subtable.{run_count_for};
 use shapes::Encoding;
 
 // How many runs a group of count sets is cut into; one of none is one null subtable.
+#[tactic(auto, unfolding(crate::specs::Subtable::run_count_for))]
 pub fn run_count(count: usize) -> usize
     requires { count < 4294967296 }
     ensures { result ≡ run_count_for count }

@@ -40,6 +40,7 @@ pub fn mark_shape(work: &mut [u32], shape: usize, regions: usize, marks: usize)
 }
 
 // The bytes of a subtable of n columns and rows of so many bytes; one of no rows has none.
+#[tactic(auto, unfolding(crate::specs::Lent::subtable_size))]
 pub fn table_size(n: usize, row: usize, items: usize) -> usize
     requires n_bound { n < 65536 }
     requires row_bound { row < 262144 }
@@ -54,6 +55,7 @@ pub fn table_size(n: usize, row: usize, items: usize) -> usize
 }
 
 // The offset to write for a subtable of a size.
+#[tactic(auto, unfolding(crate::specs::Lent::spot_of))]
 pub fn offset(at: usize, size: usize) -> u32
     requires { at < 4294967296 }
     ensures { result ≡ spot_of at size }

@@ -12,6 +12,7 @@ use rows::{copy, put};
 use store::Coords;
 
 // The coordinates of one region, which stand in the source as in the axis records of a job.
+#[tactic(auto, unfolding(store::specs::Lent::coords_at))]
 fn write_region(out: &mut [u8], at: usize, src: &[u8], from: usize, axes: usize) -> usize
     requires axes_bound { axes < 65536 }
     requires sourced { Sourced axes src.now from }

@@ -67,6 +67,7 @@ fn write_group_spots(
 }
 
 // Of all groups.
+#[tactic(auto, unfolding(store::specs::Lent::sizes_at))]
 pub fn write_spots(out: &mut [u8], at: usize, first: usize, work: &[u32], t: Finals) -> Spot
     requires regions_le_max_regions { t.regions ≤ max_regions }
     requires count_in_bounds { t.groups + 3 * t.count ≤ length work.now }

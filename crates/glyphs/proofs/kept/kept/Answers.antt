@@ -1,13 +1,8 @@
 use Prim.Native.Nat.{◌-◌, ◌+◌}
-use mathlib.Core.Path.{◌≡◌, refl, sym, ◌∙◌}
+use mathlib.Core.Path.{◌≡◌, sym, ◌∙◌}
 use native.Mathlib.Omega.{arith}
-use Rattle.glyphs.specs.Packing.{count_of}
 use Rattle.glyphs.proofs.KeptLaws.{kept-stop, kept_again, kept-short}
 use Rattle.glyphs.proofs.kept.kept.Goals as goal
-
-pub loop-i-init : goal.loop-i-init
-unfolding count_of
-loop-i-init c = (omega arith, omega arith, refl)
 
 pub returns-then-words-i : goal.returns-then-words-i
 returns-then-words-i c =

@@ -1,4 +1,4 @@
-use mathlib.Core.Path.{◌≡◌, refl}
+use mathlib.Core.Path.{◌≡◌}
 use native.Mathlib.Numerals.{add-one}
 use native.Mathlib.Omega.{arith}
 use Rattle.laws.specs.Bytes.{be}
@@ -7,10 +7,6 @@ use Rattle.std.proofs.lemmas.Grind.{common_steps}
 use lib.ListN.{get_or}
 use Prim.Native.Nat.{◌+◌}
 use Rattle.reader.proofs.bytes.be.Goals as goal
-
-pub loop-byte-init : goal.loop-byte-init
-unfolding be
-loop-byte-init c = (refl, omega arith)
 
 pub overflow_mul-x : goal.overflow_mul-x
 overflow_mul-x c = omega (arith, pow-top 3 {i = c.loop-byte.byte-index} (omega arith))

@@ -14,24 +14,24 @@ pub loop-i-init : goal.loop-i-init
 loop-i-init c = lay-start _ _ _ _ _ _ c.requires.row_value
 
 pub loop-i-preserved-in_default : goal.loop-i-preserved-in_default
-loop-i-preserved-in_default c = lay-skip _ _ _ _ _ _ _ _ c.loop-i.invariant (omega arith) (sym (c.column_of.ensures _ c.requires.placed) ∙ c.in_default.is)
+loop-i-preserved-in_default c = lay-skip _ _ _ _ _ _ _ _ c.loop-i.invariant (omega arith) (sym (c.column_of.ensures _ c.args.columns.placed) ∙ c.in_default.is)
 
 pub column_at-requires : goal.column_at-requires
 column_at-requires c =
-    let found : find (get_or c.args.work.now (c.args.start + 2 * (c.loop-i.i - 1)) 0) 0 c.args.cols.now ≡ At c.in-At.j = sym (c.column_of.ensures _ c.requires.placed) ∙ c.in-At.is in
-    let low : c.in-At.j < length c.args.cols.now = omega (arith, find-below _ _ _ _ (found)) in
-    record { word_bound = c.requires.word_bound; j_bound = omega (arith, low, c.requires.cols_len_bound) }
+    let found : find (get_or c.args.work.now (c.args.start + 2 * (c.loop-i.i - 1)) 0) 0 c.args.columns.regions.now ≡ At c.in-At.j = sym (c.column_of.ensures _ c.args.columns.placed) ∙ c.in-At.is in
+    let low : c.in-At.j < length c.args.columns.regions.now = omega (arith, find-below _ _ _ _ (found)) in
+    record { word_bound = c.args.columns.word_bound; j_bound = omega (arith, low, c.args.columns.few) }
 
 pub put-requires : goal.put-requires
 put-requires c =
-    let found : find (get_or c.args.work.now (c.args.start + 2 * (c.loop-i.i - 1)) 0) 0 c.args.cols.now ≡ At c.in-At.j = sym (c.column_of.ensures _ c.requires.placed) ∙ c.in-At.is in
-    let low : c.in-At.j < length c.args.cols.now = omega (arith, find-below _ _ _ _ (found)) in
-    omega (arith, at-fits c.args.word c.in-At.j (length c.args.cols.now) (low), c.column_at.ensures.value, c.column_bytes.ensures.value, c.loop-i.invariant.long, c.requires.cols_in_bounds)
+    let found : find (get_or c.args.work.now (c.args.start + 2 * (c.loop-i.i - 1)) 0) 0 c.args.columns.regions.now ≡ At c.in-At.j = sym (c.column_of.ensures _ c.args.columns.placed) ∙ c.in-At.is in
+    let low : c.in-At.j < length c.args.columns.regions.now = omega (arith, find-below _ _ _ _ (found)) in
+    omega (arith, at-fits c.args.columns.word c.in-At.j (length c.args.columns.regions.now) (low), c.column_at.ensures.value, c.column_bytes.ensures.value, c.loop-i.invariant.long, c.requires.row_in_bounds)
 
 pub loop-i-preserved : goal.loop-i-preserved
 loop-i-preserved c =
-    let found : find (get_or c.args.work.now (c.args.start + 2 * (c.loop-i.i - 1)) 0) 0 c.args.cols.now ≡ At c.in-At.j = sym (c.column_of.ensures _ c.requires.placed) ∙ c.in-At.is in
-    let e : c.put.new.out ≡ over c.loop-i.row (column_start c.args.word c.in-At.j) (column_width c.args.word c.in-At.j) (bytes_of (column_width c.args.word c.in-At.j) c.twos.result) =
+    let found : find (get_or c.args.work.now (c.args.start + 2 * (c.loop-i.i - 1)) 0) 0 c.args.columns.regions.now ≡ At c.in-At.j = sym (c.column_of.ensures _ c.args.columns.placed) ∙ c.in-At.is in
+    let e : c.put.new.out ≡ over c.loop-i.row (column_start c.args.columns.word c.in-At.j) (column_width c.args.columns.word c.in-At.j) (bytes_of (column_width c.args.columns.word c.in-At.j) c.twos.result) =
     rw (c.column_at.ensures.value, c.column_bytes.ensures.value) at c.put.ensures
     in
-    lay-put _ _ _ _ _ _ _ _ c.loop-i.invariant (omega arith) _ _ _ c.requires.placed.ok (found) (rw c.twos.ensures at e) c.put.auto.out
+    lay-put _ _ _ _ _ _ _ _ c.loop-i.invariant (omega arith) _ _ _ c.args.columns.placed.ok (found) (rw c.twos.ensures at e) c.put.auto.out
