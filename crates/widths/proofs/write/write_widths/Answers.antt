@@ -1,16 +1,9 @@
 use Rattle.std.proofs.lemmas.Result.{err_from_is_err_and}
 use mathlib.Core.Path.{sym, ◌∙◌}
 use borrow.Author.Tests.{eqb-true, eqb-false}
-use Rattle.widths.proofs.AnswerLaws.{room-is, many-answer, many-left, short-answer, short-left, bare-answer, bare-left, cut-answer, cut_left, done-small, done-answer, done-left}
+use Rattle.widths.proofs.AnswerLaws.{room-is, short-answer, short-left, bare-answer, bare-left, cut-answer, cut_left, done-small, done-answer, done-left}
 use native.Mathlib.Omega.{arith}
-use borrow.Author.Rules.{rules}
 use Rattle.widths.proofs.write.write_widths.Goals as goal
-
-pub returns-then-words-gt-MOST : goal.returns-then-words-gt-MOST
-returns-then-words-gt-MOST c =
-    let a = c.args in
-    let h = c.if-words-gt-MOST.true in
-    record { value = many-answer a.store.now a.words.now a.out.now h; out_after = many-left a.store.now a.words.now a.out.now h }
 
 pub returns-then-end-lt20 : goal.returns-then-end-lt20
 returns-then-end-lt20 c =
@@ -26,12 +19,6 @@ returns-then-end-store c =
     let e = room-is _ _ c.min-end.ensures in
     record { value = short-answer a.store.now a.words.now a.out.now few _ e (omega arith); out_after = short-left a.store.now a.words.now a.out.now few _ e (omega arith) }
 
-pub overflow_add-at : goal.overflow_add-at
-overflow_add-at c = search rules
-
-pub write_front-requires : goal.write_front-requires
-write_front-requires c = search rules
-
 pub returns-then-is_empty : goal.returns-then-is_empty
 returns-then-is_empty c =
     let a = c.args in
@@ -39,18 +26,6 @@ returns-then-is_empty c =
     let e = room-is _ _ c.min-end.ensures in
     let none = eqb-true _ _ (sym c.is_empty.ensures ∙ c.if-is_empty.true) in
     record { value = bare-answer a.store.now a.words.now a.out.now few _ e (omega arith) none; out_after = bare-left a.store.now a.words.now a.out.now few _ e (omega arith) none _ _ c.write_front.ensures }
-
-pub slice_bounds-write_glyphs-count : goal.slice_bounds-write_glyphs-count
-slice_bounds-write_glyphs-count c = search rules
-
-pub slice_bounds-write_glyphs-start : goal.slice_bounds-write_glyphs-start
-slice_bounds-write_glyphs-start c = search rules
-
-pub slice_bounds-write_glyphs-end : goal.slice_bounds-write_glyphs-end
-slice_bounds-write_glyphs-end c = search rules
-
-pub write_glyphs-requires : goal.write_glyphs-requires
-write_glyphs-requires c = search rules
 
 pub returns-in_err-n : goal.returns-in_err-n
 returns-in_err-n c =
@@ -62,12 +37,6 @@ returns-in_err-n c =
     let p = err_from_is_err_and c.from_residual.result c.from_residual.ensures.1 in
     record { value = rw (p.1, p.2) (cut-answer a.store.now a.words.now a.out.now few _ e (omega arith) some (omega arith) _ g.value _ c.in_err-n.was); out_after = cut_left a.store.now a.words.now a.out.now few _ e (omega arith) some (omega arith) _ g.value _ c.in_err-n.was _ g.out_after }
 
-pub overflow_cast-at : goal.overflow_cast-at
-overflow_cast-at c = search rules
-
-pub write_front-requires-2 : goal.write_front-requires-2
-write_front-requires-2 c = search rules
-
 pub overflow_add-result : goal.overflow_add-result
 overflow_add-result c =
     let a = c.args in
@@ -76,9 +45,6 @@ overflow_add-result c =
     let some = eqb-false _ _ (sym c.is_empty.ensures ∙ c.if-is_empty.false) in
     let g = c.write_glyphs.ensures in
     omega (arith, done-small a.store.now a.words.now a.out.now few _ e (omega arith) some (omega arith) _ g.value _ c.in_ok-n.was)
-
-pub shape_of-out : goal.shape_of-out
-shape_of-out c = search rules
 
 pub returns : goal.returns
 returns c =
