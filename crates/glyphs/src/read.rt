@@ -69,10 +69,7 @@ fn entry_no(n: usize, glyph: usize) -> usize
     ensures value { result ≡ entry_of_glyph n glyph }
     ensures upper_bound { result < n }
 {
-    if glyph < n {
-        return glyph;
-    }
-    n - 1
+    glyph.min(n - 1)
 }
 
 // The entry of a glyph, as it stands there.

@@ -20,11 +20,7 @@ pub fn inner_bits(all: u32) -> usize
     ensures in_range { (1 ≤ result) × (result ≤ 16) }
 {
     let inner = (all % 65536) as u16;
-    let bits = 16 - u16::leading_zeros(inner);
-    if bits == 0 {
-        return 1;
-    }
-    bits as usize
+    (16 - inner.leading_zeros()).max(1) as usize
 }
 
 // How many numbers the inner bits have.

@@ -95,13 +95,7 @@ fn span(k: usize) -> usize
     requires { k ≤ 4 }
     ensures { result ≡ 256 ^ k }
 {
-    match k {
-        0 => 1,
-        1 => 256,
-        2 => 65536,
-        3 => 16777216,
-        _ => 4294967296,
-    }
+    1 << (8 * k)
 }
 
 // A number of k bytes as two's complement.
