@@ -77,10 +77,6 @@ unfolding read_map
 bad-map s g h = rw h
 
 module _ (s : List ℕ) (g : ℕ) (ok : is_map_ok s ≡ true) (e p : ℕ) (f : e ≡ be (size_in s) s (place_of s g)) (q : p ≡ 2 ^ bits_in s) where
-  pub outer-large : 65535 < e / p → Err BadGlyphMap ≡ read_map s g
-  unfolding read_map word_of
-  outer-large h = rw (ok, ← f, ← q, lt-ltb 65535 (e / p) h)
-
   pub word-there : e / p ≤ 65535 → Ok (e / p * 65536 + e % p) ≡ read_map s g
   unfolding read_map word_of
   word-there h = rw (ok, ← f, ← q, le-ltb 65535 (e / p) h)

@@ -93,9 +93,6 @@ module _ (size bits : ℕ) (ws : List ℕ) (at : ℕ) (old : List ℕ) (room : a
   unfolding entries_of
   rest-step i h = rw (drop-cons ws i 0 h, add-one)
 
-  pub entries-start : Putting at all old old at (rest 0)
-  entries-start = put-start at all old
-
   module _ (new : List ℕ) (a i : ℕ) (p : Putting at all old new a (rest i)) (h : i < length ws) where
     -- this entry lies in the output
     pub entries-room : a + size ≤ length new

@@ -6,8 +6,7 @@ use native.Mathlib.Nat.{add-zero}
 use native.Mathlib.Numerals.{add-one}
 use native.Mathlib.Omega.{arith}
 use lib.ListN.{length, drop, set, take-append-drop}
-use lib.Seq.{set_split, drop-drop}
-use borrow.Rule.Slice.PartMut.{put_mid}
+use lib.Seq.{set_split}
 use Rattle.laws.specs.Bytes.{over}
 use Rattle.laws.proofs.BytesLaws.{over-take, over-drop}
 
@@ -27,7 +26,3 @@ set-over out i v h = rw (set_split out i v h, add-one)
 -- a front replaced
 pub over-front : (out bs : List ℕ) (n : ℕ) → over out 0 n bs ≡ bs ++ drop n out
 over-front out bs n = let e : 0 + n ≡ n = omega arith in rw e
-
--- a part that is lent and written whole
-pub mid-over : (out : List ℕ) (at k : ℕ) (bs seen : List ℕ) → k ≡ length bs → seen ≡ bs → put_mid at k out seen ≡ over out at (length bs) bs
-mid-over out at k bs seen e f = rw (f, e, drop-drop (length bs) at out)

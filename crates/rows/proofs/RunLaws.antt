@@ -2,7 +2,7 @@
 use mathlib.Core.Path.{◌≡◌, refl, sym, ap, ◌∙◌}
 use mathlib.Core.List.{List, [], ◌∷◌, ◌++◌}
 use mathlib.Core.Logic.{⊎_elim}
-use Prim.Native.Nat.{ℕ, suc, ◌+◌, ◌-◌, ◌*◌, ◌/◌, ◌≤◌, ◌<◌, min, max, ◌%◌}
+use Prim.Native.Nat.{ℕ, suc, ◌+◌, ◌-◌, ◌*◌, ◌/◌, ◌≤◌, ◌<◌, min}
 use native.Mathlib.Numerals.{add-one}
 use native.Mathlib.Omega.{arith}
 use lib.ListN.{length, take, drop, length-append}
@@ -83,13 +83,6 @@ run_none n e = rw (eq-eqb n 0 e)
 pub run-some : (n : ℕ) → (n ≡ 0 → ⊥) → (n + (max_items - 1)) / max_items ≡ run_count_for n
 unfolding run_count_for
 run-some n h = rw (ne_eqb n 0 h)
-
--- as the code counts them
-pub run-ceil : (n r : ℕ) → r ≡ n / max_items + min 1 (n % max_items) → max r 1 ≡ run_count_for n
-run-ceil n r e = ⊎_elim
-    (λ (p : n < 1). omega (arith, run_none n (omega arith)))
-    (λ (p : 1 ≤ n). omega (arith, run-some n (omega arith)))
-    (lt-or-ge n 1)
 
 pub run-starts : (n k : ℕ) → k < run_count_for n → max_items * k ≤ n
 run-starts n k h = ⊎_elim
