@@ -14,8 +14,7 @@ use Rattle.laws.proofs.Cases.{lt-or-ge, same_or_not, true-false}
 use Rattle.laws.proofs.SignedLaws.{value-below, value-above}
 use Rattle.shapes.proofs.WidthLaws.{cost-none}
 use Rattle.sets.specs.Set.{Set, word_of}
-use Rattle.reader.specs.declared.reader.Reading.TheVariants.{Written, NoColumn}
-use Rattle.reader.specs.Store.{read_store, value_of}
+use Rattle.reader.specs.Store.{Written, NoColumn, read_store, value_of}
 use Rattle.laws.proofs.RankLaws.{rank_less, rank-onto, kept_at}
 use Rattle.rows.specs.Row.{value_in, Covers}
 use Rattle.store.specs.Placing.{Final, all_runs, id_words, names, kept_of, new_index, store_of, stored}

@@ -9,18 +9,17 @@ use native.Mathlib.Nat.{mul_comm}
 use native.Mathlib.Omega.{arith}
 use lib.ListN.{length, get_or, take, drop}
 use borrow.Author.Tests.{lt-ltb, ne_eqb}
+use Rattle.std.specs.Prelude.{Ok}
 use Rattle.laws.specs.Every.{All}
 use Rattle.laws.specs.LentRange.{seg}
 use Rattle.laws.proofs.BoundedLaws.{length-tabulate, get_or-tabulate}
 use Rattle.laws.proofs.EveryLaws.{all-intro}
-use Rattle.reader.specs.declared.reader.Reading.TheVariants.{Written}
-use Rattle.reader.specs.Store.{list_at, read_store, value_of, region_count}
+use Rattle.reader.specs.Store.{Written, list_at, read_store, value_of, region_count}
 use Rattle.stores.specs.Stores.{Parsed, parse, is_whole_ok}
 use Rattle.stores.proofs.WholeLaws.{parse-is, whole-ok}
 use Rattle.stores.proofs.Reading.{list-parsed}
 use Rattle.stores.proofs.Tail.{parse-tail}
 use Rattle.said.proofs.SoundLaws.{Bytes}
-use Rattle.widths.specs.declared.write.Widths.TheVariants.{Done}
 use Rattle.widths.specs.Layout.{map_part}
 use Rattle.widths.specs.Answers.{widths_of, widths_left}
 use Rattle.widths.specs.Reading.{width_reading}
@@ -112,7 +111,7 @@ module _ (c : Lending) (r : Report) (bytes : Bytes c.job) (e : answer_of c ≡ b
   whole : is_whole_ok s ≡ true
   whole = whole-ok s (parse-is s (made_in c r (accepted c r e)) parsed).0
 
-  module _ (ws out : List ℕ) (n : ℕ) (low : All (λ w. w < 4294967296) ws) (done : widths_of s ws (length out) ≡ Done n) (g : ℕ) (h : g < end_records c.job)
+  module _ (ws out : List ℕ) (n : ℕ) (low : All (λ w. w < 4294967296) ws) (done : widths_of s ws (length out) ≡ Ok n) (g : ℕ) (h : g < end_records c.job)
       (says : (q : ℕ) → said s ws g q ≡ read_store s (set-read g h).outer (set-read g h).inner q) where
     inside : store_in (take n (widths_left s ws out)) ≡ s ++ map_part ws
     inside = store-inside s ws out n done

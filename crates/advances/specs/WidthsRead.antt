@@ -1,12 +1,10 @@
 -- D2 carried on to the width table (HVAR): of a job with a set for each glyph, written as a table from what a done build leaves, each glyph's
 -- adjustment for every region comes back from the table's bytes alone, and zero where its set names none. Assumes nothing.
-use Rattle.std.specs.Prelude.{◌≡◌, true, List, [], ◌⊎◌, ℕ, ◌<◌, pos, length, get_or, take, drop}
+use Rattle.std.specs.Prelude.{◌≡◌, true, List, [], ◌⊎◌, ℕ, ◌<◌, pos, length, get_or, take, drop, Ok}
 use Rattle.laws.specs.Bounded.{tabulate}
-use Rattle.reader.specs.declared.reader.Reading.TheVariants.{Written, NoColumn}
-use Rattle.reader.specs.Store.{value_of, region_count}
+use Rattle.reader.specs.Store.{Written, NoColumn, value_of, region_count}
 use Rattle.stores.specs.Stores.{is_whole_ok}
 use Rattle.told.specs.Told.{ValueIn}
-use Rattle.widths.specs.declared.write.Widths.TheVariants.{Done}
 use Rattle.widths.specs.Answers.{widths_of, widths_left}
 use Rattle.widths.specs.Reading.{store_at, width_reading}
 use Rattle.finishing.specs.declared.answers.Report.{Report}
@@ -43,7 +41,7 @@ set_words c = tabulate 0 (end_records c.job) (λ n. get_or (after c).lent.map (g
 abbrev pub TableRead : Lending → Report → List ℕ → Type 0
 TableRead c r words =
     (out : List ℕ) (n : ℕ)
-    → widths_of (store_left c r) words (length out) ≡ Done n
+    → widths_of (store_left c r) words (length out) ≡ Ok n
     → (g : ℕ) → g < end_records c.job → GlyphRead c.axes c.job (take n (widths_left (store_left c r) words out)) g
 
 pub record WidthsRead (c : Lending) (r : Report) : Type 0 where

@@ -9,8 +9,8 @@ use lib.ListN.{length, get_or, set}
 use lib.Seq.{get_or-set_same, get_or-set_other}
 use Rattle.laws.specs.LentRange.{Only}
 use Rattle.laws.proofs.Cases.{lt-or-ge}
-use Rattle.laws.proofs.RangeLaws.{only-refl, only-trans, only_set}
-use Rattle.cells.specs.Lent.{ZerosFrom, OneMore, LooksAhead}
+use Rattle.laws.proofs.RangeLaws.{only-trans, only_set}
+use Rattle.cells.specs.Lent.{ZerosFrom, OneMore}
 
 -- ---- one byte before others
 
@@ -58,14 +58,6 @@ pub record Looking (s : List ℕ) (at : ℕ) (old new : List ℕ) (z p : ℕ) : 
   pub here : ZerosFrom s p z
 
 module _ (s : List ℕ) (at : ℕ) (old : List ℕ) (room : at + length s ≤ length old) where
-  pub look-start : Looking s at old old 0 (length s)
-  look-start = record {
-    within = omega arith;
-    only = only-refl ((at, length s) ∷ []) old;
-    says = λ q a b. absurd (omega arith);
-    here = record { zeros = λ i h. absurd (omega arith); stops = λ a b e. omega arith };
-  }
-
   pub look-more : (new : List ℕ) (z p byte r : ℕ) → Looking s at old new z p → 0 < p → byte ≡ get_or s (p - 1) 0 → OneMore byte z r → Looking s at old (set new (at + (p - 1)) r) r (p - 1)
   look-more new z p byte r l low e m = record {
     within = omega (arith, l.within);
@@ -82,9 +74,3 @@ module _ (s : List ℕ) (at : ℕ) (old : List ℕ) (room : at + length s ≤ le
     where
       f : ZerosFrom s (p - 1) r
       f = one-more-is s p z low l.here byte r e m
-
-  pub look-done : (new : List ℕ) (z p : ℕ) → Looking s at old new z p → p ≤ 0 → LooksAhead s at old new
-  look-done new z p l h = record {
-    only = l.only;
-    ahead = record { room = omega (arith, l.only.long); says = λ q b. l.says q (omega arith) b };
-  }

@@ -76,17 +76,6 @@ pub record Nexting (s : List ℕ) (row word n j i : ℕ) : Type 0 where
   pub zeros : (m : ℕ) → j ≤ m → m < i → cell_of s row word m ≡ 0
 
 module _ (s w : List ℕ) (at row word n j : ℕ) (f : CellsFit s w at row word n j) where
-  pub next_start : Nexting s row word n j j
-  next_start = record { behind = omega arith; within = f.from; zeros = λ m a b. absurd (omega arith) }
-
-  pub next-done : (i : ℕ) → Nexting s row word n j i → n ≤ i → NextCell s row word n j n
-  next-done i l h = record {
-    behind = f.from;
-    within = omega arith;
-    zeros = λ m a b. l.zeros m a (omega arith);
-    there = λ q. absurd (omega arith);
-  }
-
   module _ (i : ℕ) (h : i < n) where
     pub word_in : at + row + column_start word i < length w
     word_in = omega (arith, at-fits word i n h, bytes-range word i, f.inside, f.ahead.room)

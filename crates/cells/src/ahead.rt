@@ -9,10 +9,7 @@ fn one_more(byte: u8, zeros: u32) -> u32
     if byte != 0 {
         return 0;
     }
-    if zeros < 0xFFFF_FFFF {
-        return zeros + 1;
-    }
-    zeros
+    zeros.saturating_add(1)
 }
 
 // Word at + p, for each byte p: how many zero bytes there are from p on, up to the next that is not zero or to the last byte; no more than a word can say.
@@ -20,10 +17,8 @@ pub fn look_ahead(s: &[u8], work: &mut [u32], at: usize)
     requires { at + length s.now ≤ length work.old }
     ensures { LooksAhead s.now at work.old work.new }
 {
-    let mut zeros: u32 = 0;
-    let mut p = s.len();
-    while 0 < p {
-        p -= 1;
+    let mut zeros = 0;
+    for p in (0..s.len()).rev() {
         zeros = one_more(s[p], zeros);
         work[at + p] = zeros;
     }

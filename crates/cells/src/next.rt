@@ -34,6 +34,7 @@ pub fn next_cell(
     requires { CellsFit s.now work.now at row word n j }
     ensures { NextCell s.now row word n j result }
 {
+    // No `for`: how far a step goes depends on the zeros that stand there.
     let mut i = j;
     while i < n {
         let k = column_bytes(word, i);

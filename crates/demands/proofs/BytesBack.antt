@@ -13,8 +13,7 @@ use Rattle.laws.specs.Signed.{signed, word, value, zero_word}
 use Rattle.laws.proofs.ListLaws.{get_or-map-in}
 use Rattle.laws.proofs.SignedLaws.{value-twos, word_value}
 use Rattle.sets.specs.Set.{word_of}
-use Rattle.reader.specs.declared.reader.Reading.TheVariants.{Written}
-use Rattle.reader.specs.Store.{read_store, value_of, region_count}
+use Rattle.reader.specs.Store.{Written, read_store, value_of, region_count}
 use Rattle.said.specs.Records.{region_number, value_as_word, record_at, record_start}
 use Rattle.said.specs.Job.{Said}
 use Rattle.said.proofs.RecordLaws.{be-two, be-four}

@@ -13,8 +13,7 @@ use Rattle.laws.proofs.Cases.{Which, which}
 use Rattle.laws.proofs.Cases.Which.{holds, fails}
 use Rattle.sets.specs.Set.{Set, word_of}
 use Rattle.groups.specs.Groups.{groups_of, max_shapes}
-use Rattle.reader.specs.declared.reader.Reading.TheVariants.{Written, NoColumn}
-use Rattle.reader.specs.Store.{read_store, value_of, list_at, region_count}
+use Rattle.reader.specs.Store.{Written, NoColumn, read_store, value_of, list_at, region_count}
 use Rattle.store.specs.Placing.{all_runs, id_words, names, kept_of, new_index, stored}
 use Rattle.said.specs.Records.{record_bytes}
 use Rattle.said.specs.Job.{Said}

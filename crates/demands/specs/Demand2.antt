@@ -3,8 +3,7 @@
 use Rattle.std.specs.Prelude.{◌≡◌, ◌⊎◌, List, [], ℕ, ◌+◌, ◌*◌, ◌<◌, length, get_or, take}
 use Rattle.laws.specs.Signed.{value, zero_word}
 use Rattle.sets.specs.Set.{Set, word_of}
-use Rattle.reader.specs.declared.reader.Reading.TheVariants.{Written, NoColumn}
-use Rattle.reader.specs.Store.{read_store, value_of, region_count}
+use Rattle.reader.specs.Store.{Written, NoColumn, read_store, value_of, region_count}
 use Rattle.said.specs.Job.{Said, fine}
 use Rattle.finishing.specs.declared.answers.Report.{Report}
 use Rattle.call.specs.Lending.{Lending}

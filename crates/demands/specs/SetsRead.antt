@@ -3,8 +3,7 @@
 use Rattle.std.specs.Prelude.{◌≡◌, List, ◌⊎◌, ℕ, ◌+◌, ◌*◌, ◌<◌, ℤ, pos, get_or, take, drop}
 use Rattle.laws.specs.Bytes.{be}
 use Rattle.laws.specs.Signed.{signed}
-use Rattle.reader.specs.declared.reader.Reading.TheVariants.{Written, NoColumn}
-use Rattle.reader.specs.Store.{read_store, value_of, list_at, region_count}
+use Rattle.reader.specs.Store.{Written, NoColumn, read_store, value_of, list_at, region_count}
 use Rattle.said.specs.Records.{region_number, record_at, record_count}
 use Rattle.told.specs.Told.{ends_before, ValueIn, coordinates_at}
 use Rattle.finishing.specs.declared.answers.Report.{Report}

@@ -6,12 +6,13 @@ use native.Mathlib.Omega.{arith}
 use lib.ListN.{length, take, length-append}
 use lib.Seq.{length-take-le}
 use borrow.Author.Tests.{lt-ltb, le-ltb}
+use Rattle.std.specs.Prelude.{Ok, Err}
+use Rattle.glyphs.specs.declared.write.WriteError.TheVariants.{TooManyGlyphs, GlyphMapShort}
 use Rattle.laws.specs.Bytes.{over}
 use Rattle.rows.specs.Lent.{Put}
 use Rattle.rows.proofs.PutLaws.{put-join}
-use Rattle.glyphs.specs.declared.write.Glyphs.TheVariants.{Done, Refused}
 use Rattle.glyphs.specs.Packing.{together, inner_bit_count, entry_of, bytes_for_entry, map_bits, map_size, entry_format, count_of, head_for, head_length, entries_of, map_bytes}
-use Rattle.glyphs.specs.Answers.{too_many_glyphs, glyph_map_short, max_glyphs, glyphs_of, glyphs_left}
+use Rattle.glyphs.specs.Answers.{max_glyphs, glyphs_of, glyphs_left}
 use Rattle.glyphs.proofs.KeptLaws.{count_most}
 use Rattle.glyphs.proofs.WriteLaws.{head-size, entries-long}
 
@@ -43,7 +44,7 @@ sized ws all bits e size count at pa pb pe ps pc pt =
     }
 
 module _ (ws old : List ℕ) where
-  pub many-answer : max_glyphs < length ws → (room : ℕ) → Refused too_many_glyphs ≡ glyphs_of ws room
+  pub many-answer : max_glyphs < length ws → (room : ℕ) → Err TooManyGlyphs ≡ glyphs_of ws room
   unfolding glyphs_of
   many-answer h room = rw (lt-ltb max_glyphs (length ws) h)
 
@@ -55,7 +56,7 @@ module _ (ws old : List ℕ) where
     pub bytes-are : at + count * size ≡ length (map_bytes ws)
     bytes-are = rw (z.at-is, z.count-is, z.size_is) (sym (map-long ws))
 
-    pub short-answer : length old < at + count * size → Refused glyph_map_short ≡ glyphs_of ws (length old)
+    pub short-answer : length old < at + count * size → Err GlyphMapShort ≡ glyphs_of ws (length old)
     unfolding glyphs_of
     short-answer h = rw (le-ltb max_glyphs (length ws) few, lt-ltb (length old) (length (map_bytes ws)) (omega (arith, bytes-are)))
 
@@ -64,7 +65,7 @@ module _ (ws old : List ℕ) where
     short-left h = rw (le-ltb max_glyphs (length ws) few, lt-ltb (length old) (length (map_bytes ws)) (omega (arith, bytes-are)))
 
     module _ (room : at + count * size ≤ length old) where
-      pub done-answer : Done (at + count * size) ≡ glyphs_of ws (length old)
+      pub done-answer : Ok (at + count * size) ≡ glyphs_of ws (length old)
       unfolding glyphs_of
       done-answer = rw (le-ltb max_glyphs (length ws) few, le-ltb (length old) (length (map_bytes ws)) (omega (arith, bytes-are)), bytes-are)
 

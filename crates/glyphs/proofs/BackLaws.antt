@@ -11,14 +11,15 @@ use lib.Pow.{high, low}
 use lib.ListN.{length, get_or, take, drop, length-append}
 use lib.Seq.{split_at, length-take-le, get_or-take}
 use borrow.Author.Tests.{lt-ltb, le-ltb, le-leb, ne_eqb}
+use Rattle.std.specs.Prelude.{Ok, Err}
+use Rattle.reader.specs.declared.reader.ReadError.TheVariants.{BadGlyphMap}
 use Rattle.laws.specs.Every.{All}
 use Rattle.laws.specs.Bytes.{be, bytes_of}
 use Rattle.laws.proofs.EveryLaws.{all-get_or}
 use Rattle.laws.proofs.BytesLaws.{bytes-length, be-bytes}
 use Rattle.laws.proofs.Cases.{lt-or-ge}
-use Rattle.glyphs.specs.declared.read.Entry.TheVariants.{Word, Refused}
 use Rattle.glyphs.specs.Packing.{outer_of, inner_of, ored, inner_bit_count, entry_of, bytes_for_entry, map_bits, map_size, entry_format, kept_of, count_of, head_of, head_for, head_length, entries_of, map_bytes}
-use Rattle.glyphs.specs.Reading.{bad_glyph_map, format_in, form_in, entries_from, count_in, bits_in, size_in, is_map_ok, entry_of_glyph, place_of, word_of, read_map}
+use Rattle.glyphs.specs.Reading.{format_in, form_in, entries_from, count_in, bits_in, size_in, is_map_ok, entry_of_glyph, place_of, word_of, read_map}
 use Rattle.glyphs.proofs.FormatLaws.{format-holds, bits_range, size-range}
 use Rattle.glyphs.proofs.KeptLaws.{count_most, count-some, count_same}
 use Rattle.glyphs.proofs.WriteLaws.{size-zero, size-one, head-zero, head-one, head-size, entries-long}
@@ -119,7 +120,7 @@ entry-back pre at size bits ws j l h =
     ∙ be-bytes (pre ++ x) y size e (at + j * size) m
 
 -- an entry is its word's
-word_back : (bits w : ℕ) → w < 4294967296 → inner_of w < 2 ^ bits → word_of bits (entry_of bits w) ≡ Word w
+word_back : (bits w : ℕ) → w < 4294967296 → inner_of w < 2 ^ bits → word_of bits (entry_of bits w) ≡ Ok w
 unfolding word_of entry_of
 word_back bits w h i =
     let q : (outer_of w * 2 ^ bits + inner_of w) / 2 ^ bits ≡ outer_of w = high (outer_of w) bits i in
@@ -226,19 +227,19 @@ module _ (ws : List ℕ) (words : All (λ w. w < 4294967296) ws) (some : 0 < len
     entry_read = rw (head.start_is, head.count-is, size_is) there
 
     -- what is written reads back (G8): the word of glyph g, or the last where g is past the end
-    pub glyph-back : read_map (map_bytes ws) g ≡ Word (get_or ws (entry_of_glyph (length ws) g) 0)
+    pub glyph-back : read_map (map_bytes ws) g ≡ Ok (get_or ws (entry_of_glyph (length ws) g) 0)
     unfolding read_map
     glyph-back =
         let inside : j < length ws = omega (arith, within, count_most ws) in
         rw (sound s fits, entry_read, bits_is)
         (word_back bits (get_or ws j 0) (all-get_or (λ w. w < 4294967296) ws j 0 words inside) ((format-holds ws words).inners j inside)
-        ∙ ap Word (kept_back ws some g))
+        ∙ ap Ok (kept_back ws some g))
 
 -- no words give the empty map (G5), and reading it is refused (G9)
 pub empty-map : map_bytes [] ≡ 0 ∷ 0 ∷ 0 ∷ 0 ∷ []
 unfolding map_bytes head_for entry_format map_size map_bits inner_bit_count count_leading_zeros count_of kept_of entries_of bytes_for_entry entry_of ored bytes_of
 empty-map = refl
 
-pub empty-refused : (g : ℕ) → read_map (map_bytes []) g ≡ Refused bad_glyph_map
+pub empty-refused : (g : ℕ) → read_map (map_bytes []) g ≡ Err BadGlyphMap
 unfolding read_map is_map_ok be entries_from count_in
 empty-refused g = rw empty-map

@@ -8,13 +8,13 @@ use lib.Dec.{ltb}
 use lib.ListN.{length, get_or, take, drop}
 use lib.Seq.{take_at, drop_at}
 use borrow.Author.Tests.{ltb-false, le-ltb}
+use Rattle.std.specs.Prelude.{Ok, Err}
+use Rattle.glyphs.specs.declared.write.WriteError.TheVariants.{TooManyGlyphs, GlyphMapShort}
 use Rattle.laws.specs.Pick.{pick}
 use Rattle.laws.specs.Every.{All}
 use Rattle.laws.specs.Bytes.{over}
 use Rattle.laws.proofs.Cases.{Which, which}
 use Rattle.laws.proofs.Cases.Which.{holds, fails}
-use Rattle.glyphs.specs.declared.read.Entry.TheVariants.{Word}
-use Rattle.glyphs.specs.declared.write.Glyphs.TheVariants as glyphs
 use Rattle.glyphs.specs.Packing.{map_bytes}
 use Rattle.glyphs.specs.Reading.{entry_of_glyph, read_map}
 use Rattle.glyphs.specs.Answers.{max_glyphs, glyphs_of, glyphs_left}
@@ -26,17 +26,17 @@ module _ (ws out : List ℕ) where
   s = map_bytes ws
 
   -- what is known of a done answer
-  done-is : (n : ℕ) → glyphs_of ws (length out) ≡ glyphs.Done n → (length ws ≤ max_glyphs) × (length s ≤ length out) × (length s ≡ n)
+  done-is : (n : ℕ) → glyphs_of ws (length out) ≡ Ok n → (length ws ≤ max_glyphs) × (length s ≤ length out) × (length s ≡ n)
   unfolding glyphs_of
   done-is n e = go (which (ltb max_glyphs (length ws))) (which (ltb (length out) (length s))) e
     where
       go : Which (ltb max_glyphs (length ws)) → Which (ltb (length out) (length s))
-          → pick (ltb max_glyphs (length ws)) (glyphs.Refused 40) (pick (ltb (length out) (length s)) (glyphs.Refused 41) (glyphs.Done (length s))) ≡ glyphs.Done n
+          → pick (ltb max_glyphs (length ws)) (Err TooManyGlyphs) (pick (ltb (length out) (length s)) (Err GlyphMapShort) (Ok (length s))) ≡ Ok n
           → (length ws ≤ max_glyphs) × (length s ≤ length out) × (length s ≡ n)
       go (holds h) w f = let g = rw h at f in let z : ◌≡◌ {A = ℕ} 0 1 = cc in absurd (omega arith)
       go (fails h) (holds k) f = let g = rw (h, k) at f in let z : ◌≡◌ {A = ℕ} 0 1 = cc in absurd (omega arith)
       go (fails h) (fails k) f =
-          let g : glyphs.Done (length s) ≡ glyphs.Done n = rw (h, k) at f in
+          let g : Ok (length s) ≡ Ok n = rw (h, k) at f in
           let z : length s ≡ n = cc in
           (ltb-false max_glyphs (length ws) h, ltb-false (length out) (length s) k, z)
 
@@ -44,7 +44,7 @@ module _ (ws out : List ℕ) where
   unfolding glyphs_left
   left_is h k = rw (le-ltb max_glyphs (length ws) h, le-ltb (length out) (length s) k)
 
-  module _ (n : ℕ) (e : glyphs_of ws (length out) ≡ glyphs.Done n) where
+  module _ (n : ℕ) (e : glyphs_of ws (length out) ≡ Ok n) where
     -- the output begins with the map
     pub left-front : take n (glyphs_left ws out) ≡ s
     left-front =
@@ -60,10 +60,10 @@ module _ (ws out : List ℕ) where
 
     module _ (words : All (λ w. w < 4294967296) ws) (some : 0 < length ws) where
       -- THE LAW: of every glyph; one past the last has the last one's word
-      pub left_back : (g : ℕ) → read_map (take n (glyphs_left ws out)) g ≡ Word (get_or ws (entry_of_glyph (length ws) g) 0)
+      pub left_back : (g : ℕ) → read_map (take n (glyphs_left ws out)) g ≡ Ok (get_or ws (entry_of_glyph (length ws) g) 0)
       left_back g =
           let d = done-is n e in
           ap (λ (b : List ℕ). read_map b g) left-front ∙ glyph-back ws words some (omega arith) g
 
-      pub left_word : (g : ℕ) → g < length ws → read_map (take n (glyphs_left ws out)) g ≡ Word (get_or ws g 0)
-      left_word g h = left_back g ∙ ap (λ (k : ℕ). Word (get_or ws k 0)) (sym (no-inside (length ws) g h))
+      pub left_word : (g : ℕ) → g < length ws → read_map (take n (glyphs_left ws out)) g ≡ Ok (get_or ws g 0)
+      left_word g h = left_back g ∙ ap (λ (k : ℕ). Ok (get_or ws k 0)) (sym (no-inside (length ws) g h))

@@ -6,12 +6,13 @@ use Prim.Native.Nat.{ℕ, ◌+◌, ◌-◌, ◌*◌, ◌/◌, ◌%◌, ◌^◌, 
 use native.Mathlib.Omega.{arith}
 use lib.ListN.{length}
 use borrow.Author.Tests.{leb-true, ltb-true, eqb-false, not-true, lt-ltb, le-ltb, eq-eqb, ne_eqb}
+use Rattle.std.specs.Prelude.{Ok, Err}
+use Rattle.reader.specs.declared.reader.ReadError.TheVariants.{BadGlyphMap}
 use Rattle.laws.specs.Bytes.{be}
 use Rattle.laws.proofs.Cases.{and-true}
 use Rattle.laws.proofs.Products.{row_fits}
 use Rattle.reader.specs.Store as store
-use Rattle.glyphs.specs.declared.read.Entry.TheVariants.{Word, Refused}
-use Rattle.glyphs.specs.Reading.{bad_glyph_map, format_in, form_in, entries_from, count_in, bits_in, size_in, is_map_ok, entry_of_glyph, place_of, word_of, read_map}
+use Rattle.glyphs.specs.Reading.{format_in, form_in, entries_from, count_in, bits_in, size_in, is_map_ok, entry_of_glyph, place_of, word_of, read_map}
 
 module _ (format : ℕ) where
   pub start-zero : format ≡ 0 → 4 ≡ entries_from format
@@ -71,16 +72,12 @@ module _ (n g : ℕ) where
 
 -- ---- the answer
 
-pub bad-map : (s : List ℕ) (g : ℕ) → is_map_ok s ≡ false → Refused bad_glyph_map ≡ read_map s g
+pub bad-map : (s : List ℕ) (g : ℕ) → is_map_ok s ≡ false → Err BadGlyphMap ≡ read_map s g
 unfolding read_map
 bad-map s g h = rw h
 
 module _ (s : List ℕ) (g : ℕ) (ok : is_map_ok s ≡ true) (e p : ℕ) (f : e ≡ be (size_in s) s (place_of s g)) (q : p ≡ 2 ^ bits_in s) where
-  pub outer-large : 65535 < e / p → Refused bad_glyph_map ≡ read_map s g
-  unfolding read_map word_of
-  outer-large h = rw (ok, ← f, ← q, lt-ltb 65535 (e / p) h)
-
-  pub word-there : e / p ≤ 65535 → Word (e / p * 65536 + e % p) ≡ read_map s g
+  pub word-there : e / p ≤ 65535 → Ok (e / p * 65536 + e % p) ≡ read_map s g
   unfolding read_map word_of
   word-there h = rw (ok, ← f, ← q, le-ltb 65535 (e / p) h)
 

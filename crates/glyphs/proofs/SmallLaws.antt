@@ -11,18 +11,20 @@ use lib.Dec.{ltb}
 use lib.ListN.{length}
 use lib.Pow.{pow_pos}
 use borrow.Author.Tests.{ltb-false, le-ltb}
+use Rattle.std.specs.Prelude.{Result, Ok, Err}
+use Rattle.reader.specs.Store.{read_number}
+use Rattle.glyphs.specs.declared.write.WriteError.TheVariants.{TooManyGlyphs, GlyphMapShort}
+use Rattle.reader.specs.declared.reader.ReadError.TheVariants.{BadGlyphMap}
+use Rattle.reader.specs.declared.reader.ReadError.{ReadError}
+use Rattle.glyphs.specs.declared.write.WriteError.{WriteError}
 use Rattle.laws.specs.Bytes.{be}
 use Rattle.laws.specs.Pick.{pick}
 use Rattle.laws.proofs.Cases.{Which, which, lt-or-ge}
 use Rattle.laws.proofs.Cases.Which.{holds, fails}
 use Rattle.laws.proofs.Products.{product}
-use Rattle.glyphs.specs.declared.write.Glyphs.{Glyphs}
-use Rattle.glyphs.specs.declared.write.Glyphs.TheVariants as glyphs
-use Rattle.glyphs.specs.declared.read.Entry.{Entry}
-use Rattle.glyphs.specs.declared.read.Entry.TheVariants as entry
 use Rattle.glyphs.specs.Packing.{map_size, count_of, head_length, map_bytes}
-use Rattle.glyphs.specs.Answers.{too_many_glyphs, glyph_map_short, max_glyphs, glyphs_of}
-use Rattle.glyphs.specs.Reading.{bad_glyph_map, bits_in, size_in, is_map_ok, place_of, word_of, read_map}
+use Rattle.glyphs.specs.Answers.{write_number, max_glyphs, glyphs_of}
+use Rattle.glyphs.specs.Reading.{bits_in, size_in, is_map_ok, place_of, word_of, read_map}
 use Rattle.glyphs.proofs.FormatLaws.{size-range}
 use Rattle.glyphs.proofs.KeptLaws.{count_most}
 use Rattle.glyphs.proofs.WidthLaws.{power-most}
@@ -31,9 +33,9 @@ use Rattle.glyphs.proofs.AnswerLaws.{map-long}
 
 -- ---- of writing
 
-abbrev pub GlyphsSmall : Glyphs → Type 0
-GlyphsSmall (glyphs.Done n) = n < 4294967296
-GlyphsSmall (glyphs.Refused n) = n ≤ 42
+abbrev pub GlyphsSmall : (Result ℕ WriteError) → Type 0
+GlyphsSmall (Ok n) = n < 4294967296
+GlyphsSmall (Err e) = write_number e ≤ 42
 
 -- as many bytes always do
 pub map-most : (ws : List ℕ) → length (map_bytes ws) ≤ 6 + 4 * length ws
@@ -43,7 +45,7 @@ map-most ws =
     let s : head_length n ≤ 6 = ⊎_elim (λ l. omega (arith, size-zero 0 n l)) (λ l. omega (arith, size-one 0 n l)) (lt-or-ge n 65536) in
     omega (arith, map-long ws)
 
-pub glyphs-enough : (ws : List ℕ) (room : ℕ) → length ws ≤ max_glyphs → 6 + 4 * length ws ≤ room → glyphs_of ws room ≡ glyphs.Done (length (map_bytes ws))
+pub glyphs-enough : (ws : List ℕ) (room : ℕ) → length ws ≤ max_glyphs → 6 + 4 * length ws ≤ room → glyphs_of ws room ≡ Ok (length (map_bytes ws))
 unfolding glyphs_of
 glyphs-enough ws room few h = rw (le-ltb max_glyphs (length ws) few, le-ltb room (length (map_bytes ws)) (omega (arith, map-most ws)))
 
@@ -54,25 +56,25 @@ pub glyphs-small : (ws : List ℕ) (room : ℕ) → GlyphsSmall (glyphs_of ws ro
 unfolding glyphs_of
 glyphs-small ws room = many (which (ltb max_glyphs (length ws)))
   where
-    short : length ws ≤ max_glyphs → (b : Bool) → GlyphsSmall (pick b (glyphs.Refused glyph_map_short) (glyphs.Done (length (map_bytes ws))))
+    short : length ws ≤ max_glyphs → (b : Bool) → GlyphsSmall (pick b (Err GlyphMapShort) (Ok (length (map_bytes ws))))
     short h true = omega arith
     short h false = map-small ws h
 
-    many : Which (ltb max_glyphs (length ws)) → GlyphsSmall (pick (ltb max_glyphs (length ws)) (glyphs.Refused too_many_glyphs) (pick (ltb room (length (map_bytes ws))) (glyphs.Refused glyph_map_short) (glyphs.Done (length (map_bytes ws)))))
+    many : Which (ltb max_glyphs (length ws)) → GlyphsSmall (pick (ltb max_glyphs (length ws)) (Err TooManyGlyphs) (pick (ltb room (length (map_bytes ws))) (Err GlyphMapShort) (Ok (length (map_bytes ws)))))
     many (holds e) = rw e (omega arith)
     many (fails e) = rw e (short (ltb-false _ _ e) (ltb room (length (map_bytes ws))))
 
 -- ---- of reading
 
-abbrev pub EntrySmall : Entry → Type 0
-EntrySmall (entry.Word w) = w < 4294967296
-EntrySmall (entry.Refused n) = n ≤ 42
+abbrev pub EntrySmall : (Result ℕ ReadError) → Type 0
+EntrySmall (Ok w) = w < 4294967296
+EntrySmall (Err e) = read_number e ≤ 42
 
 word_small : (bits e : ℕ) → bits ≤ 16 → EntrySmall (word_of bits e)
 unfolding word_of
 word_small bits e h = go (which (ltb 65535 (e / 2 ^ bits)))
   where
-    go : Which (ltb 65535 (e / 2 ^ bits)) → EntrySmall (pick (ltb 65535 (e / 2 ^ bits)) (entry.Refused bad_glyph_map) (entry.Word (e / 2 ^ bits * 65536 + e % 2 ^ bits)))
+    go : Which (ltb 65535 (e / 2 ^ bits)) → EntrySmall (pick (ltb 65535 (e / 2 ^ bits)) (Err BadGlyphMap) (Ok (e / 2 ^ bits * 65536 + e % 2 ^ bits)))
     go (holds t) = rw t (omega arith)
     go (fails t) = rw t (omega (arith, ltb-false 65535 (e / 2 ^ bits) t, mod-lt e {m = 2 ^ bits} (pow_pos bits), power-most bits h))
 
@@ -80,6 +82,6 @@ pub entry-small : (s : List ℕ) (g : ℕ) → EntrySmall (read_map s g)
 unfolding read_map
 entry-small s g = go (is_map_ok s)
   where
-    go : (b : Bool) → EntrySmall (pick (not b) (entry.Refused bad_glyph_map) (word_of (bits_in s) (be (size_in s) s (place_of s g))))
+    go : (b : Bool) → EntrySmall (pick (not b) (Err BadGlyphMap) (word_of (bits_in s) (be (size_in s) s (place_of s g))))
     go true = word_small (bits_in s) (be (size_in s) s (place_of s g)) (omega arith)
     go false = omega arith

@@ -1,5 +1,5 @@
 -- Laws of the widths of entries: the inner bits and the entry bytes hold what they were counted for, and none fewer do. Assumes nothing.
-use mathlib.Core.Path.{◌≡◌, refl, ◌∙◌}
+use mathlib.Core.Path.{◌≡◌, refl}
 use mathlib.Core.List.{List}
 use mathlib.Core.Logic.{⊎_elim}
 use Prim.Native.Nat.{ℕ, suc, ◌+◌, ◌-◌, ◌*◌, ◌/◌, ◌%◌, ◌^◌, ◌≤◌, ◌<◌}
@@ -7,7 +7,7 @@ use native.Mathlib.Nat.{pow-suc}
 use native.Mathlib.Numerals.{add-one}
 use native.Mathlib.Omega.{arith}
 use lib.Dec.{eqb}
-use lib.Pow.{pow_mono, shl_exact}
+use lib.Pow.{pow_mono}
 use lib.Bits.{bit_or}
 use lib.Count.{count_leading_zeros, leading_length}
 use lib.ListN.{length, get_or, drop, drop_of_length-le}
@@ -95,9 +95,6 @@ module _ (all : ℕ) where
 
 pub power-most : (bits : ℕ) → bits ≤ 16 → 2 ^ bits ≤ 65536
 power-most bits h = pow_mono h
-
-pub power-is : (bits : ℕ) → bits ≤ 16 → 1 * 2 ^ bits % 2 ^ 64 ≡ 2 ^ bits
-power-is bits h = shl_exact 1 bits 64 (omega arith) (omega arith) ∙ omega arith
 
 -- ---- an entry
 

@@ -3,9 +3,10 @@ use mathlib.Core.Path.{◌≡◌, refl}
 use mathlib.Core.List.{List, [], ◌∷◌, map}
 use Prim.Native.Nat.{ℕ}
 use lib.Count.{count_leading_zeros}
+use Rattle.std.specs.Prelude.{Result, Ok, Err}
+use Rattle.reader.specs.declared.reader.ReadError.TheVariants.{BadGlyphMap}
+use Rattle.reader.specs.declared.reader.ReadError.{ReadError}
 use Rattle.laws.specs.Bytes.{be, bytes_of}
-use Rattle.glyphs.specs.declared.read.Entry.{Entry}
-use Rattle.glyphs.specs.declared.read.Entry.TheVariants.{Word, Refused}
 use Rattle.glyphs.specs.Packing.{ored, inner_bit_count, entry_of, bytes_for_entry, map_bits, map_size, entry_format, kept_of, count_of, head_for, entries_of, map_bytes}
 use Rattle.glyphs.specs.Reading.{entries_from, count_in, is_map_ok, entry_of_glyph, place_of, word_of, read_map}
 
@@ -29,7 +30,7 @@ maps-worked = refl
 
 -- the second map at its first glyph, at one whose entry was dropped, and past the end; the fourth at its first; format 2; a reserved bit; a map
 -- that runs past the end; an outer number of 65,536; one entry in format 1
-abbrev reads : List Entry
+abbrev reads : List (Result ℕ ReadError)
 reads =
     read_map (0 ∷ 2 ∷ 0 ∷ 2 ∷ 5 ∷ 7 ∷ []) 0
     ∷ read_map (0 ∷ 2 ∷ 0 ∷ 2 ∷ 5 ∷ 7 ∷ []) 3
@@ -42,6 +43,6 @@ reads =
     ∷ read_map (1 ∷ 0 ∷ 0 ∷ 0 ∷ 0 ∷ 1 ∷ 1 ∷ []) 0
     ∷ []
 
-pub reads-worked : reads ≡ Word 5 ∷ Word 7 ∷ Word 7 ∷ Word 0x0040_0100 ∷ Refused 42 ∷ Refused 42 ∷ Refused 42 ∷ Refused 42 ∷ Word 1 ∷ []
+pub reads-worked : reads ≡ Ok 5 ∷ Ok 7 ∷ Ok 7 ∷ Ok 0x0040_0100 ∷ Err BadGlyphMap ∷ Err BadGlyphMap ∷ Err BadGlyphMap ∷ Err BadGlyphMap ∷ Ok 1 ∷ []
 unfolding read_map is_map_ok entries_from count_in entry_of_glyph place_of word_of be
 reads-worked = refl

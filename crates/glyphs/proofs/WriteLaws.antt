@@ -5,8 +5,8 @@ use Prim.Native.Nat.{ℕ, ◌+◌, ◌*◌, ◌≤◌, ◌<◌}
 use native.Mathlib.Nat.{suc-mul, zero-mul}
 use native.Mathlib.Numerals.{add-one}
 use native.Mathlib.Omega.{arith}
-use lib.ListN.{length, get_or, take, drop, length-append, drop_of_length-le}
-use lib.Seq.{drop-cons, get_or-take, length-take-le}
+use lib.ListN.{length, get_or, drop, length-append, drop_of_length-le}
+use lib.Seq.{drop-cons}
 use borrow.Author.Tests.{lt-ltb, le-ltb}
 use Rattle.laws.specs.Bytes.{bytes_of, over}
 use Rattle.laws.proofs.BytesLaws.{bytes-length}
@@ -79,27 +79,21 @@ entries-long size bits (w ∷ ws) =
     length-append (bytes_of size (entry_of bits w)) (entries_of size bits ws)
     ∙ omega (arith, bytes-length size (entry_of bits w), entries-long size bits ws, suc-mul (length ws) size)
 
-module _ (size bits count : ℕ) (ws : List ℕ) (at : ℕ) (old : List ℕ) (inside : count ≤ length ws) (room : at + count * size ≤ length old) where
+module _ (size bits : ℕ) (ws : List ℕ) (at : ℕ) (old : List ℕ) (room : at + length ws * size ≤ length old) where
   abbrev all : List ℕ
-  all = entries_of size bits (take count ws)
+  all = entries_of size bits ws
 
   abbrev rest : ℕ → List ℕ
-  rest i = entries_of size bits (drop i (take count ws))
-
-  long : length (take count ws) ≡ count
-  long = length-take-le count ws inside
+  rest i = entries_of size bits (drop i ws)
 
   all_room : at + length all ≤ length old
-  all_room = rw (entries-long size bits (take count ws), long) room
+  all_room = rw (entries-long size bits ws) room
 
-  rest-step : (i : ℕ) → i < count → rest i ≡ bytes_of size (entry_of bits (get_or ws i 0)) ++ rest (i + 1)
+  rest-step : (i : ℕ) → i < length ws → rest i ≡ bytes_of size (entry_of bits (get_or ws i 0)) ++ rest (i + 1)
   unfolding entries_of
-  rest-step i h = rw (drop-cons (take count ws) i 0 (omega (arith, long)), get_or-take count ws i 0 h, add-one)
+  rest-step i h = rw (drop-cons ws i 0 h, add-one)
 
-  pub entries-start : Putting at all old old at (rest 0)
-  entries-start = put-start at all old
-
-  module _ (new : List ℕ) (a i : ℕ) (p : Putting at all old new a (rest i)) (h : i < count) where
+  module _ (new : List ℕ) (a i : ℕ) (p : Putting at all old new a (rest i)) (h : i < length ws) where
     -- this entry lies in the output
     pub entries-room : a + size ≤ length new
     entries-room =
@@ -110,6 +104,6 @@ module _ (size bits count : ℕ) (ws : List ℕ) (at : ℕ) (old : List ℕ) (in
     entries-more next x k e =
         put-more at all old new a (bytes_of size (entry_of bits (get_or ws i 0))) (rest (i + 1)) next size all_room (rw (rest-step i h) at p) (bytes-length size (entry_of bits (get_or ws i 0))) (rw (← k) e)
 
-  pub entries-done : (new : List ℕ) (a i : ℕ) → Putting at all old new a (rest i) → count ≤ i → Put at all old new a
+  pub entries-done : (new : List ℕ) (a i : ℕ) → Putting at all old new a (rest i) → length ws ≤ i → Put at all old new a
   unfolding entries_of
-  entries-done new a i p h = put-done at all old new a (rest i) p (rw (drop_of_length-le (take count ws) {i = i} (omega (arith, long))))
+  entries-done new a i p h = put-done at all old new a (rest i) p (rw (drop_of_length-le ws {i = i} h))

@@ -1,11 +1,11 @@
 -- What the bytes of a glyph map mean: the word of one glyph. Written from OpenType's chapter on common table formats
 -- for font variations, "Associating target items to variation data", by RULES G6 and G7. Nothing here knows how a map
 -- is written.
-use Rattle.std.specs.Prelude.{Bool, not, ◌&&◌, List, ℕ, ◌+◌, ◌-◌, ◌*◌, ◌/◌, ◌%◌, ◌^◌, eqb, ltb, leb, length}
+use Rattle.std.specs.Prelude.{Bool, not, ◌&&◌, List, ℕ, ◌+◌, ◌-◌, ◌*◌, ◌/◌, ◌%◌, ◌^◌, eqb, ltb, leb, length, Result, Ok, Err}
 use Rattle.laws.specs.Pick.{pick}
 use Rattle.laws.specs.Bytes.{be}
-use Rattle.glyphs.specs.declared.read.Entry.{Entry}
-use Rattle.glyphs.specs.declared.read.Entry.TheVariants.{Word, Refused}
+use Rattle.reader.specs.declared.reader.ReadError.{ReadError}
+use Rattle.reader.specs.declared.reader.ReadError.TheVariants.{BadGlyphMap}
 
 -- The head: format (one byte), entry format (one byte), entry count (two bytes in format 0, four in format 1). Then the entries.
 abbrev pub format_in : List ℕ → ℕ
@@ -43,13 +43,9 @@ entry_of_glyph n g = pick (ltb g n) g (n - 1)
 unfoldable pub place_of : List ℕ → ℕ → ℕ
 place_of s g = entries_from (format_in s) + entry_of_glyph (count_in s) g * size_in s
 
--- the number of its refusal
-abbrev pub bad_glyph_map : ℕ
-bad_glyph_map = 42
-
 -- an entry's word: the bits above the inner ones are the outer number
-unfoldable pub word_of : ℕ → ℕ → Entry
-word_of bits e = pick (ltb 65535 (e / 2 ^ bits)) (Refused bad_glyph_map) (Word (e / 2 ^ bits * 65536 + e % 2 ^ bits))
+unfoldable pub word_of : ℕ → ℕ → Result ℕ ReadError
+word_of bits e = pick (ltb 65535 (e / 2 ^ bits)) (Err BadGlyphMap) (Ok (e / 2 ^ bits * 65536 + e % 2 ^ bits))
 
-unfoldable pub read_map : List ℕ → ℕ → Entry
-read_map s g = pick (not (is_map_ok s)) (Refused bad_glyph_map) (word_of (bits_in s) (be (size_in s) s (place_of s g)))
+unfoldable pub read_map : List ℕ → ℕ → Result ℕ ReadError
+read_map s g = pick (not (is_map_ok s)) (Err BadGlyphMap) (word_of (bits_in s) (be (size_in s) s (place_of s g)))

@@ -2,16 +2,15 @@
 ghost use Rattle.std.specs.Prelude.{◌≡◌, ◌≤◌, length};
 ghost use Rattle.glyphs.specs.Packing.{count_of};
 
+#[tactic(auto, unfolding(crate::specs::Packing::count_of))]
 pub fn kept(words: &[u32]) -> usize
     ensures value { result ≡ count_of words.now }
     ensures upper_bound { result ≤ length words.now }
 {
-    let mut n = words.len();
-    while 1 < n {
-        if words[n - 1] != words[n - 2] {
-            return n;
+    for i in (1..words.len()).rev() {
+        if words[i] != words[i - 1] {
+            return i + 1;
         }
-        n -= 1;
     }
-    n
+    words.len().min(1)
 }

@@ -7,5 +7,5 @@ mod read;
 mod width;
 mod write;
 
-pub use read::{Entry, read_glyph};
-pub use write::{Glyphs, write_glyphs};
+pub use read::read_glyph;
+pub use write::{MOST, WriteError, write_glyphs};

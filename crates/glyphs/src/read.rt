@@ -5,21 +5,10 @@ ghost use Rattle.reader.specs.Store.{Word};
 ghost use Rattle.glyphs.specs.Reading.{entries_from, count_in, is_map_ok, size_in, entry_of_glyph, place_of, read_map};
 
 use crate::width::power;
-use reader::be;
-
-// A glyph's word, outer x 65,536 + inner, or a refusal's number.
-#[derive(Clone, Copy)]
-pub enum Entry {
-    Word(u32),
-    Refused(u8),
-}
-
-impl Entry {
-    // The number of its refusal.
-    pub const BAD_GLYPH_MAP: u8 = 42;
-}
+use reader::{ReadError, be};
 
 // Where the entries of a map of this format start.
+#[tactic(auto, unfolding(crate::specs::Reading::entries_from))]
 fn start(format: usize) -> usize
     ensures value { result ≡ entries_from format }
     ensures in_range { (4 ≤ result) × (result ≤ 6) }
@@ -31,6 +20,7 @@ fn start(format: usize) -> usize
 }
 
 // How many entries the map says that it has: a number of two bytes, or of four.
+#[tactic(auto, unfolding(crate::specs::Reading::count_in))]
 fn count(s: &[u8]) -> usize
     requires in_bounds { 4 ≤ length s.now }
     requires s_in_bounds { entries_from (be 1 s.now 0) ≤ length s.now }
@@ -43,6 +33,7 @@ fn count(s: &[u8]) -> usize
     be(s, 2, 4)
 }
 
+#[tactic(auto, unfolding(crate::specs::Reading::is_map_ok))]
 fn map_ok(s: &[u8]) -> bool
     ensures { result ≡ is_map_ok s.now }
 {
@@ -72,18 +63,17 @@ fn map_ok(s: &[u8]) -> bool
 }
 
 // The number of a glyph's entry: past the end the last.
+#[tactic(auto, unfolding(crate::specs::Reading::entry_of_glyph))]
 fn entry_no(n: usize, glyph: usize) -> usize
     requires { 0 < n }
     ensures value { result ≡ entry_of_glyph n glyph }
     ensures upper_bound { result < n }
 {
-    if glyph < n {
-        return glyph;
-    }
-    n - 1
+    glyph.min(n - 1)
 }
 
 // The entry of a glyph, as it stands there.
+#[tactic(auto, unfolding(crate::specs::Reading::place_of))]
 fn entry_at(s: &[u8], glyph: usize) -> usize
     requires { is_map_ok s.now ≡ true }
     ensures word { Word (size_in s.now) s.now (place_of s.now glyph) result }
@@ -95,18 +85,19 @@ fn entry_at(s: &[u8], glyph: usize) -> usize
     be(s, at, size)
 }
 
-// The word of a glyph: the entry's bits above the inner ones are its outer number.
-pub fn read_glyph(map: &[u8], glyph: u32) -> Entry
+// The word of a glyph, outer x 65,536 + inner: the entry's bits above the inner ones are its outer number.
+#[tactic(auto, unfolding(crate::specs::Reading::read_map, crate::specs::Reading::word_of))]
+pub fn read_glyph(map: &[u8], glyph: u32) -> Result<u32, ReadError>
     ensures { result ≡ read_map map.now glyph }
 {
     if !map_ok(map) {
-        return Entry::Refused(Entry::BAD_GLYPH_MAP);
+        return Err(ReadError::BadGlyphMap);
     }
     let e = entry_at(map, glyph as usize);
     let p = power(be(map, 1, 1) % 16 + 1);
     let outer = e / p;
     if 65535 < outer {
-        return Entry::Refused(Entry::BAD_GLYPH_MAP);
+        return Err(ReadError::BadGlyphMap);
     }
-    Entry::Word((outer * 65536 + e % p) as u32)
+    Ok((outer * 65536 + e % p) as u32)
 }

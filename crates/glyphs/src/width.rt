@@ -6,26 +6,21 @@ ghost use Rattle.glyphs.specs.Packing.{together, inner_bit_count, entry_of, byte
 pub fn together(words: &[u32]) -> u32
     ensures { result ≡ together words.now }
 {
-    let mut all: u32 = 0;
-    let mut i: usize = 0;
-    while i < words.len() {
-        all = all | words[i];
-        i += 1;
+    let mut all = 0;
+    for word in words {
+        all |= *word;
     }
     all
 }
 
 // The bits that the inner numbers need together: what the leading zeros of all of them ored leave of 16.
+#[tactic(auto, unfolding(crate::specs::Packing::inner_bit_count))]
 pub fn inner_bits(all: u32) -> usize
     ensures value { result ≡ inner_bit_count all }
     ensures in_range { (1 ≤ result) × (result ≤ 16) }
 {
     let inner = (all % 65536) as u16;
-    let bits = 16 - u16::leading_zeros(inner);
-    if bits == 0 {
-        return 1;
-    }
-    bits as usize
+    (16 - inner.leading_zeros()).max(1) as usize
 }
 
 // How many numbers the inner bits have.
@@ -38,6 +33,7 @@ pub fn power(bits: usize) -> usize
 }
 
 // A word as an entry: its outer number above the inner bits.
+#[tactic(auto, unfolding(crate::specs::Packing::entry_of))]
 pub fn entry(bits: usize, word: u32) -> u32
     requires { bits ≤ 16 }
     ensures { result ≡ entry_of bits word }
@@ -48,6 +44,7 @@ pub fn entry(bits: usize, word: u32) -> u32
 }
 
 // The fewest bytes that hold an entry.
+#[tactic(auto, unfolding(crate::specs::Packing::bytes_for_entry))]
 pub fn bytes_for(entry: u32) -> usize
     ensures value { result ≡ bytes_for_entry entry }
     ensures in_range { (1 ≤ result) × (result ≤ 4) }

@@ -4,25 +4,17 @@ ghost use Rattle.glyphs.specs.Answers.{glyphs_of, glyphs_left};
 ghost use Rattle.glyphs.specs.Reading.{read_map};
 ghost use Rattle.numbers.specs.GlyphWords.{glyphs_word, entry_word};
 
-use glyphs::{Entry, Glyphs};
-
 // Writes the map of a word for each glyph. High half: 0 written, else the refusal number; low half: the bytes.
 pub fn ivs_write_glyphs(words: &[u32], out: &mut [u8]) -> u64
     ensures value { result ≡ glyphs_word (glyphs_of words.now (length out.old)) }
     ensures out_after { out.new ≡ glyphs_left words.now out.old }
 {
-    match glyphs::write_glyphs(words, out) {
-        Glyphs::Done(n) => n as u64,
-        Glyphs::Refused(n) => (n as u64) * 4294967296,
-    }
+    numbers::written_word(glyphs::write_glyphs(words, out))
 }
 
 // The word of a glyph. High half: 0 read, else the refusal number; low half: the word.
 pub fn ivs_read_glyph(map: &[u8], glyph: u32) -> u64
     ensures { result ≡ entry_word (read_map map.now glyph) }
 {
-    match glyphs::read_glyph(map, glyph) {
-        Entry::Word(w) => w as u64,
-        Entry::Refused(n) => (n as u64) * 4294967296,
-    }
+    numbers::glyph_word(glyphs::read_glyph(map, glyph))
 }

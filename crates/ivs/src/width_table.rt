@@ -5,18 +5,13 @@ ghost use Rattle.widths.specs.Reading.{width_reading};
 ghost use Rattle.numbers.specs.ReadWords.{read_word};
 ghost use Rattle.numbers.specs.WidthWords.{widths_word};
 
-use widths::Widths;
-
 // Writes the table of a store and a word for each glyph, of no words without a map. High half: 0 written, else the refusal number; low half:
 // the bytes.
 pub fn ivs_write_widths(store: &[u8], words: &[u32], out: &mut [u8]) -> u64
     ensures value { result ≡ widths_word (widths_of store.now words.now (length out.old)) }
     ensures out_after { out.new ≡ widths_left store.now words.now out.old }
 {
-    match widths::write_widths(store, words, out) {
-        Widths::Done(n) => n as u64,
-        Widths::Refused(n) => (n as u64) * 4294967296,
-    }
+    numbers::written_word(widths::write_widths(store, words, out))
 }
 
 // The value of a region in a glyph's row of a table, as a number.

@@ -15,8 +15,7 @@ use Rattle.laws.proofs.EveryLaws.{all-get_or}
 use Rattle.sets.specs.Set.{Set, word_of, Proper}
 use Rattle.reader.specs.declared.column.Column.{Column}
 use Rattle.reader.specs.declared.column.Column.TheVariants.{At, Missing}
-use Rattle.reader.specs.declared.reader.Reading.TheVariants.{Written, NoColumn}
-use Rattle.reader.specs.Store.{find, read_store, value_of, list_at, region_count}
+use Rattle.reader.specs.Store.{Written, NoColumn, find, read_store, value_of, list_at, region_count}
 use Rattle.said.specs.Records.{record_count, region_number, record_at}
 use Rattle.said.specs.Refusals.{early_refusal, pair_records}
 use Rattle.said.specs.Job.{Said, fine, outcome}

@@ -18,7 +18,7 @@ use crate::words::room;
 use choosing::{choose, write_places};
 use cutting::{tables_size, write_store};
 use laws::zero_part;
-use reader::{Reading, be};
+use reader::{ReadError, be};
 use stores::whole_ok;
 
 // The bytes, subtables, regions and rows that are kept, or a refusal's number.
@@ -77,10 +77,10 @@ fn keep_in(store: &[u8], rows: &[u32], work: &mut [u32], out: &mut [u8], places:
     ensures places_after { places.new ≡ places_left (parse store.now) rows.now result places.old }
 {
     if !whole_ok(store, work) {
-        return Kept::Refused(Reading::BAD_STORE);
+        return Kept::Refused(ReadError::BadStore as u8);
     }
     if !rows_there(store, rows) {
-        return Kept::Refused(Reading::NO_ROW);
+        return Kept::Refused(ReadError::NoRow as u8);
     }
     if places.len() < rows.len() {
         return Kept::Refused(Kept::PLACES_SHORT);

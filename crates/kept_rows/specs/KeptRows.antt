@@ -2,8 +2,7 @@
 -- store has no other row, and rows keep their order. Words are outer x 65,536 + inner. Assumes nothing.
 use Rattle.std.specs.Prelude.{◌≡◌, true, List, [], ℕ, ◌+◌, ◌*◌, ◌/◌, ◌%◌, ◌<◌, length, get_or}
 use Rattle.std.proofs.Math.Option.{none, some}
-use Rattle.reader.specs.declared.reader.Reading.TheVariants.{NoColumn}
-use Rattle.reader.specs.Store.{read_store}
+use Rattle.reader.specs.Store.{NoColumn, read_store}
 use Rattle.stores.specs.Stores.{Table, Parsed, parse}
 use Rattle.stores.specs.Coordinates.{read_at, is_row_there, Distinct}
 

@@ -14,12 +14,10 @@ pub fn mark_groups(work: &mut [u32], t: Finals, marks: usize)
     ensures marks_2 { Marks (finals_at t.regions t.groups t.count (take marks work.old)) (seg marks t.regions work.new) }
     ensures only { Only ((marks, t.regions) ∷ []) work.old work.new }
 {
-    let mut g: usize = 0;
-    while g < t.count {
+    for g in 0..t.count {
         let groups = t.groups;
         let shape = work[groups + 3 * g] as usize;
         mark_shape(work, shape, t.regions, marks);
-        g += 1;
     }
 }
 
@@ -31,14 +29,10 @@ pub fn number(work: &mut [u32], marks: usize, numbers: usize, regions: usize) ->
     ensures { NumberedIn marks numbers regions work.old work.new result }
 {
     let mut n: usize = 0;
-    let mut r: usize = 0;
-    while r < regions {
+    for r in 0..regions {
         work[numbers + r] = n as u32;
         if work[marks + r] != 0 {
             n += 1;
-            r += 1;
-        } else {
-            r += 1;
         }
     }
     n

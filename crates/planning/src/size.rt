@@ -23,11 +23,9 @@ fn size_runs(n: usize, row: usize, count: usize) -> Sum
     ensures bytes_bound { (result.bytes ≤ 584115552256) × (result.runs ≤ 17) }
 {
     let runs = run_count(count);
-    let mut bytes: usize = 0;
-    let mut k: usize = 0;
-    while k < runs {
-        bytes = bytes + table_size(n, row, run_items(count, k));
-        k += 1;
+    let mut bytes = 0;
+    for k in 0..runs {
+        bytes += table_size(n, row, run_items(count, k));
     }
     Sum { bytes, runs }
 }
@@ -58,6 +56,7 @@ fn size_group(work: &[u32], t: Finals, group: usize) -> Sum
 }
 
 // Of all groups.
+#[tactic(auto, unfolding(store::specs::Lent::sizes_at))]
 pub fn size_groups(work: &[u32], t: Finals) -> Sum
     requires regions_le_max_regions { t.regions ≤ max_regions }
     requires count_le_max_shapes { t.count ≤ max_shapes }
@@ -67,14 +66,12 @@ pub fn size_groups(work: &[u32], t: Finals) -> Sum
     ensures summed { Summed (sizes_at t.regions t.groups t.count work.now) result.bytes result.runs }
     ensures bytes_bound { (result.bytes ≤ 598134325510144) × (result.runs ≤ 17408) }
 {
-    let mut bytes: usize = 0;
-    let mut runs: usize = 0;
-    let mut g: usize = 0;
-    while g < t.count {
+    let mut bytes = 0;
+    let mut runs = 0;
+    for g in 0..t.count {
         let s = size_group(work, t, t.groups + 3 * g);
-        bytes = bytes + s.bytes;
-        runs = runs + s.runs;
-        g += 1;
+        bytes += s.bytes;
+        runs += s.runs;
     }
     Sum { bytes, runs }
 }

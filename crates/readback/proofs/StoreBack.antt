@@ -17,8 +17,7 @@ use Rattle.shapes.specs.Shape.{Shape}
 use Rattle.shapes.proofs.WidthLaws.{cost-none}
 use Rattle.reader.specs.declared.column.Column.{Column}
 use Rattle.reader.specs.declared.column.Column.TheVariants.{At, Missing}
-use Rattle.reader.specs.declared.reader.Reading.TheVariants.{Written, NoColumn}
-use Rattle.reader.specs.Store.{find, read_store, value_of}
+use Rattle.reader.specs.Store.{Written, NoColumn, find, read_store, value_of}
 use Rattle.stores.specs.Stores.{Parsed, read_row, read_table, read_parsed}
 use Rattle.laws.proofs.RankLaws.{rank_less, rank_same}
 use Rattle.stores.proofs.Kept.{find-map}

@@ -1,4 +1,3 @@
-pub mod CastLaws
 pub mod StoreLaws
 pub mod MarkLaws
 pub mod ColumnLaws

@@ -1,5 +1,5 @@
 -- Marks by bits, and the loop that marks region indexes. Assumes nothing.
-use mathlib.Core.Path.{◌≡◌, refl, sym, ap, ◌∙◌}
+use mathlib.Core.Path.{◌≡◌, sym, ap, ◌∙◌}
 use mathlib.Core.Bool.{true, false}
 use mathlib.Core.List.{List, [], ◌∷◌}
 use mathlib.Core.Logic.{◌≢◌, ⊎_elim}
@@ -108,18 +108,6 @@ pub record Seen (l : List ℕ) (regions : ℕ) (old marks : List ℕ) (j : ℕ) 
   pub left : with_marks regions (drop j l) marks ≡ with_marks regions l old
 
 module _ (l : List ℕ) (regions : ℕ) where
-  seen_start : (old : List ℕ) → NoMarks regions old → Seen l regions old old 0
-  seen_start old n = record {
-    within = omega arith;
-    long = refl;
-    room = n.room;
-    below = λ k h. absurd (omega arith);
-    once = λ k h. absurd (omega arith);
-    marked = λ k h. absurd (omega arith);
-    only = λ v h. absurd (h (n.none v));
-    left = refl;
-  }
-
   module _ {old marks : List ℕ} {j : ℕ} (s : Seen l regions old marks j) where
     -- the end
     seen_done : length l ≤ j → (true ≡ are_columns_ok regions l) × (marks ≡ with_marks regions l old)
@@ -187,9 +175,6 @@ module _ (l : List ℕ) (regions : ℕ) where
 
 -- the same, of the indexes that stand in a store from at on, x the one that was read last
 module _ (s : List ℕ) (at n regions : ℕ) where
-  pub index-start : (old : List ℕ) → NoMarks regions old → Seen (words s at n) regions old old 0
-  index-start = seen_start (words s at n) regions
-
   module _ {old marks : List ℕ} {j : ℕ} (v : Seen (words s at n) regions old marks j) where
     pub index-done : n ≤ j → (true ≡ are_columns_ok regions (words s at n)) × (marks ≡ with_marks regions (words s at n) old)
     index-done h = seen_done (words s at n) regions v (omega (arith, words-length s at n))

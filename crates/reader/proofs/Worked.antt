@@ -6,9 +6,8 @@ use lib.IntN.{pos, negsuc}
 use lib.ListN.{take}
 use Rattle.laws.specs.Bytes.{be}
 use Rattle.laws.specs.Signed.{signed}
-use Rattle.reader.specs.declared.reader.Reading.{Reading}
-use Rattle.reader.specs.declared.reader.Reading.TheVariants.{Written, NoColumn, Refused}
-use Rattle.reader.specs.Store.{read_store, subtable_reading, is_header_ok, is_subtable_ok, words, find, are_columns_ok, column_start, column_width, cell}
+use Rattle.reader.specs.declared.reader.ReadError.TheVariants.{BadStore, NoRow, NoRegion}
+use Rattle.reader.specs.Store.{Reading, Written, NoColumn, Refused, read_store, subtable_reading, is_header_ok, is_subtable_ok, words, find, are_columns_ok, column_start, column_width, cell}
 
 -- header, offset, a list of two regions, and a subtable
 abbrev with : List ℕ → List ℕ
@@ -51,17 +50,17 @@ abbrev cases : List Case
 cases =
     case p7 0 0 0 (Written (pos 100))
     ∷ case p7 0 0 1 (Written (pos 70000))
-    ∷ case p7 0 0 2 (Refused 22)
-    ∷ case p7 0 1 2 (Refused 21)
-    ∷ case p7 1 0 0 (Refused 21)
+    ∷ case p7 0 0 2 (Refused NoRegion)
+    ∷ case p7 0 1 2 (Refused NoRow)
+    ∷ case p7 1 0 0 (Refused NoRow)
     ∷ case p5 0 0 0 (Written (negsuc 127))
     ∷ case p5 0 0 1 (Written (pos 128))
     ∷ case one 0 0 0 NoColumn
     ∷ case one 0 0 1 (Written (negsuc 0))
-    ∷ case (take 43 p7) 0 0 0 (Refused 20)
-    ∷ case twice 0 0 0 (Refused 20)
-    ∷ case many 0 0 0 (Refused 20)
-    ∷ case [] 0 0 0 (Refused 20)
+    ∷ case (take 43 p7) 0 0 0 (Refused BadStore)
+    ∷ case twice 0 0 0 (Refused BadStore)
+    ∷ case many 0 0 0 (Refused BadStore)
+    ∷ case [] 0 0 0 (Refused BadStore)
     ∷ []
 
 pub reads : map (λ (c : Case). read_store c.store c.outer c.inner c.region) cases ≡ map (λ (c : Case). c.answer) cases

@@ -1,14 +1,14 @@
 -- What the bytes of an item variation store mean: the value of one region in one row. Written from OpenType's chapter
 -- on common table formats for font variations, and in the order of tests of RULES V1 to V6. Nothing here knows how a
 -- store is written.
-use Rattle.std.specs.Prelude.{◌≡◌, Bool, true, false, not, ◌&&◌, List, [], ◌∷◌, ℕ, zero, suc, ◌+◌, ◌-◌, ◌*◌, ◌%◌, ◌^◌, ◌<◌, ltb, leb, eqb, ℤ, pos, length}
+use Rattle.std.specs.Prelude.{◌≡◌, Bool, true, false, not, ◌&&◌, List, [], ◌∷◌, ℕ, zero, suc, ◌+◌, ◌-◌, ◌*◌, ◌%◌, ◌^◌, ◌<◌, ltb, leb, eqb, ℤ, pos, length, Option, Some, None, Result, Ok, Err}
 use Rattle.laws.specs.Pick.{pick}
 use Rattle.laws.specs.Bytes.{be}
 use Rattle.laws.specs.Signed.{signed}
 use Rattle.reader.specs.declared.column.Column.{Column}
 use Rattle.reader.specs.declared.column.Column.TheVariants.{At, Missing}
-use Rattle.reader.specs.declared.reader.Reading.{Reading}
-use Rattle.reader.specs.declared.reader.Reading.TheVariants.{Written, NoColumn, Refused}
+use Rattle.reader.specs.declared.reader.ReadError.{ReadError}
+use Rattle.reader.specs.declared.reader.ReadError.TheVariants.{BadStore, NoRow, NoRegion, BadGlyphMap, BadWidths}
 
 -- the n numbers of two bytes from at on
 unfoldable pub words : List ℕ → ℕ → ℕ → List ℕ
@@ -93,6 +93,19 @@ cell s at inner j =
     (be (column_width (word_at s at) j) s
     (at + 6 + 2 * column_count s at + inner * column_start (word_at s at) (column_count s at) + column_start (word_at s at) j))
 
+-- what is read: the value that is written, NoColumn, or why nothing is read
+abbrev pub Reading : Type 0
+Reading = Result (Option ℤ) ReadError
+
+abbrev pub Written : ℤ → Reading
+Written v = Ok (Some v)
+
+abbrev pub NoColumn : Reading
+NoColumn = Ok None
+
+abbrev pub Refused : ReadError → Reading
+Refused e = Err e
+
 -- V7: NoColumn, or the value that is written
 abbrev pub in_column : List ℕ → ℕ → ℕ → Column → Reading
 in_column s at inner Missing = NoColumn
@@ -108,31 +121,43 @@ no_row = 21
 abbrev pub no_region : ℕ
 no_region = 22
 
+abbrev pub bad_glyph_map : ℕ
+bad_glyph_map = 42
+
+abbrev pub bad_widths : ℕ
+bad_widths = 43
+
+abbrev pub read_number : ReadError → ℕ
+read_number BadStore = bad_store
+read_number NoRow = no_row
+read_number NoRegion = no_region
+read_number BadGlyphMap = bad_glyph_map
+read_number BadWidths = bad_widths
+
 -- R20, R21, R22, in the order V1 to V6
 unfoldable pub subtable_reading : List ℕ → ℕ → ℕ → ℕ → Reading
 subtable_reading s at inner region =
-    pick (eqb at 0) (Refused no_row)
-    (pick (not (is_subtable_ok s at (region_count s))) (Refused bad_store)
-    (pick (leb (item_count s at) inner) (Refused no_row)
-    (pick (leb (region_count s) region) (Refused no_region)
+    pick (eqb at 0) (Refused NoRow)
+    (pick (not (is_subtable_ok s at (region_count s))) (Refused BadStore)
+    (pick (leb (item_count s at) inner) (Refused NoRow)
+    (pick (leb (region_count s) region) (Refused NoRegion)
     (in_column s at inner (find region 0 (regions_at s at))))))
 
 unfoldable pub read_store : List ℕ → ℕ → ℕ → ℕ → Reading
 read_store s outer inner region =
-    pick (not (is_header_ok s)) (Refused bad_store)
-    (pick (leb (be 2 s 6) outer) (Refused no_row)
+    pick (not (is_header_ok s)) (Refused BadStore)
+    (pick (leb (be 2 s 6) outer) (Refused NoRow)
     (subtable_reading s (be 4 s (8 + 4 * outer)) inner region))
 
 -- The refusal's number of an answer, 0 where nothing is refused, and its value: NoColumn means zero.
 unfoldable pub refusal_of : Reading → ℕ
-refusal_of (Written v) = 0
-refusal_of NoColumn = 0
-refusal_of (Refused n) = n
+refusal_of (Ok v) = 0
+refusal_of (Err e) = read_number e
 
 unfoldable pub value_of : Reading → ℤ
-value_of (Written v) = v
-value_of NoColumn = pos 0
-value_of (Refused n) = pos 0
+value_of (Ok (Some v)) = v
+value_of (Ok None) = pos 0
+value_of (Err e) = pos 0
 
 -- what reading k bytes gives
 pub record Word (k : ℕ) (s : List ℕ) (at r : ℕ) : Type 0 where

@@ -2,7 +2,7 @@
 ghost use Rattle.std.specs.Prelude.{◌≡◌, ◌≤◌, ◌<◌};
 ghost use Rattle.reader.specs.Store.{column_start, column_width};
 
-// The column of a region, counted from 0.
+// The column of a region, counted from 0. No Option: that callers take it by `let .. else` on `Column` may not change.
 #[derive(Clone, Copy)]
 pub enum Column {
     At(usize),
@@ -10,6 +10,7 @@ pub enum Column {
 }
 
 // Where column j begins in a row; of the column count, how long a row is.
+#[tactic(auto, unfolding(crate::specs::Store::column_start))]
 pub fn column_at(word: usize, j: usize) -> usize
     requires word_bound { word < 65536 }
     requires j_bound { j < 65536 }
@@ -30,6 +31,7 @@ pub fn column_at(word: usize, j: usize) -> usize
 }
 
 // The bytes of column j.
+#[tactic(auto, unfolding(crate::specs::Store::column_width))]
 pub fn column_bytes(word: usize, j: usize) -> usize
     ensures value { result ≡ column_width word j }
     ensures upper_bound { result ≤ 4 }

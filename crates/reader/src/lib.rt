@@ -8,4 +8,4 @@ mod reader;
 
 pub use bytes::be;
 pub use column::{Column, column_at, column_bytes};
-pub use reader::{Reading, header_ok, read, subtable_ok};
+pub use reader::{ReadError, header_ok, read, subtable_ok};

@@ -1,5 +1,5 @@
 // Region indexes that were seen, each marked by one bit: of a list with few regions few words are cleared.
-ghost use Rattle.std.specs.Prelude.{◌≡◌, ◌+◌, ◌*◌, ◌/◌, ◌≤◌, ◌<◌, eqb, length};
+ghost use Rattle.std.specs.Prelude.{◌≡◌, ◌+◌, ◌*◌, ◌/◌, ◌≤◌, ◌<◌, eqb, min, length};
 ghost use Rattle.reader.specs.Store.{words, are_columns_ok};
 ghost use Rattle.reader.specs.LentMarks.{mark_at, with_mark, NoMarks, with_marks};
 
@@ -26,8 +26,7 @@ fn named_once(s: &[u8], at: usize, n: usize, regions: usize, seen: &mut [u32]) -
     ensures value { result ≡ are_columns_ok regions (words s.now at n) }
     ensures seen_after { seen.new ≡ with_marks regions (words s.now at n) seen.old }
 {
-    let mut j: usize = 0;
-    while j < n {
+    for j in 0..n {
         let x = be(s, at + 2 * j, 2);
         if regions <= x {
             return false;
@@ -35,40 +34,19 @@ fn named_once(s: &[u8], at: usize, n: usize, regions: usize, seen: &mut [u32]) -
         if !mark(seen, x) {
             return false;
         }
-        j += 1;
     }
     true
 }
 
-// The same, with marks for 256 regions.
-fn among_few(s: &[u8], at: usize, n: usize, regions: usize) -> bool
+// The same, with 32 N marks: one for each region, or for each index of two bytes.
+fn among<const N: usize>(s: &[u8], at: usize, n: usize, regions: usize) -> bool
     requires n_bound { n < 65536 }
     requires n_in_bounds { at + 2 * n ≤ length s.now }
-    requires regions_bound { regions ≤ 256 }
+    requires most { N ≤ 2048 }
+    requires enough { min regions 65536 ≤ 32 * N }
     ensures { result ≡ are_columns_ok regions (words s.now at n) }
 {
-    let mut seen = [0u32; 8];
-    named_once(s, at, n, regions, &mut seen)
-}
-
-// For 4,096.
-fn among_some(s: &[u8], at: usize, n: usize, regions: usize) -> bool
-    requires n_bound { n < 65536 }
-    requires n_in_bounds { at + 2 * n ≤ length s.now }
-    requires regions_bound { regions ≤ 4096 }
-    ensures { result ≡ are_columns_ok regions (words s.now at n) }
-{
-    let mut seen = [0u32; 128];
-    named_once(s, at, n, regions, &mut seen)
-}
-
-// For all that a list can have.
-fn among_many(s: &[u8], at: usize, n: usize, regions: usize) -> bool
-    requires n_bound { n < 65536 }
-    requires n_in_bounds { at + 2 * n ≤ length s.now }
-    ensures { result ≡ are_columns_ok regions (words s.now at n) }
-{
-    let mut seen = [0u32; 2048];
+    let mut seen = [0u32; N];
     named_once(s, at, n, regions, &mut seen)
 }
 
@@ -79,10 +57,10 @@ pub fn columns_ok(s: &[u8], at: usize, n: usize, regions: usize) -> bool
     ensures { result ≡ are_columns_ok regions (words s.now at n) }
 {
     if regions <= 256 {
-        return among_few(s, at, n, regions);
+        among::<8>(s, at, n, regions)
+    } else if regions <= 4096 {
+        among::<128>(s, at, n, regions)
+    } else {
+        among::<2048>(s, at, n, regions)
     }
-    if regions <= 4096 {
-        return among_some(s, at, n, regions);
-    }
-    among_many(s, at, n, regions)
 }

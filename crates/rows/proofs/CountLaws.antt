@@ -1,40 +1,28 @@
 -- Counting the regions of one width, and a row's form by the counts. Assumes nothing.
-use mathlib.Core.Path.{◌≡◌, refl, ap}
-use mathlib.Core.List.{[], ◌++◌}
-use Prim.Native.Nat.{ℕ, ◌+◌, ◌≤◌, ◌<◌}
+use mathlib.Core.Path.{◌≡◌, refl, ◌∙◌}
+use mathlib.Core.List.{[], ◌∷◌, ◌++◌}
+use Prim.Native.Nat.{ℕ, ◌+◌, ◌<◌}
 use native.Mathlib.Omega.{arith}
-use lib.ListN.{length, get_or, drop, length-append}
-use lib.Seq.{drop-length}
+use lib.Dec.{eqb}
+use lib.ListN.{length, length-append}
 use borrow.Author.Tests.{lt-ltb, le-ltb}
+use Rattle.std.specs.List.{count_by}
+use Rattle.std.proofs.lemmas.List.Sums.{sum_by-cons}
+use mathlib.Core.Bool.{cond}
+use Rattle.laws.proofs.Cases.{Which, which}
+use Rattle.laws.proofs.Cases.Which.{holds, fails}
 use Rattle.shapes.specs.Shape.{Shape}
-use Rattle.rows.specs.Columns.{of_width, columns_of, word_count}
-use Rattle.rows.proofs.CollectLaws.{rest-same, rest-other}
+use Rattle.rows.specs.Columns.{add_if, of_width, columns_of, word_count}
 
--- n of the first i regions have the width
-pub record Counting (w : ℕ) (s : Shape) (n i : ℕ) : Type 0 where
-  pub within : i ≤ length s
-  pub few : n ≤ i
-  pub end : n + length (of_width w i (drop i s)) ≡ length (of_width w 0 s)
-
-module _ (w : ℕ) (s : Shape) where
-  pub count-start : Counting w s 0 0
-  count-start = record { within = omega arith; few = omega arith; end = omega arith }
-
-  module _ (n i : ℕ) (c : Counting w s n i) where
-    pub count_same : i < length s → get_or s i 0 ≡ w → Counting w s (n + 1) (i + 1)
-    count_same h e = record { within = omega arith; few = omega (arith, c.few); end = omega (arith, c.end, ap length (rest-same w s i h e)) }
-
-    pub count-other : i < length s → (get_or s i 0 ≡ w → ⊥) → Counting w s n (i + 1)
-    count-other h e = record { within = omega arith; few = omega (arith, c.few); end = omega (arith, c.end, ap length (rest-other w s i h e)) }
-
-    pub count-done : length s ≤ i → n ≡ length (of_width w 0 s)
-    count-done h =
-        let e : i ≡ length s = omega (arith, c.within) in
-        let none : length (of_width w i (drop i s)) ≡ 0 = rw (e, drop-length s) (nothing w (length s)) in
-        omega (arith, c.end)
-      where
-        nothing : (v r : ℕ) → length (of_width v r []) ≡ 0
-        nothing v r = unfold of_width in refl
+-- as the code counts them
+pub counted : (w r : ℕ) (s : Shape) → count_by (λ v. eqb v w) s ≡ length (of_width w r s)
+unfolding of_width
+counted w r [] = refl
+counted w r (v ∷ s) = go (which (eqb v w)) (counted w (r + 1) s)
+  where
+    go : Which (eqb v w) → count_by (λ v. eqb v w) s ≡ length (of_width w (r + 1) s) → count_by (λ v. eqb v w) (v ∷ s) ≡ length (add_if (eqb v w) r (of_width w (r + 1) s))
+    go (holds t) e = unfold add_if in sum_by-cons (λ x. cond (eqb x w) 1 0) v s ∙ rw t (omega (arith, e))
+    go (fails t) e = unfold add_if in sum_by-cons (λ x. cond (eqb x w) 1 0) v s ∙ rw t (omega (arith, e))
 
 -- by the three counts
 module _ (s : Shape) (a b c : ℕ) (fours-are : a ≡ length (of_width 4 0 s)) (twos-are : b ≡ length (of_width 2 0 s)) (ones-are : c ≡ length (of_width 1 0 s)) where

@@ -1,6 +1,6 @@
 -- A shape, its columns and the table of their places as parts of one slice of words: the loops that read one part and write another. Assumes
 -- nothing.
-use mathlib.Core.Path.{◌≡◌, refl, sym, subst, ◌∙◌}
+use mathlib.Core.Path.{◌≡◌, sym, subst, ◌∙◌}
 use mathlib.Core.Bool.{true}
 use mathlib.Core.List.{List, [], ◌∷◌, ◌++◌, append_assoc}
 use Prim.Native.Nat.{ℕ, ◌+◌, ◌-◌, ◌≤◌, ◌<◌}
@@ -19,7 +19,7 @@ use Rattle.reader.specs.Store.{are_columns_ok}
 use Rattle.rows.specs.Columns.{of_width, columns_of, fours, word_count}
 use Rattle.rows.specs.Lent.{FormedIn, PlacedIn, Put}
 use Rattle.rows.proofs.PutLaws.{put-join, put_keeps, put-long}
-use Rattle.rows.proofs.CollectLaws.{Collecting, collect-start, collect-room, collect-same, collect-other, collect-done, columns-most, Marking, mark-start, mark-room, mark-more, mark-done}
+use Rattle.rows.proofs.CollectLaws.{Collecting, collect-room, collect-same, collect-other, collect-done, columns-most, Marking, mark-start, mark-room, mark-more, mark-done}
 
 -- ---- the words before a place
 
@@ -43,9 +43,6 @@ pub record CollectingIn (w shape regions from : ℕ) (old new : List ℕ) (n i :
 module _ (w shape regions from : ℕ) (old : List ℕ) (to : shape + regions ≤ from) (room : from + length (of_width w 0 (seg shape regions old)) ≤ length old) where
   long : length (seg shape regions old) ≡ regions
   long = length-seg shape regions old (omega arith)
-
-  pub in_start : CollectingIn w shape regions from old old from 0
-  in_start = record { so_far = collect-start w (seg shape regions old) from old room; behind = omega arith; before = λ k h. refl }
 
   module _ (new : List ℕ) (n i : ℕ) (c : CollectingIn w shape regions from old new n i) (h : i < regions) where
     inside : i < length (seg shape regions old)
@@ -134,12 +131,6 @@ module _ (shape regions cols : ℕ) (old : List ℕ) (few : regions < 32768) (to
 
         put_all : Put cols (columns_of it) old c (cols + (z - cols))
         put_all = record { end = omega (arith, all-put.end); is = all-put.is }
-
-        pub four-to : x - cols ≤ regions
-        four-to = omega (arith, p.end, columns-most it, it-long)
-
-        pub all_from : cols ≤ z
-        all_from = omega (arith, all-put.end)
 
         pub form-wide : cols < x → FormedIn shape regions cols old c (x - cols + 32768) (z - cols)
         unfolding word_count

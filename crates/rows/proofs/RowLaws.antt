@@ -213,13 +213,6 @@ module _ (word : ℕ) (cols work : List ℕ) (start count : ℕ) (old : List ℕ
               ∙ rw (entries-step start count i work p l.within, cells-put n r w set cols j ok m);
         }
 
-  pub lay_done : (row : List ℕ) (i : ℕ) → Laying word cols work start count old row i → i ≤ 0
-      → row ≡ row_bytes word 0 (cell_words (entries_at start count work) cols) ++ drop (column_start word (length cols)) old
-  lay_done row i l h =
-      let e : start + 2 * i ≡ start = omega arith in
-      let f : count - i ≡ count = omega arith in
-      l.is ∙ rw (e, f)
-
 -- ---- the code's tests
 
 pub place_out : (cols places : List ℕ) (r : ℕ) → Placed cols places → length places ≤ r → Missing ≡ find r 0 cols
@@ -262,8 +255,3 @@ pub cleared-take : (word : ℕ) (cols old new : List ℕ) (n : ℕ) → n ≡ co
     → take (column_start word (length cols)) new ≡ row_bytes word 0 (cell_words [] cols)
 cleared-take word cols old new n e f =
     rw (zero_row word cols, ← e, f) (take_at (replicate n 0) (drop n old) n (length-replicate n 0))
-
-pub cleared-drop : (word : ℕ) (cols old new : List ℕ) (n : ℕ) → n ≡ column_start word (length cols) → new ≡ replicate n 0 ++ drop n old
-    → drop (column_start word (length cols)) new ≡ drop (column_start word (length cols)) old
-cleared-drop word cols old new n e f =
-    rw (← e, f) (drop_at (replicate n 0) (drop n old) n (length-replicate n 0))

@@ -1,12 +1,7 @@
 // Numbers as bytes, the highest byte first.
 ghost use Rattle.std.specs.Prelude.{◌+◌, ◌≤◌, ◌%◌, ◌≡◌, length};
 ghost use Rattle.laws.specs.Bytes.{bytes_of, over};
-
-fn low(y: u32) -> u8
-    ensures { result ≡ y % 256 }
-{
-    (y % 256) as u8
-}
+ghost use Rattle.rows.specs.Lent.{Put};
 
 // Writes the k low bytes of x from at on.
 pub fn put(out: &mut [u8], at: usize, k: usize, x: u32)
@@ -14,10 +9,18 @@ pub fn put(out: &mut [u8], at: usize, k: usize, x: u32)
     ensures { out.new ≡ over out.old at k (bytes_of k x) }
 {
     let mut y = x;
-    let mut i = k;
-    while 0 < i {
-        out[at + (i - 1)] = low(y);
+    for i in (0..k).rev() {
+        out[at + i] = (y % 256) as u8;
         y = y / 256;
-        i -= 1;
     }
+}
+
+// Writes bytes from at on, and answers where they end.
+pub fn copy(out: &mut [u8], at: usize, bytes: &[u8]) -> usize
+    requires { at + length bytes.now ≤ length out.old }
+    ensures { Put at bytes.now out.old out.new result }
+{
+    let end = at + bytes.len();
+    out[at..end].copy_from_slice(bytes);
+    end
 }

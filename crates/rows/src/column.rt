@@ -1,5 +1,5 @@
 // Columns of a row: the regions that have one in their order, and which one a region has.
-ghost use Rattle.std.specs.Prelude.{◌≡◌, List, ℕ, ◌+◌, ◌≤◌, ◌<◌, true, length, replicate};
+ghost use Rattle.std.specs.Prelude.{◌≡◌, List, ℕ, ◌+◌, ◌≤◌, ◌<◌, true, length, replicate, eqb, count_by};
 ghost use Rattle.laws.specs.LentRange.{seg};
 ghost use Rattle.reader.specs.Store.{are_columns_ok, find};
 ghost use Rattle.rows.specs.Columns.{columns_of, of_width, word_count};
@@ -30,14 +30,10 @@ fn collect(work: &mut [u32], shape: usize, regions: usize, width: u32, from: usi
     ensures { Put from (of_width width 0 (seg shape regions work.old)) work.old work.new result }
 {
     let mut n = from;
-    let mut i: usize = 0;
-    while i < regions {
+    for i in 0..regions {
         if work[shape + i] == width {
             work[n] = i as u32;
             n += 1;
-            i += 1;
-        } else {
-            i += 1;
         }
     }
     n
@@ -51,6 +47,7 @@ pub struct Form {
 }
 
 // The regions of a shape's columns, wider first: three passes by width. The shape stands in work, and the columns come behind it.
+#[tactic(auto, unfolding(crate::specs::Columns::word_count, crate::specs::Columns::columns_of))]
 pub fn columns(work: &mut [u32], shape: usize, regions: usize, cols: usize) -> Form
     requires regions_bound { regions < 32768 }
     requires regions_bound_2 { shape + regions ≤ cols }
@@ -75,23 +72,14 @@ pub fn columns(work: &mut [u32], shape: usize, regions: usize, cols: usize) -> F
 // How many regions have one width.
 fn count_width(shape: &[u32], width: u32) -> usize
     requires { length shape.now < 32768 }
-    ensures value { result ≡ length (of_width width 0 shape.now) }
+    ensures value { result ≡ count_by (λ w. eqb w width) shape.now }
     ensures upper_bound { result ≤ length shape.now }
 {
-    let mut n: usize = 0;
-    let mut i: usize = 0;
-    while i < shape.len() {
-        if shape[i] == width {
-            n += 1;
-            i += 1;
-        } else {
-            i += 1;
-        }
-    }
-    n
+    shape.iter().filter(|w| **w == width).count()
 }
 
 // The form of a shape's rows alone: its columns are counted and not written.
+#[tactic(auto, unfolding(crate::specs::Columns::word_count, crate::specs::Columns::columns_of))]
 pub fn form_alone(shape: &[u32]) -> Form
     requires { length shape.now < 32768 }
     ensures { (result.word ≡ word_count shape.now) × (result.count ≡ length (columns_of shape.now)) }
@@ -117,11 +105,9 @@ fn mark(work: &mut [u32], cols: usize, n: usize, places: usize, regions: usize)
     requires work_value_2 { seg places regions work.old ≡ replicate regions 0 }
     ensures { PlacedIn cols n places regions work.old work.new }
 {
-    let mut j: usize = 0;
-    while j < n {
+    for j in 0..n {
         let region = work[cols + j] as usize;
-        j += 1;
-        work[places + region] = j as u32;
+        work[places + region] = (j + 1) as u32;
     }
 }
 

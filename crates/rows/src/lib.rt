@@ -6,6 +6,6 @@ mod bytes;
 mod column;
 mod runs;
 
-pub use bytes::put;
+pub use bytes::{copy, put};
 pub use column::{Form, column_of, columns, form_alone, place};
 pub use runs::{run_count, run_items};

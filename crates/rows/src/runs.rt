@@ -6,14 +6,12 @@ ghost use Rattle.rows.specs.Subtable.{run_count_for};
 use shapes::Encoding;
 
 // How many runs a group of count sets is cut into; one of none is one null subtable.
+#[tactic(auto, unfolding(crate::specs::Subtable::run_count_for))]
 pub fn run_count(count: usize) -> usize
     requires { count < 4294967296 }
     ensures { result ≡ run_count_for count }
 {
-    if count == 0 {
-        return 1;
-    }
-    (count + (Encoding::MAX_ITEMS - 1)) / Encoding::MAX_ITEMS
+    count.div_ceil(Encoding::MAX_ITEMS).max(1)
 }
 
 // How many sets run k has.
@@ -22,9 +20,5 @@ pub fn run_items(count: usize, k: usize) -> usize
     requires count_bound { count < 4294967296 }
     ensures { result ≡ min max_items (count - max_items * k) }
 {
-    let left = count - Encoding::MAX_ITEMS * k;
-    if Encoding::MAX_ITEMS < left {
-        return Encoding::MAX_ITEMS;
-    }
-    left
+    Encoding::MAX_ITEMS.min(count - Encoding::MAX_ITEMS * k)
 }

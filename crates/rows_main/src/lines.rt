@@ -1,67 +1,28 @@
-// Lines of hexadecimal bytes, read byte by byte into a case: blanks are skipped, and so is the rest of a line from a '#' on.
-ghost use Rattle.std.specs.Prelude.{◌≤◌};
+// Lines of hexadecimal bytes: blanks are skipped, and so is the rest of a line from a '#' on.
+use std::alloc::{AllocError, Global};
 
-// A digit's number; 16 for what is none.
-fn nibble(b: u8) -> u8
-    ensures { result ≤ 16 }
-{
-    match b {
-        b'0'..=b'9' => b - b'0',
-        b'a'..=b'f' => b - b'a' + 10,
-        _ => 16,
+// The most bytes of a case: what a line has behind them is skipped.
+const MOST_BYTES: usize = 4096;
+
+// A digit's number; none of what is no digit.
+fn digit(byte: u8) -> Option<u8> {
+    match byte {
+        b'0'..=b'9' => Some(byte - b'0'),
+        b'a'..=b'f' => Some(byte - b'a' + 10),
+        _ => None,
     }
 }
 
-// How far the text is read: the bytes of the case so far, the first half of the next one (16 for none), and whether a '#' was seen.
-#[derive(Clone, Copy)]
-pub struct Place {
-    pub n: usize,
-    pub half: u8,
-    pub told: bool,
-}
-
-// Before a line.
-pub fn start() -> Place {
-    Place {
-        n: 0,
-        half: 16,
-        told: false,
-    }
-}
-
-// One digit more.
-fn digit(case: &mut [u8; 4096], n: usize, half: u8, x: u8) -> Place
-    requires { x ≤ 16 }
-{
-    let at = Place {
-        n,
-        half,
-        told: false,
-    };
-    if x == 16 {
-        return at;
-    }
-    if half >= 16 {
-        return Place { half: x, ..at };
-    }
-    if n < 4096 {
-        case[n] = half * 16 + x;
-        return Place {
-            n: n + 1,
-            half: 16,
-            ..at
-        };
-    }
-    at
-}
-
-// One byte more, which ends no line.
-pub fn more(case: &mut [u8; 4096], at: Place, b: u8) -> Place {
-    if at.told {
-        return at;
-    }
-    if b == b'#' {
-        return Place { told: true, ..at };
-    }
-    digit(case, at.n, at.half, nibble(b))
+// The bytes that a line says, of two digits each. A last digit alone says none.
+pub fn bytes_of(alloc: Global, line: &[u8]) -> Result<Vec<u8>, AllocError> {
+    let digits: Vec<u8> = line
+        .iter()
+        .take_while(|byte| **byte != b'#')
+        .filter_map(|byte| digit(*byte))
+        .take(2 * MOST_BYTES)
+        .collect(alloc)?;
+    digits
+        .chunks_exact(2)
+        .map(|pair| pair.iter().fold(0, |byte, half| byte << 4 | *half))
+        .collect(alloc)
 }

@@ -28,12 +28,6 @@ module _ (outer : ℕ) (w : List ℕ) (ids items : ℕ) (inside : ids + items �
   abbrev pub rows_from : ℕ → List (ℕ × ℕ)
   rows_from i = in_run outer i (seg (ids + i) (items - i) w)
 
-  pub run-all : rows_from 0 ≡ in_run outer 0 (seg ids items w)
-  run-all =
-      let e : ids + 0 ≡ ids = omega arith in
-      let f : items - 0 ≡ items = omega arith in
-      rw (e, f)
-
   pub run_more : (old new : List ℕ) (i : ℕ) → stored (rows_from i) new ≡ old → i < items
       → stored (rows_from (i + 1)) (set new (get_or w (ids + i) 0) (outer * 65536 + i)) ≡ old
   unfolding stored in_run

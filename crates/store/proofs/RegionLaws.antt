@@ -18,7 +18,7 @@ use Rattle.laws.proofs.Cases.{same_or_not, lt-or-ge}
 use Rattle.laws.proofs.RangeLaws.{get_or-seg, length-seg, only-refl, only_set, only-trans}
 use Rattle.laws.proofs.RankLaws.{rank-in, rank-out, rank_most}
 use Rattle.store.specs.Placing.{Final, names}
-use Rattle.store.specs.Lent.{final_at, finals_at, marked_in, Handed, Named, NamedIn, Marks, Numbered, NumberedIn}
+use Rattle.store.specs.Lent.{final_at, finals_at, marked_in, Handed, Named, NamedIn, Marks, Numbered}
 use Rattle.rows.proofs.InWork.{seg-set, seg-take, take-only}
 
 -- ---- marks of one shape
@@ -250,9 +250,3 @@ module _ (marks numbers regions : ℕ) (old : List ℕ) (to : marks + regions �
             rw (seg-set numbers regions new r n (omega (arith, m.only.long)) h)
             (number-out (seg marks regions old) regions (seg numbers regions old) numbers-long (seg numbers regions new) n r m.so_far h (mark-is ∙ e));
       }
-
-  pub numbered-done : (new : List ℕ) (n r : ℕ) → NumberingIn marks numbers regions old new n r → regions ≤ r → NumberedIn marks numbers regions old new n
-  numbered-done new n r m h = record {
-    only = m.only;
-    numbered = number-done (seg marks regions old) regions (seg numbers regions old) numbers-long (seg numbers regions new) n r m.so_far h;
-  }

@@ -32,18 +32,15 @@ pub fn mark_shape(work: &mut [u32], shape: usize, regions: usize, marks: usize)
     requires regions_in_bounds { marks + regions ≤ length work.old }
     ensures { NamedIn shape regions marks work.old work.new }
 {
-    let mut r: usize = 0;
-    while r < regions {
+    for r in 0..regions {
         if work[shape + r] != 0 {
             work[marks + r] = 1;
-            r += 1;
-        } else {
-            r += 1;
         }
     }
 }
 
 // The bytes of a subtable of n columns and rows of so many bytes; one of no rows has none.
+#[tactic(auto, unfolding(crate::specs::Lent::subtable_size))]
 pub fn table_size(n: usize, row: usize, items: usize) -> usize
     requires n_bound { n < 65536 }
     requires row_bound { row < 262144 }
@@ -58,6 +55,7 @@ pub fn table_size(n: usize, row: usize, items: usize) -> usize
 }
 
 // The offset to write for a subtable of a size.
+#[tactic(auto, unfolding(crate::specs::Lent::spot_of))]
 pub fn offset(at: usize, size: usize) -> u32
     requires { at < 4294967296 }
     ensures { result ≡ spot_of at size }
@@ -76,10 +74,8 @@ pub fn map_run(work: &[u32], ids: usize, items: usize, outer: usize, map: &mut [
     requires all { All (λ x. x < length map.old) (seg ids items work.now) }
     ensures { map.new ≡ stored (in_run outer 0 (seg ids items work.now)) map.old }
 {
-    let mut i: usize = 0;
-    while i < items {
+    for i in 0..items {
         let x = work[ids + i] as usize;
         map[x] = (outer * 65536 + i) as u32;
-        i += 1;
     }
 }

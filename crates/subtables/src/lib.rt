@@ -2,8 +2,10 @@
 #![tactic(auto)]
 
 mod block;
+mod columns;
 mod row;
+mod sets;
 mod subtable;
 
-pub use block::SetList;
+pub use sets::SetList;
 pub use subtable::write_runs;

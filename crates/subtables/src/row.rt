@@ -2,8 +2,9 @@
 ghost use Rattle.std.specs.Prelude.{◌≡◌, List, [], ◌++◌, ◌+◌, ◌*◌, ◌≤◌, ◌<◌, length, take, drop, replicate};
 ghost use Rattle.laws.specs.Signed.{twos, value};
 ghost use Rattle.reader.specs.Store.{column_start};
-ghost use Rattle.rows.specs.Lent.{Placed, entries_at, row_bytes, cell_words};
+ghost use Rattle.rows.specs.Lent.{entries_at, row_bytes, cell_words};
 
+use crate::columns::Columns;
 use reader::{Column, column_at, column_bytes};
 use rows::{column_of, put};
 
@@ -11,70 +12,40 @@ use rows::{column_of, put};
 fn twos(word: u32) -> u32
     ensures { result ≡ twos 4 (value word) }
 {
-    if word < 0x8000_0000 {
-        return word + 0x8000_0000;
-    }
-    word - 0x8000_0000
+    word.wrapping_add(0x8000_0000)
 }
 
 fn clear_row(row: &mut [u8], n: usize)
     requires { n ≤ length row.old }
     ensures { row.new ≡ replicate n 0 ++ drop n row.old }
 {
-    let mut i: usize = 0;
-    while i < n {
-        row[i] = 0;
-        i += 1;
-    }
+    row[..n].fill(0);
 }
 
 // Puts each value of the set of count entries from start on into its column; a region with no column is skipped.
-fn lay(
-    row: &mut [u8],
-    word: usize,
-    cols: &[u32],
-    places: &[u32],
-    work: &[u32],
-    start: usize,
-    count: usize,
-)
-    requires word_bound { word < 65536 }
-    requires cols_len_bound { length cols.now < 65536 }
-    requires cols_in_bounds { column_start word (length cols.now) ≤ length row.old }
-    requires row_value { take (column_start word (length cols.now)) row.old ≡ row_bytes word 0 (cell_words [] cols.now) }
-    requires placed { Placed cols.now places.now }
+fn lay(row: &mut [u8], columns: Columns, work: &[u32], start: usize, count: usize)
+    requires row_in_bounds { column_start columns.word (length columns.regions.now) ≤ length row.old }
+    requires row_value { take (column_start columns.word (length columns.regions.now)) row.old ≡ row_bytes columns.word 0 (cell_words [] columns.regions.now) }
     requires count_in_bounds { start + 2 * count ≤ length work.now }
-    ensures { row.new ≡ row_bytes word 0 (cell_words (entries_at start count work.now) cols.now) ++ drop (column_start word (length cols.now)) row.old }
+    ensures { row.new ≡ row_bytes columns.entry.word 0 (cell_words (entries_at start count work.now) columns.entry.regions.now) ++ drop (column_start columns.entry.word (length columns.entry.regions.now)) row.old }
 {
-    let mut i = count;
-    while 0 < i {
-        i -= 1;
+    for i in (0..count).rev() {
         let region = work[start + 2 * i] as usize;
         let value = work[start + 2 * i + 1];
-        let Column::At(j) = column_of(places, region) else {
+        let Column::At(j) = column_of(columns.places, region) else {
             continue;
         };
+        let word = columns.word;
         put(row, column_at(word, j), column_bytes(word, j), twos(value));
     }
 }
 
 // Writes one row at the start of the part: the values of a set at their columns, zeros elsewhere.
-pub fn write_row(
-    row: &mut [u8],
-    word: usize,
-    cols: &[u32],
-    places: &[u32],
-    work: &[u32],
-    start: usize,
-    count: usize,
-)
-    requires word_bound { word < 65536 }
-    requires cols_len_bound { length cols.now < 65536 }
-    requires cols_in_bounds { column_start word (length cols.now) ≤ length row.old }
-    requires placed { Placed cols.now places.now }
+pub fn write_row(row: &mut [u8], columns: Columns, work: &[u32], start: usize, count: usize)
+    requires row_in_bounds { column_start columns.word (length columns.regions.now) ≤ length row.old }
     requires count_in_bounds { start + 2 * count ≤ length work.now }
-    ensures { row.new ≡ row_bytes word 0 (cell_words (entries_at start count work.now) cols.now) ++ drop (column_start word (length cols.now)) row.old }
+    ensures { row.new ≡ row_bytes columns.entry.word 0 (cell_words (entries_at start count work.now) columns.entry.regions.now) ++ drop (column_start columns.entry.word (length columns.entry.regions.now)) row.old }
 {
-    clear_row(row, column_at(word, cols.len()));
-    lay(row, word, cols, places, work, start, count);
+    clear_row(row, columns.row());
+    lay(row, columns, work, start, count);
 }

@@ -111,10 +111,8 @@ pub fn write_groups(out: &mut [u8], at: usize, work: &mut [u32], t: Finals, scra
     ensures only { Only ((scratch + 2 * t.regions, 2 * t.regions) ∷ []) work.old work.new }
 {
     let mut a = at;
-    let mut g: usize = 0;
-    while g < t.count {
+    for g in 0..t.count {
         a = write_one(out, a, work, t, scratch, t.groups + 3 * g);
-        g += 1;
     }
     a
 }

@@ -8,23 +8,11 @@ ghost use Rattle.rows.specs.Lent.{Put};
 ghost use Rattle.store.specs.Lent.{Sourced, chain, coords_at, kept_bytes, list_bytes, marked_in};
 
 use records::{COORDS_LONG, axis_coords};
-use rows::put;
+use rows::{copy, put};
 use store::Coords;
 
-fn copy(out: &mut [u8], at: usize, src: &[u8], from: usize, n: usize) -> usize
-    requires n_in_bounds { at + n ≤ length out.old }
-    requires n_in_bounds_2 { from + n ≤ length src.now }
-    ensures { Put at (seg from n src.now) out.old out.new result }
-{
-    let mut i: usize = 0;
-    while i < n {
-        out[at + i] = src[from + i];
-        i += 1;
-    }
-    at + i
-}
-
 // The coordinates of one region, which stand in the source as in the axis records of a job.
+#[tactic(auto, unfolding(store::specs::Lent::coords_at))]
 fn write_region(out: &mut [u8], at: usize, src: &[u8], from: usize, axes: usize) -> usize
     requires axes_bound { axes < 65536 }
     requires sourced { Sourced axes src.now from }
@@ -32,10 +20,9 @@ fn write_region(out: &mut [u8], at: usize, src: &[u8], from: usize, axes: usize)
     ensures { Put at (coords_at src.now axes from) out.old out.new result }
 {
     let mut p = at;
-    let mut a: usize = 0;
-    while a < axes {
-        p = copy(out, p, src, axis_coords(from, a), COORDS_LONG);
-        a += 1;
+    for a in 0..axes {
+        let coords = axis_coords(from, a);
+        p = copy(out, p, &src[coords..coords + COORDS_LONG]);
     }
     p
 }
@@ -58,15 +45,11 @@ fn write_kept(
     ensures { Put at (kept_bytes src.now c.axes work.now c.starts (keep (marked_in marks.now) (up_to regions))) out.old out.new result }
 {
     let mut p = at;
-    let mut r: usize = 0;
-    while r < regions {
+    for r in 0..regions {
         if marks[r] != 0 {
             let starts = c.starts;
             let from = work[starts + r] as usize;
             p = write_region(out, p, src, from, c.axes);
-            r += 1;
-        } else {
-            r += 1;
         }
     }
     p

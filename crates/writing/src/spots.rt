@@ -34,13 +34,11 @@ fn write_run_spots(
     let runs = run_count(count);
     let mut p = at;
     let mut next = first;
-    let mut k: usize = 0;
-    while k < runs {
+    for k in 0..runs {
         let size = table_size(n, row, run_items(count, k));
         put(out, p, 4, offset(next, size));
         p += 4;
         next += size;
-        k += 1;
     }
     Spot { at: p, next }
 }
@@ -69,6 +67,7 @@ fn write_group_spots(
 }
 
 // Of all groups.
+#[tactic(auto, unfolding(store::specs::Lent::sizes_at))]
 pub fn write_spots(out: &mut [u8], at: usize, first: usize, work: &[u32], t: Finals) -> Spot
     requires regions_le_max_regions { t.regions ≤ max_regions }
     requires count_in_bounds { t.groups + 3 * t.count ≤ length work.now }
@@ -80,12 +79,10 @@ pub fn write_spots(out: &mut [u8], at: usize, first: usize, work: &[u32], t: Fin
 {
     let mut p = at;
     let mut next = first;
-    let mut g: usize = 0;
-    while g < t.count {
+    for g in 0..t.count {
         let s = write_group_spots(out, p, next, work, t, t.groups + 3 * g);
         p = s.at;
         next = s.next;
-        g += 1;
     }
     Spot { at: p, next }
 }

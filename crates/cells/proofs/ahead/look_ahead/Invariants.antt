@@ -3,6 +3,3 @@ use Rattle.cells.proofs.ahead.look_ahead.Given as goal
 
 abbrev pub invariant-loop-p : goal.invariant-loop-p
 invariant-loop-p l = Looking l.s l.at l.initial.work l.work l.zeros l.p
-
-abbrev pub decreases-loop-p : goal.decreases-loop-p
-decreases-loop-p l = l.p

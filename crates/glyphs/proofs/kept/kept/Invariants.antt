@@ -1,11 +1,8 @@
-use Prim.Native.Nat.{◌≤◌}
+use Prim.Native.Nat.{◌≤◌, min}
 use mathlib.Core.Path.{◌≡◌}
 use lib.ListN.{length}
-use Rattle.glyphs.specs.Packing.{kept_of, count_of}
+use Rattle.glyphs.specs.Packing.{count_of, kept_of}
 use Rattle.glyphs.proofs.kept.kept.Given as goal
 
-abbrev pub invariant-loop-n : goal.invariant-loop-n
-invariant-loop-n l = (l.n ≤ length l.words) × (kept_of l.words l.n ≡ count_of l.words)
-
-abbrev pub decreases-loop-n : goal.decreases-loop-n
-decreases-loop-n l = l.n
+abbrev pub invariant-loop-i : goal.invariant-loop-i
+invariant-loop-i l = (min (length l.words) 1 ≤ l.i) × (l.i ≤ length l.words) × (kept_of l.words l.i ≡ count_of l.words)

@@ -1,18 +1,13 @@
 use mathlib.Core.Path.{ap, ◌∙◌}
 use Prim.Native.Nat.{ℕ, ◌+◌, ◌/◌}
-use Rattle.laws.proofs.Products.{product}
 use Rattle.laws.proofs.BytesLaws.{pow-top}
 use Rattle.glyphs.specs.Reading.{entries_from}
 use Rattle.glyphs.proofs.ReadLaws.{map-fits, place_inside, entry-there}
 use native.Mathlib.Omega.{arith}
-use borrow.Author.Rules.{rules}
 use Rattle.glyphs.proofs.read.entry_at.Goals as goal
 
 pub be-requires : goal.be-requires
 be-requires c = record { k_bound = omega arith; k_in_bounds = omega (arith, (map-fits _ c.requires).head) }
-
-pub overflow_add-size : goal.overflow_add-size
-overflow_add-size c = search rules
 
 pub count-requires : goal.count-requires
 count-requires c =
@@ -24,15 +19,6 @@ entry_no-k-requires c = let f = map-fits _ c.requires in omega (arith, f.some, c
 
 pub be-requires-2 : goal.be-requires-2
 be-requires-2 c = record { k_bound = omega arith; k_in_bounds = omega (arith, (map-fits _ c.requires).head) }
-
-pub start-requires : goal.start-requires
-start-requires c = search rules
-
-pub overflow_mul-at : goal.overflow_mul-at
-overflow_mul-at c = let f = map-fits _ c.requires in omega (arith, product 4294967296 4 {a = c.entry_no-k.result} {b = c.be.result / 16 + 1} (omega arith) (omega (arith, f.form, c.be.ensures.is)))
-
-pub overflow_add-at : goal.overflow_add-at
-overflow_add-at c = let f = map-fits _ c.requires in omega (arith, product 4294967296 4 {a = c.entry_no-k.result} {b = c.be.result / 16 + 1} (omega arith) (omega (arith, f.form, c.be.ensures.is)))
 
 pub be-requires-3 : goal.be-requires-3
 be-requires-3 c =

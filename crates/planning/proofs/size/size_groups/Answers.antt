@@ -11,27 +11,6 @@ piece work regions groups g = group_sizes (final_at regions work (groups + 3 * g
 pub loop-g-init : goal.loop-g-init
 loop-g-init c = let a = c.args in (omega arith, omega arith, tot-start (piece a.work.now a.t.regions a.t.groups) a.t.count)
 
-pub overflow_mul-g : goal.overflow_mul-g
-overflow_mul-g c = omega arith
-
-pub overflow_add-t : goal.overflow_add-t
-overflow_add-t c = omega arith
-
-pub size_group-s-requires : goal.size_group-s-requires
-size_group-s-requires c = record { regions_le_max_regions = c.requires.regions_le_max_regions; handed = c.requires.by_index c.loop-g.g c.loop-g-test.true; small = c.requires.by_index_2 c.loop-g.g c.loop-g-test.true }
-
-pub overflow_add-bytes : goal.overflow_add-bytes
-overflow_add-bytes c = omega (arith, c.size_group-s.ensures.bytes_bound, c.loop-g.invariant, c.requires.count_le_max_shapes)
-
-pub overflow_add-runs : goal.overflow_add-runs
-overflow_add-runs c = omega (arith, c.size_group-s.ensures.bytes_bound, c.loop-g.invariant, c.requires.count_le_max_shapes)
-
-pub overflow_add-g : goal.overflow_add-g
-overflow_add-g c = omega arith
-
-pub loop-g-smaller : goal.loop-g-smaller
-loop-g-smaller c = omega arith
-
 pub loop-g-preserved : goal.loop-g-preserved
 loop-g-preserved c =
     let a = c.args in

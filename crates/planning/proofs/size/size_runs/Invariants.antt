@@ -7,10 +7,5 @@ use Rattle.planning.proofs.size.size_runs.Given as goal
 
 abbrev pub invariant-loop-k : goal.invariant-loop-k
 invariant-loop-k l =
-    (l.runs ≡ run_count_for l.count)
-    × (l.k ≤ run_count_for l.count)
-    × (l.bytes ≤ 34359738368 * l.k)
+    (l.bytes ≤ 34359738368 * l.k)
     × (l.bytes + sum_of (tabulate l.k (run_count_for l.count - l.k) (λ k'. subtable_size l.n l.row (min 65535 (l.count - 65535 * k')))) ≡ sum_of (tabulate 0 (run_count_for l.count) (λ k'. subtable_size l.n l.row (min 65535 (l.count - 65535 * k')))))
-
-abbrev pub decreases-loop-k : goal.decreases-loop-k
-decreases-loop-k l = l.runs - l.k

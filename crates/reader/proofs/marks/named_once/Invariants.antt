@@ -1,10 +1,6 @@
-use Prim.Native.Nat.{◌-◌}
 use Rattle.reader.specs.Store.{words}
 use Rattle.reader.proofs.MarkLaws.{Seen}
 use Rattle.reader.proofs.marks.named_once.Given as goal
 
 abbrev pub invariant-loop-j : goal.invariant-loop-j
 invariant-loop-j l = Seen (words l.s l.at l.n) l.regions l.initial.seen l.seen l.j
-
-abbrev pub decreases-loop-j : goal.decreases-loop-j
-decreases-loop-j l = l.n - l.j

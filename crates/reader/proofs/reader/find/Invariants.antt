@@ -5,6 +5,3 @@ use Rattle.reader.proofs.reader.find.Given as goal
 
 abbrev pub invariant-loop-j : goal.invariant-loop-j
 invariant-loop-j l = (l.j ≤ l.n) × (find l.x 0 (words l.s l.at l.n) ≡ find l.x l.j (words l.s (l.at + 2 * l.j) (l.n - l.j)))
-
-abbrev pub decreases-loop-j : goal.decreases-loop-j
-decreases-loop-j l = l.n - l.j

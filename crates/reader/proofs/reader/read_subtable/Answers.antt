@@ -1,157 +1,47 @@
-use mir.Syntax.{w32}
-use mir.ValLaws.{to_z-of_z}
 use Prim.Native.Nat.{◌+◌, ◌*◌, ◌≤◌, ◌<◌}
 use lib.ListN.{length}
 use Rattle.reader.specs.declared.column.Column.TheVariants.{At}
-use Rattle.reader.specs.declared.reader.Reading.TheVariants.{Written}
-use mathlib.Core.Path.{◌≡◌, sym, ap, ◌∙◌}
-use borrow.Author.Tests.{eq-eqb, ne_eqb, le-leb, lt-leb, not-false}
+use mathlib.Core.Path.{◌≡◌, sym, ◌∙◌}
+use borrow.Author.Tests.{not-false}
 use native.Mathlib.Omega.{arith}
-use Rattle.reader.specs.Store.{subtable_reading, cell, column_start}
+use Rattle.reader.specs.Store.{column_start}
 use Rattle.laws.specs.Bytes.{be}
-use Rattle.laws.proofs.Products.{product, row_fits}
+use Rattle.laws.proofs.Products.{row_fits}
 use Rattle.reader.proofs.StoreLaws.{header-fits, SubtableFits, subtable-fits, find-below, words-length}
 use Rattle.reader.proofs.ColumnLaws.{at-fits}
-use borrow.Author.Rules.{rules}
 use Rattle.reader.proofs.reader.read_subtable.Goals as goal
-
-pub returns-then-at-eq0 : goal.returns-then-at-eq0
-unfolding subtable_reading
-returns-then-at-eq0 c =
-    simp
-    (eq-eqb _ _ c.if-at-eq0.true)
 
 pub be-list-requires : goal.be-list-requires
 be-list-requires c = record { k_bound = omega (arith, header-fits _ c.requires.0); k_in_bounds = omega (arith, header-fits _ c.requires.0) }
 
-pub overflow_add-list : goal.overflow_add-list
-overflow_add-list c = search rules
-
 pub be-regions-requires : goal.be-regions-requires
 be-regions-requires c = record { k_bound = omega (arith, header-fits _ c.requires.0); k_in_bounds = omega (arith, header-fits _ c.requires.0) }
-
-pub subtable_ok-requires : goal.subtable_ok-requires
-subtable_ok-requires c = search rules
-
-pub returns-then-not-subtable_ok : goal.returns-then-not-subtable_ok
-unfolding subtable_reading
-returns-then-not-subtable_ok c =
-    simp (
-      ne_eqb _ _ c.if-at-eq0.false,
-      ← c.be-list.ensures.is,
-      ← c.be-regions.ensures.is,
-      ← c.subtable_ok.ensures,
-      c.if-not-subtable_ok.true-raw,
-    )
 
 pub be-requires : goal.be-requires
 be-requires c =
     let good : SubtableFits c.args.s.now c.args.at = subtable-fits _ _ _ (sym c.subtable_ok.ensures ∙ not-false _ c.if-not-subtable_ok.false-raw) in
     record { k_bound = omega (arith, good); k_in_bounds = omega (arith, good) }
 
-pub returns-then-be-inner : goal.returns-then-be-inner
-unfolding subtable_reading
-returns-then-be-inner c =
-    simp (
-      ne_eqb _ _ c.if-at-eq0.false,
-      ← c.be-list.ensures.is,
-      ← c.be-regions.ensures.is,
-      ← c.subtable_ok.ensures,
-      c.if-not-subtable_ok.false-raw,
-      ← c.be.ensures.is,
-      le-leb _ _ c.if-be-inner.true,
-    )
-
-pub returns-then-regions-region : goal.returns-then-regions-region
-unfolding subtable_reading
-returns-then-regions-region c =
-    simp (
-      ne_eqb _ _ c.if-at-eq0.false,
-      ← c.be-list.ensures.is,
-      ← c.be-regions.ensures.is,
-      ← c.subtable_ok.ensures,
-      c.if-not-subtable_ok.false-raw,
-      ← c.be.ensures.is,
-      lt-leb _ _ c.if-be-inner.false,
-      le-leb _ _ c.if-regions-region.true,
-    )
-
-pub overflow_add-at : goal.overflow_add-at
-overflow_add-at c = search rules
-
 pub be-n-requires : goal.be-n-requires
 be-n-requires c =
     let good : SubtableFits c.args.s.now c.args.at = subtable-fits _ _ _ (sym c.subtable_ok.ensures ∙ not-false _ c.if-not-subtable_ok.false-raw) in
     record { k_bound = omega (arith, good); k_in_bounds = omega (arith, good) }
-
-pub overflow_add-at-2 : goal.overflow_add-at-2
-overflow_add-at-2 c = search rules
 
 pub find-requires : goal.find-requires
 find-requires c =
     let good : SubtableFits c.args.s.now c.args.at = subtable-fits _ _ _ (sym c.subtable_ok.ensures ∙ not-false _ c.if-not-subtable_ok.false-raw) in
     record { n_bound = omega (arith, good); n_in_bounds = omega (arith, good) }
 
-pub enum_known-j : goal.enum_known-j
-enum_known-j c = search rules
-
-pub enum_told-1 : goal.enum_told-1
-enum_told-1 c = search rules
-
-pub returns-in_default : goal.returns-in_default
-unfolding subtable_reading
-returns-in_default c =
-    simp (
-      ne_eqb _ _ c.if-at-eq0.false,
-      ← c.be-list.ensures.is,
-      ← c.be-regions.ensures.is,
-      ← c.subtable_ok.ensures,
-      c.if-not-subtable_ok.false-raw,
-      ← c.be.ensures.is,
-      lt-leb _ _ c.if-be-inner.false,
-      lt-leb _ _ c.if-regions-region.false,
-      ← c.be-n.ensures.is,
-      ← c.find.ensures,
-      c.in_default.is,
-    )
-
-pub overflow_add-at-3 : goal.overflow_add-at-3
-overflow_add-at-3 c = search rules
-
 pub be-word-requires : goal.be-word-requires
 be-word-requires c =
     let good : SubtableFits c.args.s.now c.args.at = subtable-fits _ _ _ (sym c.subtable_ok.ensures ∙ not-false _ c.if-not-subtable_ok.false-raw) in
     record { k_bound = omega (arith, good); k_in_bounds = omega (arith, good) }
-
-pub column_bytes-k-requires : goal.column_bytes-k-requires
-column_bytes-k-requires c = search rules
-
-pub overflow_add-place : goal.overflow_add-place
-overflow_add-place c = search rules
-
-pub overflow_mul-place : goal.overflow_mul-place
-overflow_mul-place c = search rules
-
-pub overflow_add-place-2 : goal.overflow_add-place-2
-overflow_add-place-2 c = search rules
-
-pub column_at-requires : goal.column_at-requires
-column_at-requires c = record { word_bound = search rules; j_bound = search rules }
-
-pub overflow_mul-place-2 : goal.overflow_mul-place-2
-overflow_mul-place-2 c = omega (arith, product 65536 262144 {a = c.args.inner} {b = c.column_at.result} (omega (arith, c.if-be-inner.false, c.be.ensures)) (omega arith), c.requires)
-
-pub overflow_add-place-3 : goal.overflow_add-place-3
-overflow_add-place-3 c = omega (arith, product 65536 262144 {a = c.args.inner} {b = c.column_at.result} (omega (arith, c.if-be-inner.false, c.be.ensures)) (omega arith), c.requires)
 
 pub column_at-requires-2 : goal.column_at-requires-2
 column_at-requires-2 c =
     let column : c.find.result ≡ At c.in-At.j = c.in-At.is in
     let below : c.in-At.j < c.be-n.result = omega (arith, find-below _ _ _ _ (sym c.find.ensures ∙ column), words-length c.args.s.now (c.args.at + 6) c.be-n.result) in
     record { word_bound = omega (arith, below); j_bound = omega (arith, below) }
-
-pub overflow_add-place-4 : goal.overflow_add-place-4
-overflow_add-place-4 c = omega (arith, product 65536 262144 {a = c.args.inner} {b = c.column_at.result} (omega (arith, c.if-be-inner.false, c.be.ensures)) (omega arith), c.requires)
 
 pub be-requires-2 : goal.be-requires-2
 be-requires-2 c =
@@ -182,31 +72,3 @@ be-requires-2 c =
       row_fits row items inner c.if-be-inner.false,
     ) in
     record { k_bound = omega arith; k_in_bounds = place }
-
-pub signed-requires : goal.signed-requires
-signed-requires c = search rules
-
-pub returns : goal.returns
-unfolding subtable_reading cell
-returns c =
-    let column : c.find.result ≡ At c.in-At.j = c.in-At.is in
-    simp (
-      ne_eqb _ _ c.if-at-eq0.false,
-      ← c.be-list.ensures.is,
-      ← c.be-regions.ensures.is,
-      ← c.subtable_ok.ensures,
-      c.if-not-subtable_ok.false-raw,
-      ← c.be.ensures.is,
-      lt-leb _ _ c.if-be-inner.false,
-      lt-leb _ _ c.if-regions-region.false,
-      ← c.be-n.ensures.is,
-      ← c.find.ensures,
-      column,
-      ← c.be-word.ensures.is,
-      ← c.column_bytes-k.ensures.value,
-      ← c.column_at.ensures.value,
-      ← c.column_at-2.ensures.value,
-      ← c.be-2.ensures.is,
-      ← c.signed.ensures,
-    )
-    (ap Written (to_z-of_z w32 c.signed.result (record { sfits = c.signed.type_inv })))

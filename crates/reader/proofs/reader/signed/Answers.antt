@@ -7,12 +7,8 @@ use mir.Syntax.{w32}
 use mir.ValLaws.{to_z_pos}
 use Rattle.laws.specs.Signed.{signed}
 use Rattle.laws.proofs.BytesLaws.{pow-top}
-use Rattle.reader.proofs.StoreLaws.{neg-fits, neg-back}
-use borrow.Author.Rules.{rules}
+use Rattle.reader.proofs.StoreLaws.{neg-back}
 use Rattle.reader.proofs.reader.signed.Goals as goal
-
-pub span-m-requires : goal.span-m-requires
-span-m-requires c = search rules
 
 pub overflow_mul-x : goal.overflow_mul-x
 overflow_mul-x c = omega (arith, pow-top 4 c.requires.0)
@@ -28,17 +24,8 @@ returns-then-x-m c =
     let h : 2 * x < 256 ^ k = omega arith in
     to_z_pos w32 x (omega (arith, pow-top 4 c.requires.0)) ∙ sym (simp (lt-ltb _ _ h))
 
-pub overflow_add-result : goal.overflow_add-result
-overflow_add-result c = search rules
-
-pub overflow_sub-result : goal.overflow_sub-result
-overflow_sub-result c = search rules
-
 pub overflow_cast-result-2 : goal.overflow_cast-result-2
 overflow_cast-result-2 c = record { sfits = omega (arith, pow-top 4 c.requires.0) }
-
-pub overflow_sub-result-2 : goal.overflow_sub-result-2
-overflow_sub-result-2 c = neg-fits (c.span-m.result - (c.args.x + 1)) (omega (arith, pow-top 4 c.requires.0))
 
 pub returns : goal.returns
 unfolding signed

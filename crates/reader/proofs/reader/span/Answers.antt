@@ -1,21 +1,15 @@
-use Prim.Native.Nat.{ℕ, ◌^◌}
-use mathlib.Core.Path.{◌≡◌, sym, ap}
+use Prim.Native.Nat.{ℕ, zero, suc, ◌*◌, ◌%◌, ◌^◌, ◌≤◌}
+use mathlib.Core.Path.{◌≡◌, refl}
 use native.Mathlib.Omega.{arith}
 use Rattle.reader.proofs.reader.span.Goals as goal
 
-pub returns-in-0 : goal.returns-in-0
-returns-in-0 c = sym (ap (λ (n : ℕ). 256 ^ n) c.in-0.is)
+bits : (k : ℕ) → k ≤ 4 → 1 * 2 ^ (8 * k) % 18446744073709551616 ≡ 256 ^ k
+bits zero h = refl
+bits (suc zero) h = refl
+bits (suc (suc zero)) h = refl
+bits (suc (suc (suc zero))) h = refl
+bits (suc (suc (suc (suc zero)))) h = refl
+bits (suc (suc (suc (suc (suc k))))) h = absurd (omega arith)
 
-pub returns-in-1 : goal.returns-in-1
-returns-in-1 c = sym (ap (λ (n : ℕ). 256 ^ n) c.in-1.is)
-
-pub returns-in-2 : goal.returns-in-2
-returns-in-2 c = sym (ap (λ (n : ℕ). 256 ^ n) c.in-2.is)
-
-pub returns-in-3 : goal.returns-in-3
-returns-in-3 c = sym (ap (λ (n : ℕ). 256 ^ n) c.in-3.is)
-
-pub returns-in_default : goal.returns-in_default
-returns-in_default c =
-    let e : c.args.k ≡ 4 = omega (arith, c.in_default.in_default-own.rest.1) in
-    sym (ap (λ (n : ℕ). 256 ^ n) e)
+pub returns : goal.returns
+returns c = bits c.args.k c.requires

@@ -6,6 +6,3 @@ use Rattle.rows.proofs.bytes.put.Given as goal
 
 abbrev pub invariant-loop-i : goal.invariant-loop-i
 invariant-loop-i l = (l.i ≤ l.k) × (length l.out ≡ length l.initial.out) × (over l.out l.at l.i (bytes_of l.i l.y) ≡ over l.initial.out l.at l.k (bytes_of l.k l.x))
-
-abbrev pub decreases-loop-i : goal.decreases-loop-i
-decreases-loop-i l = l.i

@@ -1,9 +1,5 @@
-use Prim.Native.Nat.{◌-◌}
 use Rattle.rows.proofs.InWork.{MarkingIn}
 use Rattle.rows.proofs.column.mark.Given as goal
 
 abbrev pub invariant-loop-j : goal.invariant-loop-j
 invariant-loop-j l = MarkingIn l.cols l.n l.places l.regions l.initial.work l.work l.j
-
-abbrev pub decreases-loop-j : goal.decreases-loop-j
-decreases-loop-j l = l.n - l.j

@@ -1,11 +1,8 @@
-use Prim.Native.Nat.{◌+◌, ◌-◌, ◌≤◌}
+use Prim.Native.Nat.{◌+◌, ◌-◌}
 use Rattle.laws.specs.LentRange.{seg}
 use Rattle.rows.specs.Lent.{rows_bytes, set_at}
 use Rattle.rows.proofs.PutLaws.{Putting}
 use Rattle.subtables.proofs.block.write_block.Given as goal
 
 abbrev pub invariant-loop-i : goal.invariant-loop-i
-invariant-loop-i l = (l.i ≤ l.sets.count) × Putting l.at (rows_bytes l.word l.cols (set_at l.sets.index l.work) (seg l.sets.ids l.sets.count l.work)) l.initial.out l.out l.a (rows_bytes l.word l.cols (set_at l.sets.index l.work) (seg (l.sets.ids + l.i) (l.sets.count - l.i) l.work))
-
-abbrev pub decreases-loop-i : goal.decreases-loop-i
-decreases-loop-i l = l.sets.count - l.i
+invariant-loop-i l = Putting l.at (rows_bytes l.columns.word l.columns.regions.now (set_at l.sets.list.index l.sets.work.now) (seg l.sets.list.ids l.sets.list.count l.sets.work.now)) l.initial.out l.out l.a (rows_bytes l.columns.word l.columns.regions.now (set_at l.sets.list.index l.sets.work.now) (seg (l.sets.list.ids + l.i) (l.sets.list.count - l.i) l.sets.work.now))

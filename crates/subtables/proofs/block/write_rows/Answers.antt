@@ -1,40 +1,30 @@
-use Rattle.rows.specs.Lent.{Stored}
-use Rattle.rows.proofs.PutLaws.{rows_start, rows-done}
-use Rattle.rows.proofs.RunLaws.{all-part}
+use Prim.Native.Nat.{◌+◌}
+use mathlib.Core.Path.{◌≡◌}
+use Rattle.rows.proofs.PutLaws.{rows-done}
 use Rattle.subtables.proofs.BlockLaws.{block_room, block_more}
 use native.Mathlib.Omega.{arith}
 use Rattle.subtables.proofs.block.write_rows.Goals as goal
 
-pub loop-i-init : goal.loop-i-init
-loop-i-init c = (omega arith, rows_start _ _ _ _ _ _ _ _ c.requires.count_in_bounds c.requires.cols_in_bounds)
-
-pub block_end-j-requires : goal.block_end-j-requires
-block_end-j-requires c = record { count_in_bounds = c.requires.count_in_bounds; all = c.requires.all; i_lt_count = omega arith }
-
-pub overflow_add-block : goal.overflow_add-block
-overflow_add-block c = omega arith
-
-pub overflow_sub-block : goal.overflow_sub-block
-overflow_sub-block c = omega arith
+pub invariant_of-write_block : goal.invariant_of-write_block
+invariant_of-write_block c =
+    let s = c.args.sets in
+    let i = c.loop-i.i in
+    record {
+      within = omega (arith, s.within, c.block_end-j.ensures);
+      stored = λ k h. (let e : s.list.ids + i + k ≡ s.list.ids + (i + k) = omega arith in rw e (s.stored (i + k) (omega (arith, c.block_end-j.ensures))));
+    }
 
 pub write_block-a-requires : goal.write_block-a-requires
 write_block-a-requires c =
-    let a = c.args in
     let l = c.loop-i in
     let e = c.block_end-j.ensures in
-    record { word_bound = c.requires.word_bound; cols_len_bound = c.requires.cols_len_bound; placed = c.requires.placed; count_in_bounds = omega (arith, c.requires.count_in_bounds, e); all = all-part (Stored a.sets.index a.work.now) a.sets.ids a.sets.count _ _ a.work.now c.requires.count_in_bounds (omega arith) (omega (arith, e)) c.requires.all; cols_in_bounds = block_room _ _ _ _ _ _ _ _ c.requires.count_in_bounds c.requires.cols_in_bounds _ _ _ l.invariant.1 _ (omega (arith, e)) e.1 }
-
-pub loop-i-smaller : goal.loop-i-smaller
-loop-i-smaller c = omega arith
+    record { rows_in_bounds = block_room _ _ _ _ _ _ _ _ c.args.sets.within c.requires.rows_in_bounds _ _ _ l.invariant.1 _ (omega (arith, e)) e.1 }
 
 pub loop-i-preserved : goal.loop-i-preserved
 loop-i-preserved c =
     let l = c.loop-i in
     let e = c.block_end-j.ensures in
-    (e.1, block_more _ _ _ _ _ _ _ _ c.requires.count_in_bounds c.requires.cols_in_bounds _ _ _ l.invariant.1 _ (omega (arith, e)) e.1 _ _ c.write_block-a.ensures)
-
-pub shape_of-out : goal.shape_of-out
-shape_of-out c = c.loop-i.invariant.1.long
+    (e.1, block_more _ _ _ _ _ _ _ _ c.args.sets.within c.requires.rows_in_bounds _ _ _ l.invariant.1 _ (omega (arith, e)) e.1 _ _ c.write_block-a.ensures)
 
 pub returns : goal.returns
-returns c = rows-done _ _ _ _ _ _ _ _ c.requires.count_in_bounds c.requires.cols_in_bounds _ _ _ c.loop-i.invariant.1 (omega arith)
+returns c = rows-done _ _ _ _ _ _ _ _ c.args.sets.within c.requires.rows_in_bounds _ _ _ c.loop-i.invariant.1 (omega arith)

@@ -2,7 +2,4 @@ use Rattle.rows.proofs.RowLaws.{Laying}
 use Rattle.subtables.proofs.row.lay.Given as goal
 
 abbrev pub invariant-loop-i : goal.invariant-loop-i
-invariant-loop-i l = Laying l.word l.cols l.work l.start l.count l.initial.row l.row l.i
-
-abbrev pub decreases-loop-i : goal.decreases-loop-i
-decreases-loop-i l = l.i
+invariant-loop-i l = Laying l.columns.word l.columns.regions.now l.work l.start l.count l.initial.row l.row l.i

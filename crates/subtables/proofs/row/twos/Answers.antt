@@ -1,12 +1,15 @@
+use Prim.Native.Nat.{◌+◌, ◌-◌, ◌%◌, ◌≤◌, ◌<◌}
+use mathlib.Core.Path.{◌≡◌, ◌∙◌}
+use mathlib.Core.Logic.{⊎_elim}
+use native.Mathlib.Omega.{arith}
+use Rattle.laws.proofs.Cases.{lt-or-ge}
 use Rattle.rows.proofs.RowLaws.{twos-below, twos-above}
-use borrow.Author.Rules.{rules}
 use Rattle.subtables.proofs.row.twos.Goals as goal
 
-pub overflow_add-result : goal.overflow_add-result
-overflow_add-result c = search rules
-
-pub returns-then-word-lt2147483648 : goal.returns-then-word-lt2147483648
-returns-then-word-lt2147483648 c = twos-below _ c.if-word-lt2147483648.true
-
 pub returns : goal.returns
-returns c = twos-above _ c.if-word-lt2147483648.false
+returns c =
+    let w = c.args.word in
+    ⊎_elim
+    (λ (h : w < 2147483648). let e : (w + 2147483648) % 4294967296 ≡ w + 2147483648 = omega arith in e ∙ twos-below w h)
+    (λ (h : 2147483648 ≤ w). let e : (w + 2147483648) % 4294967296 ≡ w - 2147483648 = omega arith in e ∙ twos-above w h)
+    (lt-or-ge w 2147483648)

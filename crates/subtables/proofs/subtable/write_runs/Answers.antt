@@ -1,16 +1,12 @@
 use mathlib.Core.Path.{◌≡◌, sym, ap, ◌∙◌}
 use Prim.Native.Nat.{ℕ, ◌+◌, ◌*◌, ◌≤◌}
 use Rattle.laws.specs.LentRange.{seg}
-use Rattle.laws.proofs.RangeLaws.{length-seg}
+use Rattle.laws.proofs.RangeLaws.{length-seg, seg_all}
 use Rattle.rows.specs.Subtable.{run_count_for}
 use Rattle.rows.specs.Lent.{Stored, run_at}
-use Rattle.rows.proofs.RunLaws.{run-starts, run-seg, all-part, runs-start, runs-room, runs-more, runs_done}
-use borrow.Author.Rules.{rules}
+use Rattle.rows.proofs.RunLaws.{run-starts, run-seg, runs-start, runs-room, runs-more, runs_done}
 use native.Mathlib.Omega.{arith}
 use Rattle.subtables.proofs.subtable.write_runs.Goals as goal
-
-pub run_count-runs-requires : goal.run_count-runs-requires
-run_count-runs-requires c = search rules
 
 pub loop-k-init : goal.loop-k-init
 loop-k-init c =
@@ -27,8 +23,15 @@ overflow_add-run c =
     let starts : 65535 * c.loop-k.k ≤ c.args.sets.count = run-starts c.args.sets.count c.loop-k.k (omega (arith, c.run_count-runs.ensures)) in
     omega (arith, starts, c.requires.count_in_bounds)
 
-pub run_items-requires : goal.run_items-requires
-run_items-requires c = record { k_bound = omega (arith, c.run_count-runs.ensures); count_bound = c.requires.count_bound }
+pub invariant_of-write_table : goal.invariant_of-write_table
+invariant_of-write_table c =
+    let starts : 65535 * c.loop-k.k ≤ c.args.sets.count = run-starts c.args.sets.count c.loop-k.k (omega (arith, c.run_count-runs.ensures)) in
+    let a = c.args in
+    let s = 65535 * c.loop-k.k in
+    record {
+      within = omega (arith, starts, c.requires.count_in_bounds, c.run_items.ensures);
+      stored = λ k h. seg_all (Stored a.sets.index a.work.now) a.sets.count a.sets.ids a.work.now c.requires.count_in_bounds c.requires.all (a.sets.ids + s + k) (omega arith) (omega (arith, starts, c.run_items.ensures));
+    }
 
 pub write_table-a-requires : goal.write_table-a-requires
 write_table-a-requires c =
@@ -40,13 +43,7 @@ write_table-a-requires c =
     let l = c.loop-k in
     let h = starts in
     let e = c.run_items.ensures in
-    record { word_bound = c.requires.word_bound; cols_len_bound = c.requires.cols_len_bound; placed = c.requires.placed; cols_value = c.requires.cols_value; count_bound = omega arith; count_in_bounds = omega (arith, c.requires.count_in_bounds); all = all-part (Stored a.sets.index a.work.now) a.sets.ids a.sets.count _ _ a.work.now c.requires.count_in_bounds (omega arith) (omega arith) c.requires.all; work_in_bounds = rw (← part) (runs-room _ _ _ _ c.requires.work_in_bounds _ _ _ l.invariant.1 (omega (arith, l.invariant.0, c.loop-k-test.true))) }
-
-pub overflow_add-k : goal.overflow_add-k
-overflow_add-k c = omega arith
-
-pub loop-k-smaller : goal.loop-k-smaller
-loop-k-smaller c = omega arith
+    record { regions_value = c.requires.cols_value; count_bound = omega arith; table_in_bounds = rw (← part) (runs-room _ _ _ _ c.requires.work_in_bounds _ _ _ l.invariant.1 (omega (arith, l.invariant.0, c.loop-k-test.true))) }
 
 pub loop-k-preserved : goal.loop-k-preserved
 loop-k-preserved c =
@@ -56,9 +53,6 @@ loop-k-preserved c =
     ∙ ap (λ (m : ℕ). seg (a.sets.ids + 65535 * c.loop-k.k) m a.work.now) (sym c.run_items.ensures) in
     let l = c.loop-k in
     (l.invariant.0, runs-more _ _ _ _ c.requires.work_in_bounds _ _ _ l.invariant.1 (omega (arith, l.invariant.0, c.loop-k-test.true)) _ _ (rw (part) c.write_table-a.ensures))
-
-pub shape_of-out : goal.shape_of-out
-shape_of-out c = c.loop-k.invariant.1.long
 
 pub returns : goal.returns
 returns c = runs_done _ _ _ _ c.requires.work_in_bounds _ _ _ c.loop-k.invariant.1 (omega (arith, c.loop-k.invariant.0, c.loop-k-test.false))

@@ -14,6 +14,3 @@ invariant-loop-k l =
     (l.runs ≡ run_count_for (length (seg l.sets.ids l.sets.count l.work)))
     × Putting l.at (runs_bytes (table_bytes (number_in l.numbers) l.word l.cols (set_at l.sets.index l.work)) (seg l.sets.ids l.sets.count l.work)) l.initial.out l.out l.a
     (join_all (tabulate l.k (run_count_for (length (seg l.sets.ids l.sets.count l.work)) - l.k) (λ i. table_bytes (number_in l.numbers) l.word l.cols (set_at l.sets.index l.work) (run_at (seg l.sets.ids l.sets.count l.work) i))))
-
-abbrev pub decreases-loop-k : goal.decreases-loop-k
-decreases-loop-k l = l.runs - l.k

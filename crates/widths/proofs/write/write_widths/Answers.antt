@@ -1,101 +1,56 @@
-use Rattle.widths.proofs.AnswerLaws.{many-answer, many-left, short-answer, short-left, bare-answer, bare-left, cut-answer, cut_left, done-small, done-answer, done-left}
+use Rattle.std.proofs.lemmas.Result.{err_from_is_err_and}
+use mathlib.Core.Path.{sym, ◌∙◌}
+use borrow.Author.Tests.{eqb-true, eqb-false}
+use Rattle.widths.proofs.AnswerLaws.{room-is, short-answer, short-left, bare-answer, bare-left, cut-answer, cut_left, done-small, done-answer, done-left}
 use native.Mathlib.Omega.{arith}
-use borrow.Author.Rules.{rules}
 use Rattle.widths.proofs.write.write_widths.Goals as goal
-
-pub returns-then-words-gt-MOST : goal.returns-then-words-gt-MOST
-returns-then-words-gt-MOST c =
-    let a = c.args in
-    let h = c.if-words-gt-MOST.true in
-    record { value = many-answer a.store.now a.words.now a.out.now h; out_after = many-left a.store.now a.words.now a.out.now h }
-
-pub room-end-requires : goal.room-end-requires
-room-end-requires c = search rules
 
 pub returns-then-end-lt20 : goal.returns-then-end-lt20
 returns-then-end-lt20 c =
     let a = c.args in
     let few = c.if-words-gt-MOST.false in
-    let e = c.room-end.ensures.value in
+    let e = room-is _ _ c.min-end.ensures in
     record { value = short-answer a.store.now a.words.now a.out.now few _ e (omega arith); out_after = short-left a.store.now a.words.now a.out.now few _ e (omega arith) }
 
 pub returns-then-end-store : goal.returns-then-end-store
 returns-then-end-store c =
     let a = c.args in
     let few = c.if-words-gt-MOST.false in
-    let e = c.room-end.ensures.value in
+    let e = room-is _ _ c.min-end.ensures in
     record { value = short-answer a.store.now a.words.now a.out.now few _ e (omega arith); out_after = short-left a.store.now a.words.now a.out.now few _ e (omega arith) }
 
-pub overflow_add-at : goal.overflow_add-at
-overflow_add-at c = search rules
-
-pub write_front-requires : goal.write_front-requires
-write_front-requires c = search rules
-
-pub shape_of-out-then-words-eq0 : goal.shape_of-out-then-words-eq0
-shape_of-out-then-words-eq0 c = search rules
-
-pub returns-then-words-eq0 : goal.returns-then-words-eq0
-returns-then-words-eq0 c =
+pub returns-then-is_empty : goal.returns-then-is_empty
+returns-then-is_empty c =
     let a = c.args in
     let few = c.if-words-gt-MOST.false in
-    let e = c.room-end.ensures.value in
-    let none = c.if-words-eq0.true in
+    let e = room-is _ _ c.min-end.ensures in
+    let none = eqb-true _ _ (sym c.is_empty.ensures ∙ c.if-is_empty.true) in
     record { value = bare-answer a.store.now a.words.now a.out.now few _ e (omega arith) none; out_after = bare-left a.store.now a.words.now a.out.now few _ e (omega arith) none _ _ c.write_front.ensures }
 
-pub slice_bounds-write_glyphs-count : goal.slice_bounds-write_glyphs-count
-slice_bounds-write_glyphs-count c = search rules
-
-pub slice_bounds-write_glyphs-start : goal.slice_bounds-write_glyphs-start
-slice_bounds-write_glyphs-start c = search rules
-
-pub slice_bounds-write_glyphs-end : goal.slice_bounds-write_glyphs-end
-slice_bounds-write_glyphs-end c = search rules
-
-pub write_glyphs-requires : goal.write_glyphs-requires
-write_glyphs-requires c = search rules
-
-pub enum_known-n : goal.enum_known-n
-enum_known-n c = search rules
-
-pub enum_told-1 : goal.enum_told-1
-enum_told-1 c = search rules
-
-pub shape_of-out-in_default : goal.shape_of-out-in_default
-shape_of-out-in_default c = search rules
-
-pub returns-in_default : goal.returns-in_default
-returns-in_default c =
+pub returns-in_err-n : goal.returns-in_err-n
+returns-in_err-n c =
     let a = c.args in
     let few = c.if-words-gt-MOST.false in
-    let e = c.room-end.ensures.value in
-    let some = c.if-words-eq0.false in
+    let e = room-is _ _ c.min-end.ensures in
+    let some = eqb-false _ _ (sym c.is_empty.ensures ∙ c.if-is_empty.false) in
     let g = c.write_glyphs.ensures in
-    record { value = cut-answer a.store.now a.words.now a.out.now few _ e (omega arith) some (omega arith) _ _ g.value c.in_default.is; out_after = cut_left a.store.now a.words.now a.out.now few _ e (omega arith) some (omega arith) _ _ g.value c.in_default.is _ g.out_after }
-
-pub overflow_cast-at : goal.overflow_cast-at
-overflow_cast-at c = search rules
-
-pub write_front-requires-2 : goal.write_front-requires-2
-write_front-requires-2 c = search rules
+    let p = err_from_is_err_and c.from_residual.result c.from_residual.ensures.1 in
+    record { value = rw (p.1, p.2) (cut-answer a.store.now a.words.now a.out.now few _ e (omega arith) some (omega arith) _ g.value _ c.in_err-n.was); out_after = cut_left a.store.now a.words.now a.out.now few _ e (omega arith) some (omega arith) _ g.value _ c.in_err-n.was _ g.out_after }
 
 pub overflow_add-result : goal.overflow_add-result
 overflow_add-result c =
     let a = c.args in
     let few = c.if-words-gt-MOST.false in
-    let e = c.room-end.ensures.value in
-    let some = c.if-words-eq0.false in
+    let e = room-is _ _ c.min-end.ensures in
+    let some = eqb-false _ _ (sym c.is_empty.ensures ∙ c.if-is_empty.false) in
     let g = c.write_glyphs.ensures in
-    omega (arith, done-small a.store.now a.words.now a.out.now few _ e (omega arith) some (omega arith) _ _ g.value c.in-Done.is)
-
-pub shape_of-out : goal.shape_of-out
-shape_of-out c = search rules
+    omega (arith, done-small a.store.now a.words.now a.out.now few _ e (omega arith) some (omega arith) _ g.value _ c.in_ok-n.was)
 
 pub returns : goal.returns
 returns c =
     let a = c.args in
     let few = c.if-words-gt-MOST.false in
-    let e = c.room-end.ensures.value in
-    let some = c.if-words-eq0.false in
+    let e = room-is _ _ c.min-end.ensures in
+    let some = eqb-false _ _ (sym c.is_empty.ensures ∙ c.if-is_empty.false) in
     let g = c.write_glyphs.ensures in
-    record { value = done-answer a.store.now a.words.now a.out.now few _ e (omega arith) some (omega arith) _ _ g.value c.in-Done.is; out_after = done-left a.store.now a.words.now a.out.now few _ e (omega arith) some (omega arith) _ _ g.value c.in-Done.is _ _ _ g.out_after c.write_front-2.ensures }
+    record { value = done-answer a.store.now a.words.now a.out.now few _ e (omega arith) some (omega arith) _ g.value _ c.in_ok-n.was; out_after = done-left a.store.now a.words.now a.out.now few _ e (omega arith) some (omega arith) _ g.value _ c.in_ok-n.was _ _ _ g.out_after c.write_front-2.ensures }

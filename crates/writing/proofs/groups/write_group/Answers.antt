@@ -1,22 +1,7 @@
 use Rattle.store.proofs.GroupLaws.{cols-ok, laid-few, laid-long, laid-ok, laid-only, laid-placed, laid_word}
 use Rattle.writing.proofs.LaidLaws.{laid-bytes, laid-sets}
 use native.Mathlib.Omega.{arith}
-use borrow.Author.Rules.{rules}
 use Rattle.writing.proofs.groups.write_group.Goals as goal
-
-pub overflow_add-cols : goal.overflow_add-cols
-overflow_add-cols c = omega (arith, c.requires.regions_in_bounds)
-
-pub overflow_add-cols-2 : goal.overflow_add-cols-2
-overflow_add-cols-2 c = omega (arith, c.requires.regions_in_bounds)
-
-pub columns-form-requires : goal.columns-form-requires
-columns-form-requires c =
-    let q = c.requires in
-    record { regions_bound = omega (arith, q.regions_le_max_regions); regions_bound_2 = omega (arith, q.regions_bound); regions_in_bounds = omega (arith, q.regions_in_bounds) }
-
-pub overflow_add-cols-3 : goal.overflow_add-cols-3
-overflow_add-cols-3 c = omega (arith, c.requires.regions_in_bounds)
 
 pub place-requires : goal.place-requires
 place-requires c =
@@ -33,12 +18,6 @@ write_laid-requires c =
     let p = c.place.ensures in
     let bytes = laid-bytes _ _ _ _ q.regions_le_max_regions q.regions_bound q.regions_in_bounds _ _ _ f _ p a.sets.index a.sets.ids a.sets.count in
     record { word_bound = (laid_word _ _ _ _ q.regions_le_max_regions q.regions_bound q.regions_in_bounds _ _ _ f, laid-few _ _ _ _ q.regions_le_max_regions q.regions_bound q.regions_in_bounds _ _ _ f, q.regions_le_max_regions); regions_in_bounds = omega (arith, q.regions_in_bounds, (laid-only _ _ _ _ q.regions_le_max_regions q.regions_bound q.regions_in_bounds _ _ _ f _ p).long); placed = laid-placed _ _ _ _ q.regions_le_max_regions q.regions_bound q.regions_in_bounds _ _ _ f _ p; work_value = cols-ok _ _ _ _ q.regions_le_max_regions q.regions_bound q.regions_in_bounds _ _ _ f _ p; count_bound = q.count_bound; count_bound_2 = q.count_bound_2; all = laid-sets _ _ _ _ q.regions_le_max_regions q.regions_bound q.regions_in_bounds _ _ _ f _ p _ _ _ q.all; work_in_bounds = rw bytes q.work_in_bounds }
-
-pub shape_of-out : goal.shape_of-out
-shape_of-out c = search rules
-
-pub shape_of-work : goal.shape_of-work
-shape_of-work c = search rules
 
 pub returns : goal.returns
 returns c =

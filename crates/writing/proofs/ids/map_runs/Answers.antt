@@ -1,10 +1,9 @@
-use mathlib.Core.Path.{◌≡◌, refl, sym, ap, ◌∙◌}
+use mathlib.Core.Path.{◌≡◌, sym, ap, ap₂, ◌∙◌}
 use mathlib.Core.List.{List}
 use Prim.Native.Nat.{ℕ, ◌+◌, ◌*◌, ◌≤◌, ◌<◌}
 use lib.ListN.{length}
+use lib.Seq.{take-length}
 use Rattle.laws.specs.LentRange.{seg}
-use Rattle.laws.proofs.RangeLaws.{length-seg}
-use Rattle.rows.specs.Subtable.{run_count_for}
 use Rattle.store.specs.Placing.{stored}
 use Rattle.rows.specs.Lent.{run_at}
 use Rattle.rows.proofs.RunLaws.{run-starts, run-seg, all-part}
@@ -13,70 +12,53 @@ use Rattle.store.proofs.MapLaws.{runs-all, runs-more, runs_done}
 use native.Mathlib.Omega.{arith}
 use Rattle.writing.proofs.ids.map_runs.Goals as goal
 
-pub run_count-runs-requires : goal.run_count-runs-requires
-run_count-runs-requires c = omega (arith, c.requires.count_le_most_records)
+whole : (w : List ℕ) → seg 0 (length w) w ≡ w
+unfolding seg
+whole w = take-length w
 
 pub loop-k-init : goal.loop-k-init
-loop-k-init c =
-    let a = c.args in
-    (c.run_count-runs.ensures ∙ ap run_count_for (sym (length-seg a.ids a.count a.work.now c.requires.count_in_bounds)), omega arith, refl, λ s. ap (λ (l : List (ℕ × ℕ)). stored l a.map.now) (runs-all s (seg a.ids a.count a.work.now) a.first))
+loop-k-init c = let a = c.args in λ s. ap (λ (l : List (ℕ × ℕ)). stored l a.map.now) (runs-all s a.ids.now a.first)
 
 pub overflow_mul-from : goal.overflow_mul-from
-overflow_mul-from c =
-    let starts : 65535 * c.loop-k.k ≤ c.args.count = run-starts c.args.count c.loop-k.k (omega (arith, c.run_count-runs.ensures)) in
-    omega (arith, starts)
-
-pub overflow_add-from : goal.overflow_add-from
-overflow_add-from c =
-    let starts : 65535 * c.loop-k.k ≤ c.args.count = run-starts c.args.count c.loop-k.k (omega (arith, c.run_count-runs.ensures)) in
-    omega (arith, starts, c.requires.count_in_bounds)
-
-pub run_items-requires : goal.run_items-requires
-run_items-requires c = record { k_bound = omega (arith, c.run_count-runs.ensures); count_bound = omega (arith, c.requires.count_le_most_records) }
+overflow_mul-from c = omega (arith, run-starts (length c.args.ids.now) c.loop-k.k (omega (arith, c.run_count-runs.ensures)))
 
 pub overflow_add-first : goal.overflow_add-first
-overflow_add-first c =
-    let few : c.loop-k.k < 17 = omega (arith, c.run_count-runs.ensures, runs-few c.args.count c.requires.count_le_most_records) in
-    omega (arith, few, c.requires.first_bound)
+overflow_add-first c = omega (arith, c.run_count-runs.ensures, runs-few (length c.args.ids.now) c.requires.ids_le_most_records, c.requires.first_bound)
 
 pub map_run-requires : goal.map_run-requires
 map_run-requires c =
-    let starts : 65535 * c.loop-k.k ≤ c.args.count = run-starts c.args.count c.loop-k.k (omega (arith, c.run_count-runs.ensures)) in
-    let few : c.loop-k.k < 17 = omega (arith, c.run_count-runs.ensures, runs-few c.args.count c.requires.count_le_most_records) in
     let a = c.args in
-    let h = starts in
+    let starts = run-starts (length a.ids.now) c.loop-k.k (omega (arith, c.run_count-runs.ensures)) in
+    let few = runs-few (length a.ids.now) c.requires.ids_le_most_records in
     let e = c.run_items.ensures in
-    record { in_bounds = omega (arith, c.requires.count_in_bounds); le_max_items = omega arith; outer_bound = omega (arith, few, c.requires.first_bound); all = rw c.loop-k.invariant.2 (all-part (λ x. x < length a.map.now) a.ids a.count _ _ a.work.now c.requires.count_in_bounds (omega arith) (omega arith) c.requires.all) }
-
-pub overflow_add-k : goal.overflow_add-k
-overflow_add-k c = omega arith
-
-pub loop-k-smaller : goal.loop-k-smaller
-loop-k-smaller c = omega arith
+    let P = λ (x : ℕ). x < length c.loop-k.map in
+    record {
+      in_bounds = omega (arith, starts);
+      le_max_items = omega arith;
+      outer_bound = omega (arith, few, c.run_count-runs.ensures, c.requires.first_bound);
+      all = rw c.loop-k.auto.map (all-part (λ x. x < length a.map.now) 0 (length a.ids.now) _ _ a.ids.now (omega arith) (omega arith) (omega (arith, starts)) (rw (whole a.ids.now) c.requires.all));
+    }
 
 pub loop-k-preserved : goal.loop-k-preserved
 loop-k-preserved c =
-    let starts : 65535 * c.loop-k.k ≤ c.args.count = run-starts c.args.count c.loop-k.k (omega (arith, c.run_count-runs.ensures)) in
-    let part : run_at (seg c.args.ids c.args.count c.args.work.now) c.loop-k.k ≡ seg (c.args.ids + 65535 * c.loop-k.k) c.run_items.result c.args.work.now = let a = c.args in
-    run-seg a.ids a.count a.work.now c.loop-k.k c.requires.count_in_bounds (starts)
-    ∙ ap (λ (m : ℕ). seg (a.ids + 65535 * c.loop-k.k) m a.work.now) (sym c.run_items.ensures) in
     let a = c.args in
     let l = c.loop-k in
-    let xs = seg a.ids a.count a.work.now in (
-      l.invariant.0,
-      omega (arith, c.loop-k-test),
-      c.map_run.auto.map ∙ l.invariant.2,
-      λ s. runs-more s xs a.first _ l.map _ l.k (l.invariant.3 s) (omega (arith, l.invariant.0, c.loop-k-test.true)) (rw (part) c.map_run.ensures),
-    )
+    let starts : 65535 * l.k ≤ length a.ids.now = run-starts (length a.ids.now) l.k (omega (arith, c.run_count-runs.ensures)) in
+    let zero : 0 + 65535 * l.k ≡ 65535 * l.k = omega arith in
+    let part : run_at a.ids.now l.k ≡ seg (65535 * l.k) c.run_items.result a.ids.now =
+    ap (λ (w : List ℕ). run_at w l.k) (sym (whole a.ids.now))
+    ∙ run-seg 0 (length a.ids.now) a.ids.now l.k (omega arith) starts
+    ∙ ap₂ (λ (from m : ℕ). seg from m a.ids.now) zero (sym c.run_items.ensures) in
+    λ s. runs-more s a.ids.now a.first _ l.map _ l.k (l.invariant s) (omega (arith, c.run_count-runs.ensures)) (rw part c.map_run.ensures)
 
 pub overflow_add-result : goal.overflow_add-result
-overflow_add-result c = omega (arith, c.run_count-runs.ensures, runs-few c.args.count c.requires.count_le_most_records, c.requires.first_bound)
-
-pub shape_of-map : goal.shape_of-map
-shape_of-map c = c.loop-k.invariant.2
+overflow_add-result c = omega (arith, c.run_count-runs.ensures, runs-few (length c.args.ids.now) c.requires.ids_le_most_records, c.requires.first_bound)
 
 pub returns : goal.returns
 returns c =
     let a = c.args in
     let l = c.loop-k in
-    record { mapped = λ s. runs_done s (seg a.ids a.count a.work.now) a.first _ _ l.k _ (l.invariant.3 s) (omega (arith, l.invariant.0, c.loop-k-test.false)) (ap (λ (n : ℕ). a.first + n) l.invariant.0); upper_bound = omega (arith, c.run_count-runs.ensures, runs-few a.count c.requires.count_le_most_records) }
+    record {
+      mapped = λ s. runs_done s a.ids.now a.first _ _ l.k _ (l.invariant s) (omega (arith, c.run_count-runs.ensures)) (ap (λ (n : ℕ). a.first + n) c.run_count-runs.ensures);
+      upper_bound = omega (arith, c.run_count-runs.ensures, runs-few (length a.ids.now) c.requires.ids_le_most_records);
+    }

@@ -1,7 +1,6 @@
 use mathlib.Core.Path.{◌≡◌}
-use Prim.Native.Nat.{◌+◌, ◌-◌, ◌≤◌}
+use Prim.Native.Nat.{◌+◌, ◌-◌}
 use lib.ListN.{length}
-use Rattle.laws.specs.LentRange.{seg}
 use Rattle.laws.specs.Bounded.{tabulate}
 use Rattle.shapes.specs.Shape.{Shape}
 use Rattle.rows.specs.Subtable.{run_count_for}
@@ -11,10 +10,4 @@ use Rattle.writing.proofs.ids.map_runs.Given as goal
 
 abbrev pub invariant-loop-k : goal.invariant-loop-k
 invariant-loop-k l =
-    (l.runs ≡ run_count_for (length (seg l.ids l.count l.work)))
-    × (l.k ≤ l.runs)
-    × (length l.map ≡ length l.initial.map)
-    × ((s : Shape) → stored (id_words (l.first + l.k) (tabulate l.k (run_count_for (length (seg l.ids l.count l.work)) - l.k) (λ i. record { shape = s; ids = run_at (seg l.ids l.count l.work) i }))) l.map ≡ stored (id_words l.first (runs_of (record { shape = s; ids = seg l.ids l.count l.work }))) l.initial.map)
-
-abbrev pub decreases-loop-k : goal.decreases-loop-k
-decreases-loop-k l = l.runs - l.k
+    (s : Shape) → stored (id_words (l.first + l.k) (tabulate l.k (run_count_for (length l.ids) - l.k) (λ i. record { shape = s; ids = run_at l.ids i }))) l.map ≡ stored (id_words l.first (runs_of (record { shape = s; ids = l.ids }))) l.initial.map

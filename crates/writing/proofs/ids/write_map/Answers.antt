@@ -16,23 +16,6 @@ loop-g-init c =
     let a = c.args in
     (omega arith, omega arith, refl, ap (λ (l : List (ℕ × ℕ)). stored l a.map.now) (groups-all (finals a.work.now a.t.regions a.t.groups) a.t.count))
 
-pub overflow_mul-g : goal.overflow_mul-g
-overflow_mul-g c = omega arith
-
-pub overflow_add-t : goal.overflow_add-t
-overflow_add-t c = omega arith
-
-pub map_group-first-requires : goal.map_group-first-requires
-map_group-first-requires c =
-    let l = c.loop-g in
-    record { handed = c.requires.by_index l.g c.loop-g-test.true; small = c.requires.by_index_2 l.g c.loop-g-test.true; ids_below = rw l.invariant.2 (c.requires.by_index_3 l.g c.loop-g-test.true); first_bound = omega (arith, l.invariant.0, l.invariant.1, c.requires.count_le_max_shapes, c.loop-g-test) }
-
-pub overflow_add-g : goal.overflow_add-g
-overflow_add-g c = omega arith
-
-pub loop-g-smaller : goal.loop-g-smaller
-loop-g-smaller c = omega arith
-
 pub loop-g-preserved : goal.loop-g-preserved
 loop-g-preserved c =
     let a = c.args in
@@ -42,9 +25,6 @@ loop-g-preserved c =
       c.map_group-first.auto.map ∙ l.invariant.2,
       groups-more (finals a.work.now a.t.regions a.t.groups) a.t.count _ l.map _ l.first l.g _ l.invariant.3 c.loop-g-test.true c.map_group-first.ensures.mapped,
     )
-
-pub shape_of-map : goal.shape_of-map
-shape_of-map c = c.loop-g.invariant.2
 
 pub returns : goal.returns
 returns c =

@@ -13,6 +13,3 @@ invariant-loop-g l =
     × (l.first ≤ 17 * l.g)
     × (length l.map ≡ length l.initial.map)
     × (stored (id_words l.first (join_all (tabulate l.g (l.t.count - l.g) (λ i. runs_of (final_at l.t.regions l.work (l.t.groups + 3 * i)))))) l.map ≡ stored (id_words 0 (all_runs (finals_at l.t.regions l.t.groups l.t.count l.work))) l.initial.map)
-
-abbrev pub decreases-loop-g : goal.decreases-loop-g
-decreases-loop-g l = l.t.count - l.g

@@ -1,4 +1,3 @@
-use mathlib.Core.Path.{sym}
 use lib.ListN.{take}
 use lib.Seq.{length-take-le}
 use Rattle.laws.specs.Bounded.{up_to}
@@ -9,44 +8,13 @@ use Rattle.store.specs.Lent.{kept_bytes, marked_in}
 use Rattle.store.proofs.GroupLaws.{part-seg}
 use Rattle.store.proofs.ListLaws.{list-put, list_length}
 use native.Mathlib.Omega.{arith}
-use borrow.Author.Rules.{rules}
 use Rattle.writing.proofs.list.write_list.Goals as goal
-
-pub overflow_cast-c : goal.overflow_cast-c
-overflow_cast-c c = search rules
 
 pub put-requires : goal.put-requires
 put-requires c = let a = c.args in omega (arith, c.requires.regions_in_bounds_2, list_length a.c.axes a.kept (kept_bytes a.src.now a.c.axes (take a.marks a.work.now) a.c.starts (keep (marked_in (seg a.marks a.regions a.work.now)) (up_to a.regions))))
 
-pub overflow_add-at : goal.overflow_add-at
-overflow_add-at c = search rules
-
-pub overflow_cast-kept : goal.overflow_cast-kept
-overflow_cast-kept c = search rules
-
 pub put-requires-2 : goal.put-requires-2
 put-requires-2 c = let a = c.args in omega (arith, c.put.auto.out, c.requires.regions_in_bounds_2, list_length a.c.axes a.kept (kept_bytes a.src.now a.c.axes (take a.marks a.work.now) a.c.starts (keep (marked_in (seg a.marks a.regions a.work.now)) (up_to a.regions))))
-
-pub overflow_add-at-2 : goal.overflow_add-at-2
-overflow_add-at-2 c = search rules
-
-pub slice_bounds-write_kept-end : goal.slice_bounds-write_kept-end
-slice_bounds-write_kept-end c = sym (length-take-le c.args.marks c.args.work.now (omega (arith, c.requires.regions_in_bounds)))
-
-pub overflow_add-marks : goal.overflow_add-marks
-overflow_add-marks c = omega (arith, c.requires.regions_in_bounds)
-
-pub offset_bounds-work-marks : goal.offset_bounds-work-marks
-offset_bounds-work-marks c = omega (arith, c.requires.regions_in_bounds)
-
-pub slice_bounds-write_kept-count : goal.slice_bounds-write_kept-count
-slice_bounds-write_kept-count c = search rules
-
-pub slice_bounds-write_kept-start : goal.slice_bounds-write_kept-start
-slice_bounds-write_kept-start c = search rules
-
-pub slice_bounds-write_kept-end-2 : goal.slice_bounds-write_kept-end-2
-slice_bounds-write_kept-end-2 c = omega (arith, c.requires.regions_in_bounds)
 
 pub write_kept-requires : goal.write_kept-requires
 write_kept-requires c =
@@ -55,9 +23,6 @@ write_kept-requires c =
     let w = a.work.now in
     let e = part-seg a.marks a.regions w in
     record { axes_bound = q.axes_bound; regions_in_bounds = rw e (omega (arith, length-seg a.marks a.regions w q.regions_in_bounds)); regions_in_bounds_2 = omega (arith, q.regions_bound, length-take-le a.marks w (omega (arith, q.regions_in_bounds))); by_index = q.by_index; regions_in_bounds_3 = rw e (omega (arith, c.put.auto.out, c.put-2.auto.out, q.regions_in_bounds_2, list_length a.c.axes a.kept (kept_bytes a.src.now a.c.axes (take a.marks w) a.c.starts (keep (marked_in (seg a.marks a.regions w)) (up_to a.regions))))) }
-
-pub shape_of-out : goal.shape_of-out
-shape_of-out c = search rules
 
 pub returns : goal.returns
 returns c = list-put _ _ _ _ _ _ _ _ _ c.requires.regions_in_bounds_2 c.put.ensures c.put-2.ensures (rw (part-seg c.args.marks c.args.regions c.args.work.now) at c.write_kept.ensures)

@@ -9,6 +9,3 @@ use Rattle.writing.proofs.list.write_region.Given as goal
 
 abbrev pub invariant-loop-a : goal.invariant-loop-a
 invariant-loop-a l = Putting l.at (chain (λ a'. seg (axis_coordinates l.from a') coords_long l.src) l.axes) l.initial.out l.out l.p (join_all (tabulate l.a (l.axes - l.a) (λ a'. seg (axis_coordinates l.from a') coords_long l.src)))
-
-abbrev pub decreases-loop-a : goal.decreases-loop-a
-decreases-loop-a l = l.axes - l.a

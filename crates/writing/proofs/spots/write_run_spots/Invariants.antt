@@ -10,6 +10,3 @@ abbrev pub invariant-loop-k : goal.invariant-loop-k
 invariant-loop-k l =
     (l.runs ≡ run_count_for l.count)
     × Spotting l.at l.first (run_sizes l.n l.row l.count) l.initial.out l.out l.p l.next (tabulate l.k (run_count_for l.count - l.k) (λ i. subtable_size l.n l.row (min 65535 (l.count - 65535 * i))))
-
-abbrev pub decreases-loop-k : goal.decreases-loop-k
-decreases-loop-k l = l.runs - l.k

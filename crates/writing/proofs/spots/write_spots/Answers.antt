@@ -15,12 +15,6 @@ loop-g-init c =
     let a = c.args in
     rw (left-all (piece a.work.now a.t.regions a.t.groups) a.t.count) (spot-start _ _ _ _)
 
-pub overflow_mul-g : goal.overflow_mul-g
-overflow_mul-g c = omega arith
-
-pub overflow_add-t : goal.overflow_add-t
-overflow_add-t c = omega arith
-
 pub write_group_spots-s-requires : goal.write_group_spots-s-requires
 unfolding sizes_at
 write_group_spots-s-requires c =
@@ -28,20 +22,11 @@ write_group_spots-s-requires c =
     let bounds : (c.loop-g.p + length (spots_of c.loop-g.next (piece c.args.work.now c.args.t.regions c.args.t.groups c.loop-g.g)) ≤ length c.loop-g.out) × (c.loop-g.next + sum_of (piece c.args.work.now c.args.t.regions c.args.t.groups c.loop-g.g) < 4294967296) = group-spots _ _ _ _ c.requires.work_in_bounds _ _ _ _ _ (here) c.requires.work_bound in
     record { regions_le_max_regions = c.requires.regions_le_max_regions; handed = c.requires.by_index c.loop-g.g c.loop-g-test.true; small = c.requires.by_index_2 c.loop-g.g c.loop-g-test.true; group_in_bounds = (bounds).0; group_bound = (bounds).1 }
 
-pub overflow_add-g : goal.overflow_add-g
-overflow_add-g c = omega arith
-
-pub loop-g-smaller : goal.loop-g-smaller
-loop-g-smaller c = omega arith
-
 pub loop-g-preserved : goal.loop-g-preserved
 unfolding sizes_at
 loop-g-preserved c =
     let here : Spotting c.args.at c.args.first (chain (piece c.args.work.now c.args.t.regions c.args.t.groups) c.args.t.count) c.args.out.now c.loop-g.out c.loop-g.p c.loop-g.next (piece c.args.work.now c.args.t.regions c.args.t.groups c.loop-g.g ++ left (piece c.args.work.now c.args.t.regions c.args.t.groups) c.args.t.count (c.loop-g.g + 1)) = rw (left_step (piece c.args.work.now c.args.t.regions c.args.t.groups) c.args.t.count c.loop-g.g c.loop-g-test.true) at c.loop-g.invariant in
     spot-group _ _ _ _ c.requires.work_in_bounds _ _ _ _ _ (here) _ _ _ c.write_group_spots-s.ensures
-
-pub shape_of-out : goal.shape_of-out
-shape_of-out c = c.loop-g.invariant.put.long
 
 pub returns : goal.returns
 unfolding sizes_at

@@ -1,36 +1,10 @@
-use mathlib.Core.Path.{sym}
 use lib.Seq.{length-take-le}
 use Rattle.store.proofs.PlacedLaws.{store_long, kept-few, spots-room, list-room, body-room, store-put}
 use native.Mathlib.Omega.{arith}
-use borrow.Author.Rules.{rules}
 use Rattle.writing.proofs.whole.write_store.Goals as goal
 
 pub write_header-at-requires : goal.write_header-at-requires
 write_header-at-requires c = record { in_bounds = omega (arith, store_long _ _ _ _ _ _ _ _ _ _ _ _ c.requires.ready c.requires.planned, c.requires.work_in_bounds); runs_bound = c.requires.planned.runs-few }
-
-pub overflow_mul-first : goal.overflow_mul-first
-overflow_mul-first c = search rules
-
-pub overflow_add-first : goal.overflow_add-first
-overflow_add-first c = search rules
-
-pub overflow_mul-first-2 : goal.overflow_mul-first-2
-overflow_mul-first-2 c = search rules
-
-pub overflow_mul-first-3 : goal.overflow_mul-first-3
-overflow_mul-first-3 c = omega (arith, c.requires.planned.short)
-
-pub overflow_add-first-2 : goal.overflow_add-first-2
-overflow_add-first-2 c = omega (arith, c.requires.planned.short)
-
-pub overflow_add-first-3 : goal.overflow_add-first-3
-overflow_add-first-3 c = omega (arith, c.requires.planned.short)
-
-pub slice_bounds-write_spots-end : goal.slice_bounds-write_spots-end
-slice_bounds-write_spots-end c = omega (arith, c.requires.regions_in_bounds)
-
-pub slice_bounds-write_spots-end-2 : goal.slice_bounds-write_spots-end-2
-slice_bounds-write_spots-end-2 c = sym (length-take-le c.args.scratch c.args.work.now (omega (arith, c.requires.regions_in_bounds)))
 
 pub write_spots-spots-requires : goal.write_spots-spots-requires
 write_spots-spots-requires c =
@@ -51,12 +25,6 @@ write_groups-requires c =
     let p = c.requires.planned in
     let l = length-take-le c.args.scratch c.args.work.now (omega (arith, c.requires.regions_in_bounds)) in
     record { regions_le_max_regions = r.regions-most; regions_in_bounds = c.requires.regions_in_bounds; count_bound = omega (arith, r.rows); by_index = r.handed; count_in_bounds = (body-room _ _ _ _ _ _ _ _ _ _ _ _ r p _ c.requires.work_in_bounds _ _ _ _ _ _ _ c.write_header-at.ensures c.write_spots-spots.ensures c.write_list-list.ensures).0 }
-
-pub shape_of-out : goal.shape_of-out
-shape_of-out c = search rules
-
-pub shape_of-work : goal.shape_of-work
-shape_of-work c = search rules
 
 pub returns : goal.returns
 returns c = record { put = store-put _ _ _ _ _ _ _ _ _ _ _ _ c.requires.ready c.requires.planned _ c.requires.work_in_bounds _ _ _ _ _ _ _ _ _ c.write_header-at.ensures c.write_spots-spots.ensures c.write_list-list.ensures c.write_groups.ensures.put; only = c.write_groups.ensures.only }
