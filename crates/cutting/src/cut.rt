@@ -59,11 +59,9 @@ pub fn tables_size(store: &[u8], work: &[u32], n: usize, t: usize) -> usize
     ensures { (result ≡ sum (cut_size store.now n work.now) t) × (result < 2251799813685248) }
 {
     let mut size: usize = 0;
-    let mut g: usize = 0;
-    while g < t {
+    for g in 0..t {
         let c = cut_of(store, work, n, g);
         size += size_of(c.word, c.columns, c.rows);
-        g += 1;
     }
     size
 }
