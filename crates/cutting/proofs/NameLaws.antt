@@ -26,7 +26,7 @@ use Rattle.stores.specs.Stores.{Table, table_at}
 use Rattle.stores.specs.Dropping.{has, named}
 use Rattle.stores.proofs.Picking.{has_all}
 use Rattle.stores.proofs.WholeLaws.{subtable-named}
-use Rattle.cutting.specs.LentCut.{table_of, TableFit, StoreFit, CutIs, marked, number_of, ColumnsMarked, tables_of, TablesMarked, NumberedAt}
+use Rattle.cutting.specs.LentCut.{table_of, TableFit, StoreFit, CutIs, marked, number_of, ColumnsMarked, tables_of, TablesMarked}
 use Rattle.cutting.proofs.CutLaws.{fits, table_kept, fit-kept}
 
 -- ---- what a list has
@@ -189,8 +189,3 @@ module _ (m regions : ℕ) (old : List ℕ) where
               (lt-or-ge i r);
           later = λ i p q. h.later i (omega arith) q;
         }
-
-  pub numbers-done : (new : List ℕ) (k r : ℕ) → NumbersSo m regions old new k r → regions ≤ r → NumberedAt m regions old new k
-  numbers-done new k r h l =
-      let e : r ≡ regions = omega (arith, h.within) in
-      record { only = h.only; is = λ i b. h.is i (omega arith); count = h.count ∙ ap (rank (marked m old)) e }
