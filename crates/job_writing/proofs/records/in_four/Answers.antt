@@ -14,9 +14,6 @@ returns-then-x-m c = four-small _ _ _ c.requires.0 c.requires.1 c.span-m.ensures
 pub overflow_sub-result : goal.overflow_sub-result
 overflow_sub-result c = omega (arith, top _ _ _ c.requires.0 c.requires.1 c.span-m.ensures)
 
-pub overflow_add-result : goal.overflow_add-result
-overflow_add-result c = omega (arith, top _ _ _ c.requires.0 c.requires.1 c.span-m.ensures)
-
 pub overflow_cast-result-2 : goal.overflow_cast-result-2
 overflow_cast-result-2 c = omega (arith, top _ _ _ c.requires.0 c.requires.1 c.span-m.ensures)
 
