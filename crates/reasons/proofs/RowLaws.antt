@@ -2,16 +2,33 @@
 use mathlib.Core.Path.{◌≡◌, sym, ap, ◌∙◌}
 use mathlib.Core.List.{List}
 use Prim.Native.Nat.{ℕ, ◌+◌, ◌≤◌, ◌<◌}
+use native.Mathlib.Numerals.{add-one}
 use native.Mathlib.Omega.{arith}
 use lib.ListN.{length, get_or, drop, length-map}
+use lib.Seq.{drop-cons, drop-length}
+use borrow.Author.Tests.{eq-eqb, ne_eqb}
 use Rattle.laws.specs.LentRange.{seg}
 use Rattle.laws.proofs.ListLaws.{get_or-map-in, map_same}
 use Rattle.laws.proofs.EveryLaws.{all-imp}
 use Rattle.laws.proofs.RangeLaws.{length-seg, get_or-seg, seg_all}
 use Rattle.encoder.specs.declared.places.Places.{Places}
 use Rattle.finding.specs.First.{first_at}
-use Rattle.finding.proofs.FirstLaws.{here, further, nowhere}
 use Rattle.reasons.specs.LentReasons.{label, rows_spot, row_count, ids_at, AmongFit, ids_in, RowsIn}
+
+-- ---- a walk along a list: so far, and what is left
+
+module _ (x : ℕ) (l : List ℕ) (i : ℕ) (so : first_at x l ≡ i + first_at x (drop i l)) where
+  here : i < length l → get_or l i 0 ≡ x → i ≡ first_at x l
+  unfolding first_at
+  here h e = sym (so ∙ rw (drop-cons l i 0 h, eq-eqb (get_or l i 0) x e) (omega arith))
+
+  further : i < length l → (get_or l i 0 ≡ x → ⊥) → first_at x l ≡ i + 1 + first_at x (drop (i + 1) l)
+  unfolding first_at
+  further h n = so ∙ rw (drop-cons l i 0 h, ne_eqb (get_or l i 0) x n, add-one i) (omega arith)
+
+  nowhere : i ≡ length l → i ≡ first_at x l
+  unfolding first_at
+  nowhere e = sym (so ∙ rw (e, drop-length l) (omega arith))
 
 -- ---- a walk along n rows
 

@@ -12,13 +12,11 @@ pub fn home_of(work: &[u32], p: Places, count: usize, x: u32) -> usize
     ensures { result ≡ home_in x (finals_in p count work.now) }
 {
     let finals = p.finals;
-    let mut g: usize = 0;
-    while g < count {
+    for g in 0..count {
         let n = work[finals + 3 * g + 2] as usize;
         if place_in(work, p, g, x) < n {
             return g;
         }
-        g += 1;
     }
-    g
+    count
 }

@@ -10,15 +10,13 @@ fn place_among(work: &[u32], ids: usize, rows: usize, n: usize, x: u32) -> usize
     requires { AmongFit ids rows n work.now }
     ensures { result ≡ first_at x (ids_at ids rows n work.now) }
 {
-    let mut q: usize = 0;
-    while q < n {
+    for q in 0..n {
         let set = work[rows + q] as usize;
         if work[ids + set] == x {
             return q;
         }
-        q += 1;
     }
-    q
+    n
 }
 
 // Its place among the rows of group g.

@@ -1,9 +1,5 @@
-use Prim.Native.Nat.{◌-◌}
 use Rattle.reasons.proofs.HomeLaws.{Sought}
 use Rattle.reasons.proofs.homes.home_of.Given as goal
 
 abbrev pub invariant-loop-g : goal.invariant-loop-g
 invariant-loop-g l = Sought l.p l.count l.work l.x l.g
-
-abbrev pub decreases-loop-g : goal.decreases-loop-g
-decreases-loop-g l = l.count - l.g

@@ -1,12 +1,6 @@
 use Rattle.reasons.proofs.ReasonLaws.{groups-in, first_below, costs-in, why-same, why-apart}
 use Rattle.reasons.proofs.reason.reason_of.Goals as goal
 
-pub home_of-a-requires : goal.home_of-a-requires
-home_of-a-requires c = groups-in _ _ _ _ _ c.requires
-
-pub home_of-b-requires : goal.home_of-b-requires
-home_of-b-requires c = groups-in _ _ _ _ _ c.requires
-
 pub same_group-requires : goal.same_group-requires
 same_group-requires c =
     let f = c.requires in

@@ -1,13 +1,6 @@
 use Rattle.reasons.specs.LentReasons.{ids_in}
 use Rattle.reasons.proofs.ReasonLaws.{run-same, run-cut}
-use borrow.Author.Rules.{rules}
 use Rattle.reasons.proofs.reason.same_group.Goals as goal
-
-pub place_in-a-requires : goal.place_in-a-requires
-place_in-a-requires c = search rules
-
-pub place_in-b-requires : goal.place_in-b-requires
-place_in-b-requires c = search rules
 
 pub returns-then-a-b : goal.returns-then-a-b
 returns-then-a-b c = let a = c.args in run-same (ids_in a.p a.work.now a.g) a.first a.second _ _ c.place_in-a.ensures c.place_in-b.ensures c.if-a-b.true
