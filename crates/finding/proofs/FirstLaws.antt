@@ -1,34 +1,19 @@
 -- The first place of a number: how a walk finds it, and what it is. Assumes nothing.
-use mathlib.Core.Path.{◌≡◌, refl, sym, ap, ◌∙◌}
+use mathlib.Core.Path.{◌≡◌, refl, sym, ap}
 use mathlib.Core.List.Memᴰ
 use mathlib.Core.List.{List, [], ◌∷◌, ◌++◌, Memᴰ}
 use mathlib.Core.Logic.{⊎_elim}
-use Prim.Native.Nat.{ℕ, zero, suc, ◌+◌, ◌≤◌, ◌<◌}
-use native.Mathlib.Numerals.{add-one}
+use Prim.Native.Nat.{ℕ, zero, suc, ◌≤◌, ◌<◌}
 use native.Mathlib.Omega.{arith}
 use lib.Dec.{eqb}
-use lib.ListN.{length, get_or, drop}
-use lib.Seq.{drop-cons, drop-length}
-use borrow.Author.Tests.{eq-eqb, ne_eqb, eqb-true}
+use lib.ListN.{length, get_or}
+use borrow.Author.Tests.{eq-eqb, eqb-true, lt-ltb, le-ltb}
+use Rattle.std.specs.List.{position, position_or_len}
+use Rattle.std.specs.Option.{unwrap_or}
 use Rattle.laws.specs.Pick.{pick}
-use Rattle.laws.proofs.Cases.{Which, which}
+use Rattle.laws.proofs.Cases.{Which, which, lt-or-ge}
 use Rattle.laws.proofs.Cases.Which.{holds, fails}
 use Rattle.finding.specs.First.{first_at}
-
--- ---- a walk: so far, and what is left
-
-module _ (x : ℕ) (l : List ℕ) (i : ℕ) (so : first_at x l ≡ i + first_at x (drop i l)) where
-  pub here : i < length l → get_or l i 0 ≡ x → i ≡ first_at x l
-  unfolding first_at
-  here h e = sym (so ∙ rw (drop-cons l i 0 h, eq-eqb (get_or l i 0) x e) (omega arith))
-
-  pub further : i < length l → (get_or l i 0 ≡ x → ⊥) → first_at x l ≡ i + 1 + first_at x (drop (i + 1) l)
-  unfolding first_at
-  further h n = so ∙ rw (drop-cons l i 0 h, ne_eqb (get_or l i 0) x n, add-one i) (omega arith)
-
-  pub nowhere : i ≡ length l → i ≡ first_at x l
-  unfolding first_at
-  nowhere e = sym (so ∙ rw (e, drop-length l) (omega arith))
 
 -- ---- what it is
 
@@ -86,3 +71,20 @@ first-front x (y ∷ l) m h = go (first-front x l m) (which (eqb y x)) h
         → pick (eqb y x) 0 (suc (first_at x (l ++ m))) ≡ pick (eqb y x) 0 (suc (first_at x l))
     go rec (holds t) b = rw t refl
     go rec (fails t) b = rw t (ap suc (rec (omega (arith, rw t at b))))
+
+-- ---- std's words for it
+
+first-long : (x : ℕ) (l : List ℕ) → position_or_len (λ y. eqb y x) l ≡ first_at x l
+unfolding first_at
+first-long x [] = refl
+first-long x (y ∷ l) = go (first-long x l) (which (eqb y x))
+  where
+    go : position_or_len (λ y. eqb y x) l ≡ first_at x l → Which (eqb y x) → position_or_len (λ y. eqb y x) (y ∷ l) ≡ pick (eqb y x) 0 (suc (first_at x l))
+    go rec (holds t) = rw t refl
+    go rec (fails t) = rw (t, rec) (omega arith)
+
+pub first-found : (x : ℕ) (l : List ℕ) → unwrap_or (position (λ y. eqb y x) l) (length l) ≡ first_at x l
+first-found x l = rw (first-long x l) (⊎_elim
+    (λ (h : first_at x l < length l). rw (lt-ltb (first_at x l) (length l) h) refl)
+    (λ (h : length l ≤ first_at x l). rw (le-ltb (first_at x l) (length l) h) (omega (arith, first-most x l)))
+    (lt-or-ge (first_at x l) (length l)))

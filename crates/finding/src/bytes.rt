@@ -6,16 +6,5 @@ ghost use Rattle.stores.specs.Coordinates.{are_same_bytes};
 pub fn same_bytes(a: &[u8], b: &[u8]) -> bool
     ensures { result ≡ are_same_bytes a.now b.now }
 {
-    let n = a.len();
-    if b.len() != n {
-        return false;
-    }
-    let mut i: usize = 0;
-    while i < n {
-        if a[i] != b[i] {
-            return false;
-        }
-        i += 1;
-    }
-    true
+    a == b
 }

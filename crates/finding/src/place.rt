@@ -6,12 +6,8 @@ ghost use Rattle.finding.specs.First.{first_at};
 pub fn first_place(words: &[u32], x: u32) -> usize
     ensures { result ≡ first_at x words.now }
 {
-    let mut i: usize = 0;
-    while i < words.len() {
-        if words[i] == x {
-            return i;
-        }
-        i += 1;
-    }
-    i
+    words
+        .iter()
+        .position(|word| *word == x)
+        .unwrap_or(words.len())
 }

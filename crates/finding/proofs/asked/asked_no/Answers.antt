@@ -1,9 +1,7 @@
 use mathlib.Core.Path.{sym, ◌∙◌}
 use native.Mathlib.Omega.{arith}
-use lib.Seq.{length-take-le}
 use borrow.Author.Tests.{not-true, not-false}
 use Rattle.finding.proofs.AskedLaws.{asked-first, asked-second, asked-other, asked-fine}
-use borrow.Author.Rules.{rules}
 use Rattle.finding.proofs.asked.asked_no.Goals as goal
 
 pub returns-then-ids-first : goal.returns-then-ids-first
@@ -11,12 +9,6 @@ returns-then-ids-first c = let a = c.args in asked-first a.ids a.bytes a.first a
 
 pub returns-then-ids-second : goal.returns-then-ids-second
 returns-then-ids-second c = let a = c.args in asked-second a.ids a.bytes a.first a.second a.store.now a.out.now (omega arith) (omega arith)
-
-pub slice_bounds-same_bytes-end : goal.slice_bounds-same_bytes-end
-slice_bounds-same_bytes-end c = sym (length-take-le c.args.bytes c.args.out.now c.requires)
-
-pub same_bytes-requires : goal.same_bytes-requires
-same_bytes-requires c = search rules
 
 pub returns-then-not-same_bytes : goal.returns-then-not-same_bytes
 returns-then-not-same_bytes c = let a = c.args in asked-other a.ids a.bytes a.first a.second a.store.now a.out.now (omega arith) (omega arith) (sym (not-true _ c.if-not-same_bytes.true-raw) ∙ c.same_bytes.ensures)
