@@ -50,6 +50,7 @@ pub fn pass(
     ensures { Passed store.now at row word n t work.old work.new result }
 {
     let mut j = 0;
+    // No `for`: `next_cell` jumps over the cells that are zero.
     while j < n {
         let i = next_cell(store, work, t.zeros, row, word, n, j);
         if n <= i {

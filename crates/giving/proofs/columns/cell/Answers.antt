@@ -6,14 +6,8 @@ use Rattle.giving.proofs.PassLaws.{cell-low, cell-high}
 use native.Mathlib.Omega.{arith}
 use Rattle.giving.proofs.columns.cell.Goals as goal
 
-pub be-x-requires : goal.be-x-requires
-be-x-requires c = record { k_bound = c.requires.0; k_in_bounds = c.requires.1 }
-
 pub overflow_mul-x : goal.overflow_mul-x
 overflow_mul-x c = omega (arith, c.be-x.ensures.below, pow-top 4 c.requires.0)
-
-pub overflow_add-result : goal.overflow_add-result
-overflow_add-result c = omega (arith, c.be-x.ensures.below, pow-top 4 c.requires.0)
 
 pub overflow_cast-result : goal.overflow_cast-result
 overflow_cast-result c = omega (arith, c.be-x.ensures.below, pow-top 4 c.requires.0, c.span-m.ensures)
@@ -26,9 +20,6 @@ overflow_add-result-2 c = omega (arith, c.be-x.ensures.below, pow-top 4 c.requir
 
 pub overflow_sub-result : goal.overflow_sub-result
 overflow_sub-result c = omega (arith, c.be-x.ensures.below, pow-top 4 c.requires.0, c.span-m.ensures)
-
-pub overflow_cast-result-2 : goal.overflow_cast-result-2
-overflow_cast-result-2 c = omega (arith, c.be-x.ensures.below, pow-top 4 c.requires.0, c.span-m.ensures)
 
 pub returns : goal.returns
 returns c = cell-high c.args.k c.be-x.result _ (omega (arith, c.span-m.ensures)) c.be-x.ensures.below (omega (arith, c.be-x.ensures.below, pow-top 4 c.requires.0, c.span-m.ensures)) ∙ ap (signed c.args.k) c.be-x.ensures.is
