@@ -21,8 +21,5 @@ const LONGEST: usize = 4294967295;
 pub fn room(long: usize) -> usize
     ensures { (result ≡ room_of long) × (result ≤ long) × (result ≤ 4294967295) }
 {
-    if LONGEST < long {
-        return LONGEST;
-    }
-    long
+    long.min(LONGEST)
 }

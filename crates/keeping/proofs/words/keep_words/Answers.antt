@@ -1,4 +1,3 @@
-use borrow.Author.Rules.{rules}
 use native.Mathlib.Omega.{arith}
 use Rattle.keeping.proofs.KeepLaws.{words-much, words-many, words-some}
 use Rattle.keeping.proofs.words.keep_words.Goals as goal
@@ -8,15 +7,6 @@ returns-then-bytes-gt9223372036854775807 c = words-much _ _ c.if-bytes-gt9223372
 
 pub returns-then-rows-gt2305843009213693951 : goal.returns-then-rows-gt2305843009213693951
 returns-then-rows-gt2305843009213693951 c = words-many _ _ (omega arith) c.if-rows-gt2305843009213693951.true
-
-pub overflow_mul-result : goal.overflow_mul-result
-overflow_mul-result c = search rules
-
-pub overflow_add-result : goal.overflow_add-result
-overflow_add-result c = search rules
-
-pub overflow_add-result-2 : goal.overflow_add-result-2
-overflow_add-result-2 c = search rules
 
 pub returns : goal.returns
 returns c = words-some _ _ (omega arith) (omega arith)
