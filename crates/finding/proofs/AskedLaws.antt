@@ -1,11 +1,11 @@
 -- What is asked of a build that is done, test by test. Assumes nothing.
 use mathlib.Core.Path.{◌≡◌, refl}
-use mathlib.Core.Bool.{true, false}
+use mathlib.Core.Bool.{true}
 use mathlib.Core.List.{List, [], ◌∷◌}
-use Prim.Native.Nat.{ℕ, ◌≤◌, ◌<◌}
+use Prim.Native.Nat.{ℕ, ◌<◌}
 use lib.Dec.{ltb}
 use lib.ListN.{take}
-use borrow.Author.Tests.{lt-ltb, le-ltb, ltb-true}
+use borrow.Author.Tests.{lt-ltb, ltb-true}
 use Rattle.said.specs.Refusals.{first_failed}
 use Rattle.said.proofs.RecordLaws.{first-passed}
 use Rattle.stores.specs.Coordinates.{are_same_bytes}
@@ -13,19 +13,7 @@ use Rattle.finding.specs.Asked.{no_id, other_store, asked_refusal}
 use Rattle.finding.proofs.SameLaws.{same-is}
 
 module _ (ids bytes a b : ℕ) (store out : List ℕ) where
-  pub asked-first : ids ≤ a → no_id ≡ asked_refusal ids bytes a b store out
-  unfolding asked_refusal first_failed
-  asked-first h = rw (le-ltb a ids h) refl
-
   module _ (one : a < ids) where
-    pub asked-second : ids ≤ b → no_id ≡ asked_refusal ids bytes a b store out
-    unfolding asked_refusal first_failed
-    asked-second h = rw (lt-ltb a ids one, le-ltb b ids h) refl
-
-    pub asked-other : b < ids → false ≡ are_same_bytes store (take bytes out) → other_store ≡ asked_refusal ids bytes a b store out
-    unfolding asked_refusal first_failed
-    asked-other h e = rw (lt-ltb a ids one, lt-ltb b ids h, ← e) refl
-
     pub asked-fine : b < ids → true ≡ are_same_bytes store (take bytes out) → 0 ≡ asked_refusal ids bytes a b store out
     unfolding asked_refusal first_failed
     asked-fine h e = rw (lt-ltb a ids one, lt-ltb b ids h, ← e) refl

@@ -15,6 +15,7 @@ impl Asked {
 }
 
 // Of a build of so many ids and bytes, by its output: the refusal's number, or 0.
+#[tactic(auto, unfolding(crate::specs::Asked::asked_refusal, said::specs::Refusals::first_failed))]
 pub fn asked_no(
     ids: usize,
     bytes: usize,
