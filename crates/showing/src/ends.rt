@@ -19,21 +19,20 @@ fn end_at(job: &[u8], j: usize) -> usize
     ensures { result ≡ end_at job.now j }
 {
     let n = records_in(job.len());
-    let mut i: usize = 0;
     let mut before: usize = 0;
-    while i < n {
+    for i in 0..n {
         if kind_at(job, i) == Kind::END {
             if before == j {
                 return i;
             }
             before += 1;
         }
-        i += 1;
     }
     n
 }
 
 // Where that record lies.
+#[tactic(auto, unfolding(crate::specs::Parts::end_span))]
 pub fn end_part(job: &[u8], j: usize) -> Span
     ensures { result ≡ end_span job.now j }
 {

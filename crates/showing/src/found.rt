@@ -17,6 +17,7 @@ pub enum Shown {
 }
 
 // The part of the one that was asked for: 0 the job, else the store.
+#[tactic(auto, unfolding(crate::specs::Parts::asked_part))]
 fn part_asked(job: &[u8], store: &[u8], ids: &[u32], map: &[u32], id: u32, what: u32) -> Shown
     requires { id < length map.now }
     ensures { result ≡ asked_part job.now store.now ids.now map.now id what }
@@ -30,6 +31,7 @@ fn part_asked(job: &[u8], store: &[u8], ids: &[u32], map: &[u32], id: u32, what:
 }
 
 // Of what a build answered and left.
+#[tactic(auto, unfolding(crate::specs::Parts::found_of))]
 pub fn find(
     b: Built,
     job: &[u8],

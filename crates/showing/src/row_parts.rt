@@ -7,6 +7,7 @@ use crate::ends::Span;
 use reader::{be, column_at, header_ok, subtable_ok};
 
 // A part that starts there; an empty one starts at 0.
+#[tactic(auto, unfolding(crate::specs::Parts::span))]
 fn span(at: usize, long: usize) -> Span
     ensures { result ≡ span at long }
 {
@@ -17,6 +18,7 @@ fn span(at: usize, long: usize) -> Span
 }
 
 // Row inner of the subtable at.
+#[tactic(auto, unfolding(crate::specs::Parts::row_in))]
 fn row_in(s: &[u8], at: usize, inner: usize) -> Span
     requires { (is_header_ok s.now ≡ true) × (at < 4294967296) }
     ensures { result ≡ row_in s.now at inner }
@@ -39,6 +41,7 @@ fn row_in(s: &[u8], at: usize, inner: usize) -> Span
 }
 
 // The row of a map word: its upper half is the outer number, its lower half the inner one.
+#[tactic(auto, unfolding(crate::specs::Parts::row_span))]
 pub fn row_part(s: &[u8], word: u32) -> Span
     ensures { result ≡ row_span s.now word }
 {

@@ -1,30 +1,14 @@
 use mathlib.Core.Path.{sym, ◌∙◌}
 use native.Mathlib.Omega.{arith}
-use borrow.Author.Rules.{rules}
 use Rattle.showing.proofs.EndLaws.{counted_none, counted-end, counted-other, end-here, end_none}
 use Rattle.showing.proofs.ends.end_at.Goals as goal
 use Rattle.showing.proofs.ends.end_at.Goals.{then-kind_at-eq-END+else-before-j, else-kind_at-eq-END}
 
-pub records_in-n-requires : goal.records_in-n-requires
-records_in-n-requires c = search rules
-
 pub loop-i-init : goal.loop-i-init
 loop-i-init c = counted_none _ _ _
 
-pub kind_at-requires : goal.kind_at-requires
-kind_at-requires c = search rules
-
 pub returns-then-before-j : goal.returns-then-before-j
 returns-then-before-j c = end-here _ c.loop-i.invariant c.loop-i-test.true c.records_in-n.ensures (sym c.kind_at.ensures ∙ c.if-kind_at-eq-END.true) c.if-before-j.true
-
-pub overflow_add-before : goal.overflow_add-before
-overflow_add-before c = omega arith
-
-pub overflow_add-i : goal.overflow_add-i
-overflow_add-i c = omega arith
-
-pub loop-i-smaller : goal.loop-i-smaller
-loop-i-smaller c = omega arith
 
 pub loop-i-preserved : goal.loop-i-preserved
 loop-i-preserved c = elim c.if-kind_at-eq-END.branch [
