@@ -50,10 +50,6 @@ use Rattle.keeping.proofs.PlacedLaws.{store-named, tables-count, rows-count, reg
 
 -- ---- the published work
 
-pub words-much : (bytes rows : ℕ) → 9223372036854775807 < bytes → 0 ≡ keeping_work bytes rows
-unfolding keeping_work
-words-much bytes rows h = rw (le-ltb bytes (2 ^ 63) (omega arith))
-
 pub words-many : (bytes rows : ℕ) → bytes ≤ 9223372036854775807 → 2305843009213693951 < rows → 0 ≡ keeping_work bytes rows
 unfolding keeping_work
 words-many bytes rows h l = rw (lt-ltb bytes (2 ^ 63) (omega arith), le-ltb rows (2 ^ 61) (omega arith))
