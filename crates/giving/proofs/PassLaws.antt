@@ -3,7 +3,7 @@ use mathlib.Core.Path.{◌≡◌, refl, sym, ap, ◌∙◌}
 use mathlib.Core.Bool.{false}
 use mathlib.Core.List.{List, [], ◌∷◌}
 use mathlib.Core.Logic.{⊎_elim}
-use Prim.Native.Nat.{ℕ, suc, ◌+◌, ◌-◌, ◌*◌, ◌^◌, ◌≤◌, ◌<◌}
+use Prim.Native.Nat.{ℕ, zero, suc, ◌+◌, ◌-◌, ◌*◌, ◌%◌, ◌^◌, ◌≤◌, ◌<◌}
 use native.Mathlib.Omega.{arith}
 use lib.IntN.{pos, negsuc}
 use lib.ListN.{length, get_or, set}
@@ -22,6 +22,15 @@ use Rattle.reader.proofs.ColumnLaws.{at-fits}
 use Rattle.cells.specs.Lent.{Ahead, CellsFit, NextCell}
 use Rattle.giving.specs.declared.entries.Aims.{Aims}
 use Rattle.giving.specs.Lent.{column_of, cell_at, ColumnsFit, Nonzero, Passed}
+
+-- as many numbers as k bytes have, by a shift
+pub span-is : (k : ℕ) → k ≤ 4 → (1 * 2 ^ (8 * k)) % 2 ^ 64 ≡ 256 ^ k
+span-is zero h = refl
+span-is (suc zero) h = refl
+span-is (suc (suc zero)) h = refl
+span-is (suc (suc (suc zero))) h = refl
+span-is (suc (suc (suc (suc zero)))) h = refl
+span-is (suc (suc (suc (suc (suc k))))) h = absurd (omega arith)
 
 -- ---- one cell
 
