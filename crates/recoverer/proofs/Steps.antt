@@ -143,22 +143,6 @@ look-passed s h = go (which (parses (parse s))) (which (once (store_at s).region
 -- ---- R51
 
 module _ (regions axes : ℕ) where
-  pub bounds-regions : max_regions < regions → 51 ≡ bounds_refusal regions axes
-  unfolding bounds_refusal first_failed
-  bounds-regions h = rw (lt-leb regions max_regions h)
-
-  pub bounds-none : regions ≤ max_regions → axes ≡ 0 → 51 ≡ bounds_refusal regions axes
-  unfolding bounds_refusal first_failed
-  bounds-none h e = rw (le-leb regions max_regions h, le-ltb 0 axes (omega arith))
-
-  pub bounds-axes : regions ≤ max_regions → (axes ≡ 0 → ⊥) → most_axes < axes → 51 ≡ bounds_refusal regions axes
-  unfolding bounds_refusal first_failed
-  bounds-axes h d l = rw (le-leb regions max_regions h, lt-ltb 0 axes (omega arith), lt-leb axes most_axes l)
-
-  pub bounds-fine : regions ≤ max_regions → (axes ≡ 0 → ⊥) → axes ≤ most_axes → 0 ≡ bounds_refusal regions axes
-  unfolding bounds_refusal first_failed
-  bounds-fine h d l = rw (le-leb regions max_regions h, lt-ltb 0 axes (omega arith), le-leb axes most_axes l)
-
   abbrev fit : Bool
   fit = leb regions max_regions && (ltb 0 axes && leb axes most_axes)
 

@@ -60,6 +60,7 @@ fn all_once(store: &[u8], work: &mut [u32]) -> bool
 }
 
 // R20 and R50, with work for scratch; 0 where both are passed.
+#[tactic(auto, unfolding(crate::specs::Recover::look_no, said::specs::Refusals::first_failed))]
 fn look(store: &[u8], work: &mut [u32]) -> usize
     requires { length store.now ≤ length work.old }
     ensures { result ≡ look_no store.now }
@@ -75,6 +76,7 @@ fn look(store: &[u8], work: &mut [u32]) -> usize
 }
 
 // R51.
+#[tactic(auto, unfolding(crate::specs::Recover::bounds_refusal, said::specs::Refusals::first_failed))]
 fn bounds_no(regions: usize, axes: usize) -> usize
     ensures { result ≡ bounds_refusal regions axes }
 {
