@@ -4,21 +4,23 @@ use mathlib.Core.Bool.{Bool, true, false, ◌||◌, or-true, or-false}
 use mathlib.Core.List.{List, [], ◌∷◌, ◌++◌}
 use mathlib.Core.Logic.{⊎_elim}
 use mathlib.Core.Option.{Option, none, some}
-use Prim.Native.Nat.{ℕ, suc, ◌+◌, ◌*◌, ◌≤◌, ◌<◌}
+use Prim.Native.Nat.{ℕ, suc, ◌+◌, ◌-◌, ◌*◌, ◌≤◌, ◌<◌}
 use native.Mathlib.Omega.{arith}
 use lib.Dec.{eqb}
-use lib.ListN.{length, get_or, set}
+use lib.ListN.{length, get_or, take, drop, set, length-set}
+use borrow.Rule.Slice.PartMut.{put_mid}
 use lib.Seq.{get_or-set_same, get_or-set_other}
 use borrow.Author.Tests.{eq-eqb, ne_eqb, eqb-true}
 use Rattle.laws.specs.Bounded.{tabulate}
-use Rattle.laws.specs.LentRange.{Only}
+use Rattle.laws.specs.LentRange.{seg}
 use Rattle.laws.specs.Bytes.{be}
 use Rattle.laws.specs.Sorting.{keep, rank}
 use Rattle.laws.proofs.Cases.{lt-or-ge, true-false, Which, which}
 use Rattle.laws.proofs.Cases.Which.{holds, fails}
 use Rattle.laws.proofs.BoundedLaws.{tabulate-snoc}
 use Rattle.laws.proofs.EveryLaws.{all-get_or}
-use Rattle.laws.proofs.RangeLaws.{only-refl, only-trans, only_set}
+use Rattle.laws.proofs.RangeLaws.{length-seg, get_or-seg, only-refl, only-trans}
+use Rattle.laws.proofs.PartLaws.{only-mid, seg-mid}
 use Rattle.laws.proofs.RankLaws.{rank-in, rank-out, rank_most}
 use Rattle.reader.specs.Store.{region_count, column_count, regions_at}
 use Rattle.reader.proofs.StoreLaws.{words-length, words-at, ok-below}
@@ -26,7 +28,7 @@ use Rattle.stores.specs.Stores.{Table, table_at}
 use Rattle.stores.specs.Dropping.{has, named}
 use Rattle.stores.proofs.Picking.{has_all}
 use Rattle.stores.proofs.WholeLaws.{subtable-named}
-use Rattle.cutting.specs.LentCut.{table_of, TableFit, StoreFit, CutIs, marked, number_of, ColumnsMarked, tables_of, TablesMarked}
+use Rattle.cutting.specs.LentCut.{table_of, TableFit, StoreFit, CutIs, marked, number_of, ColumnsMarked, tables_of, TablesMarked, NumberedAt}
 use Rattle.cutting.proofs.CutLaws.{fits, table_kept, fit-kept}
 
 -- ---- what a list has
@@ -137,51 +139,48 @@ module _ {s : List ℕ} {n t : ℕ} {old : List ℕ} (f : StoreFit s n old t) wh
 
 -- ---- numbers
 
-pub record NumbersSo (m regions : ℕ) (old new : List ℕ) (k r : ℕ) : Type 0 where
-  pub within : r ≤ regions
-  pub only : Only ((m, regions) ∷ []) old new
+-- the words of the regions, of which the first r have their numbers
+pub record NumbersSo (m regions : ℕ) (old words : List ℕ) (k r : ℕ) : Type 0 where
+  pub long : length words ≡ regions
   pub count : k ≡ rank (marked m old) r
-  pub is : (i : ℕ) → i < r → get_or new (m + i) 0 ≡ number_of m old i
-  pub later : (i : ℕ) → r ≤ i → i < regions → get_or new (m + i) 0 ≡ get_or old (m + i) 0
+  pub is : (i : ℕ) → i < r → get_or words i 0 ≡ number_of m old i
+  pub later : (i : ℕ) → r ≤ i → i < regions → get_or words i 0 ≡ get_or old (m + i) 0
 
-module _ (m regions : ℕ) (old : List ℕ) where
-  pub numbers-start : NumbersSo m regions old old 0 0
-  unfolding keep tabulate
-  numbers-start = record {
-    within = omega arith;
-    only = only-refl ((m, regions) ∷ []) old;
+module _ (m regions : ℕ) (old : List ℕ) (room : m + regions ≤ length old) where
+  pub numbers-start : (n : ℕ) → n ≡ regions → NumbersSo m regions old (take n (drop m old)) 0 0
+  unfolding keep tabulate seg
+  numbers-start n e = rw e (record {
+    long = length-seg m regions old room;
     count = refl;
     is = λ i h. absurd (omega arith);
-    later = λ i p q. refl;
-  }
+    later = λ i p q. get_or-seg m regions old i q;
+  })
 
-  module _ (room : m + regions ≤ length old) (new : List ℕ) (k r : ℕ) (h : NumbersSo m regions old new k r) (l : r < regions) where
+  module _ (words : List ℕ) (k r : ℕ) (h : NumbersSo m regions old words k r) (l : r < regions) where
     pub numbers-low : k ≤ r
     numbers-low = omega (arith, h.count, rank_most (marked m old) r)
 
-    pub numbers-in : (get_or new (m + r) 0 ≡ 0 → ⊥) → NumbersSo m regions old (set new (m + r) (k + 1)) (k + 1) (r + 1)
+    pub numbers-in : (get_or words r 0 ≡ 0 → ⊥) → NumbersSo m regions old (set words r (k + 1)) (k + 1) (r + 1)
     numbers-in d =
         let e : marked m old r ≡ true = rw (ne_eqb (get_or old (m + r) 0) 0 (λ z. d (h.later r (omega arith) l ∙ z))) in
         record {
-          within = omega arith;
-          only = only-trans h.only (only_set ((m, regions) ∷ []) new (m + r) (k + 1) (λ x. omega (arith, x.0.apart (omega arith))));
+          long = length-set words r (k + 1) ∙ h.long;
           count = sym (rank-in (marked m old) r e ∙ ap (λ (x : ℕ). x + 1) (sym h.count));
           is = λ i b. ⊎_elim
-              (λ (c : i < r). get_or-set_other new (m + r) (m + i) (k + 1) 0 (λ z. omega arith) ∙ h.is i c)
+              (λ (c : i < r). get_or-set_other words r i (k + 1) 0 (λ z. omega arith) ∙ h.is i c)
               (λ (c : r ≤ i).
               let z : i ≡ r = omega arith in
-              rw (z, e) (omega (arith, get_or-set_same new (m + r) (k + 1) 0 (omega (arith, h.only.long)), h.count)))
+              rw (z, e) (omega (arith, get_or-set_same words r (k + 1) 0 (omega (arith, h.long)), h.count)))
               (lt-or-ge i r);
-          later = λ i p q. get_or-set_other new (m + r) (m + i) (k + 1) 0 (λ z. omega arith) ∙ h.later i (omega arith) q;
+          later = λ i p q. get_or-set_other words r i (k + 1) 0 (λ z. omega arith) ∙ h.later i (omega arith) q;
         }
 
-    pub numbers-out : get_or new (m + r) 0 ≡ 0 → NumbersSo m regions old new k (r + 1)
+    pub numbers-out : get_or words r 0 ≡ 0 → NumbersSo m regions old words k (r + 1)
     numbers-out d =
         let a : get_or old (m + r) 0 ≡ 0 = sym (h.later r (omega arith) l) ∙ d in
         let e : marked m old r ≡ false = rw (eq-eqb (get_or old (m + r) 0) 0 a) in
         record {
-          within = omega arith;
-          only = h.only;
+          long = h.long;
           count = h.count ∙ sym (rank-out (marked m old) r e);
           is = λ i b. ⊎_elim
               (λ (c : i < r). h.is i c)
@@ -189,3 +188,12 @@ module _ (m regions : ℕ) (old : List ℕ) where
               (lt-or-ge i r);
           later = λ i p q. h.later i (omega arith) q;
         }
+
+  pub numbers-done : (words : List ℕ) (k r : ℕ) → NumbersSo m regions old words k r → r ≡ regions → NumberedAt m regions old (put_mid m (m + regions - m) old words) k
+  numbers-done words k r h e =
+      let f : length words ≡ m + regions - m = omega (arith, h.long) in
+      record {
+        only = only-mid m regions old words room f;
+        is = λ i b. sym (get_or-seg m regions (put_mid m (m + regions - m) old words) i b) ∙ ap (λ (x : List ℕ). get_or x i 0) (seg-mid m regions old words room f) ∙ h.is i (omega arith);
+        count = h.count ∙ ap (rank (marked m old)) e;
+      }

@@ -95,9 +95,6 @@ module _ (f : ℕ → List ℕ) (p : ℕ → Bool) (n : ℕ) where
   left-none r h = let m : n - r ≡ 0 = omega arith in rw m
 
   module _ (at : ℕ) (old : List ℕ) where
-    pub some-start : Putting at some old old at (left 0)
-    some-start = let e : n - 0 ≡ n = omega arith in rw e (put-start at some old)
-
     module _ (room : at + length some ≤ length old) (new : List ℕ) (a r : ℕ) (q : Putting at some old new a (left r)) (h : r < n) where
       pub some-room : p r ≡ true → a + length (f r) ≤ length new
       some-room t =

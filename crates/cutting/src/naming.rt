@@ -37,12 +37,12 @@ pub fn number(work: &mut [u32], marks: usize, regions: usize) -> usize
     requires { (regions < 65536) × (marks + regions ≤ length work.old) }
     ensures { NumberedAt marks regions work.old work.new result }
 {
-    let mut k: usize = 0;
-    for r in 0..regions {
-        if work[marks + r] != 0 {
+    let mut k: u32 = 0;
+    for mark in work[marks..marks + regions].iter_mut() {
+        if *mark != 0 {
             k += 1;
-            work[marks + r] = k as u32;
+            *mark = k;
         }
     }
-    k
+    k as usize
 }
