@@ -28,11 +28,6 @@ module _ {s : List ℕ} {n : ℕ} {w : List ℕ} {g : ℕ} (f : TableFit s n w g
       let e : o ≡ get_or w (start_of n w g) 0 = b ∙ ap (λ (i : ℕ). get_or w i 0) a in
       (h.is ∙ ap (λ (x : ℕ). be 4 s (8 + 4 * (x / 65536))) e, h.below)
 
-  pub offset-fits : (j o : ℕ) → j ≡ get_or w (2 * n + g) 0 → o ≡ get_or w j 0 → 8 + 4 * (o / 65536) + 4 ≤ length s
-  offset-fits j o a b =
-      let e : o ≡ get_or w (start_of n w g) 0 = b ∙ ap (λ (i : ℕ). get_or w i 0) a in
-      rw e f.offset-in
-
   pub first-in : (j : ℕ) → j ≡ get_or w (2 * n + g) 0 → j < length w
   first-in j a = omega (arith, f.up, f.top, f.starts)
 
@@ -56,12 +51,6 @@ module _ {s : List ℕ} {n : ℕ} {w : List ℕ} {g : ℕ} (f : TableFit s n w g
 
   pub head_in : (r : ℕ) → r ≡ table_of s n w g → r + 6 ≤ length s
   head_in r e = rw e fits.head
-
-  pub up_is : (from to : ℕ) → from ≡ get_or w (2 * n + g) 0 → to ≡ get_or w (2 * n + g + 1) 0 → from ≤ to
-  up_is from to d e =
-      let z : 2 * n + g + 1 ≡ 2 * n + (g + 1) = omega arith in
-      let y : to ≡ start_of n w (g + 1) = e ∙ ap (λ (i : ℕ). get_or w i 0) z in
-      omega (arith, f.up)
 
 -- ---- sizes
 
@@ -93,9 +82,6 @@ module _ (s : List ℕ) (n : ℕ) (w : List ℕ) (t : ℕ) where
     is = sym (sum-next (cut_size s n w) g ∙ ap₂ (λ (a b : ℕ). a + b) (sym h.is) (sym e));
     low = omega (arith, h.low);
   }
-
-  pub size-done : (size g : ℕ) → SizeSo s n w t size g → t ≤ g → t < 65536 → (size ≡ sum (cut_size s n w) t) × (size < 2251799813685248)
-  size-done size g h l b = let e : g ≡ t = omega (arith, h.within) in (h.is ∙ ap (sum (cut_size s n w)) e, omega (arith, h.low))
 
 -- ---- where other words of work change
 

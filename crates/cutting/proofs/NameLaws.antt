@@ -4,21 +4,23 @@ use mathlib.Core.Bool.{Bool, true, false, ◌||◌, or-true, or-false}
 use mathlib.Core.List.{List, [], ◌∷◌, ◌++◌}
 use mathlib.Core.Logic.{⊎_elim}
 use mathlib.Core.Option.{Option, none, some}
-use Prim.Native.Nat.{ℕ, suc, ◌+◌, ◌*◌, ◌≤◌, ◌<◌}
+use Prim.Native.Nat.{ℕ, suc, ◌+◌, ◌-◌, ◌*◌, ◌≤◌, ◌<◌}
 use native.Mathlib.Omega.{arith}
 use lib.Dec.{eqb}
-use lib.ListN.{length, get_or, set, length-set}
+use lib.ListN.{length, get_or, take, drop, set, length-set}
+use borrow.Rule.Slice.PartMut.{put_mid}
 use lib.Seq.{get_or-set_same, get_or-set_other}
 use borrow.Author.Tests.{eq-eqb, ne_eqb, eqb-true}
 use Rattle.laws.specs.Bounded.{tabulate}
-use Rattle.laws.specs.LentRange.{Only}
+use Rattle.laws.specs.LentRange.{seg}
 use Rattle.laws.specs.Bytes.{be}
 use Rattle.laws.specs.Sorting.{keep, rank}
-use Rattle.laws.proofs.Cases.{lt-or-ge, same_or_not, true-false, Which, which}
+use Rattle.laws.proofs.Cases.{lt-or-ge, true-false, Which, which}
 use Rattle.laws.proofs.Cases.Which.{holds, fails}
 use Rattle.laws.proofs.BoundedLaws.{tabulate-snoc}
 use Rattle.laws.proofs.EveryLaws.{all-get_or}
-use Rattle.laws.proofs.RangeLaws.{only-refl, only-trans, only_set}
+use Rattle.laws.proofs.RangeLaws.{length-seg, get_or-seg, only-refl, only-trans}
+use Rattle.laws.proofs.PartLaws.{only-mid, seg-mid}
 use Rattle.laws.proofs.RankLaws.{rank-in, rank-out, rank_most}
 use Rattle.reader.specs.Store.{region_count, column_count, regions_at}
 use Rattle.reader.proofs.StoreLaws.{words-length, words-at, ok-below}
@@ -60,63 +62,20 @@ named-next s n w g r =
     ap (λ (l : List (Option Table)). named l r) (tabulate-snoc 0 g f)
     ∙ (let z : 0 + g ≡ g = omega arith in rw z (named-append (tabulate 0 g f) (table_at s (table_of s n w g)) r))
 
--- ---- the marks of one subtable
-
--- the first j columns are marked
-pub record ColumnsSo (s : List ℕ) (from n m : ℕ) (old new : List ℕ) (j : ℕ) : Type 0 where
-  pub within : j ≤ n
-  pub long : length new ≡ length old
-  pub some-are : (i : ℕ) → i < j → get_or new (m + be 2 s (from + 2 * i)) 0 ≡ 1
-  pub none-else : (k : ℕ) → ((i : ℕ) → i < j → m + be 2 s (from + 2 * i) ≡ k → ⊥) → get_or new k 0 ≡ get_or old k 0
-
-module _ (s : List ℕ) (from n m : ℕ) (old : List ℕ) where
-  pub columns-start : ColumnsSo s from n m old old 0
-  columns-start = record { within = omega arith; long = refl; some-are = λ i h. absurd (omega arith); none-else = λ k h. refl }
-
-  pub columns-more : (new : List ℕ) (j r : ℕ) → ColumnsSo s from n m old new j → j < n → r ≡ be 2 s (from + 2 * j) → m + be 2 s (from + 2 * j) < length old
-      → ColumnsSo s from n m old (set new (m + r) 1) (j + 1)
-  columns-more new j r c h e b = record {
-    within = omega arith;
-    long = length-set new (m + r) 1 ∙ c.long;
-    some-are = λ i l. ⊎_elim
-        (λ (q : m + be 2 s (from + 2 * i) ≡ m + r). rw q (get_or-set_same new (m + r) 1 0 (omega (arith, c.long))))
-        (λ q. get_or-set_other new (m + r) (m + be 2 s (from + 2 * i)) 1 0 q ∙ ⊎_elim
-        (λ (d : i < j). c.some-are i d)
-        (λ (d : j ≤ i). let z : i ≡ j = omega arith in absurd (q (ap (λ (x : ℕ). m + be 2 s (from + 2 * x)) z ∙ ap (λ (x : ℕ). m + x) (sym e))))
-        (lt-or-ge i j))
-        (same_or_not (m + be 2 s (from + 2 * i)) (m + r));
-    none-else = λ k d.
-        get_or-set_other new (m + r) k 1 0 (λ q. d j (omega arith) (ap (λ (x : ℕ). m + x) (sym e) ∙ sym q))
-        ∙ c.none-else k (λ i l q. d i (omega arith) q);
-  }
-
-  pub columns-done : (new : List ℕ) (j : ℕ) → ColumnsSo s from n m old new j → n ≤ j → ColumnsMarked s from n m old new
-  columns-done new j c h = record {
-    long = c.long;
-    some-are = λ i l. c.some-are i (omega arith);
-    none-else = λ k d. c.none-else k (λ i l q. d i (omega (arith, c.within)) q);
-  }
-
--- ---- of all
-
-pub record TablesSo (s : List ℕ) (n t : ℕ) (old new : List ℕ) (g : ℕ) : Type 0 where
-  pub within : g ≤ t
-  pub only : Only ((3 * n + 1, region_count s) ∷ []) old new
-  pub is : (r : ℕ) → r < region_count s → marked (3 * n + 1) new r ≡ named (tables_of s n old g) r
+-- ---- the marks of all subtables: the promise for the first g of them
 
 module _ {s : List ℕ} {n t : ℕ} {old : List ℕ} (f : StoreFit s n old t) where
   abbrev m : ℕ
   m = 3 * n + 1
 
-  pub tables_start : ((r : ℕ) → r < region_count s → get_or old (3 * n + 1 + r) 0 ≡ 0) → TablesSo s n t old old 0
+  pub tables_start : ((r : ℕ) → r < region_count s → get_or old (3 * n + 1 + r) 0 ≡ 0) → TablesMarked s n 0 old old
   unfolding tabulate named
   tables_start z = record {
-    within = omega arith;
     only = only-refl ((3 * n + 1, region_count s) ∷ []) old;
     is = λ r h. rw (eq-eqb (get_or old (3 * n + 1 + r) 0) 0 (z r h));
   }
 
-  module _ {new : List ℕ} {g : ℕ} (h : TablesSo s n t old new g) (l : g < t) where
+  module _ {new : List ℕ} {g : ℕ} (h : TablesMarked s n g old new) (l : g < t) where
     pub fit-now : TableFit s n new g
     fit-now = fit-kept h.only (omega (arith, f.most)) (f.table g l)
 
@@ -169,9 +128,8 @@ module _ {s : List ℕ} {n t : ℕ} {old : List ℕ} (f : StoreFit s n old t) wh
                 true-false (rw (col-at j j-in, i) at y) e) in
                 rw (e, or-false (named (tables_of s n old g) r), same) (h.is r b)
 
-        pub tables_more : TablesSo s n t old next (g + 1)
+        pub tables_more : TablesMarked s n (g + 1) old next
         tables_more = record {
-          within = omega arith;
           only = only-trans h.only (record {
             long = k.long;
             kept = λ i o. k.none-else i (λ j j-in q. omega (arith, o.0.apart (omega (arith, col-low j j-in)), col-low j j-in));
@@ -179,56 +137,50 @@ module _ {s : List ℕ} {n t : ℕ} {old : List ℕ} (f : StoreFit s n old t) wh
           is = λ r b. step r b ∙ sym (named-next s n old g r);
         }
 
-  pub tables-done : {new : List ℕ} {g : ℕ} → TablesSo s n t old new g → t ≤ g → TablesMarked s n t old new
-  tables-done {new} {g} h l = let e : g ≡ t = omega (arith, h.within) in record { only = h.only; is = rw e at h.is }
-
 -- ---- numbers
 
-pub record NumbersSo (m regions : ℕ) (old new : List ℕ) (k r : ℕ) : Type 0 where
-  pub within : r ≤ regions
-  pub only : Only ((m, regions) ∷ []) old new
+-- the words of the regions, of which the first r have their numbers
+pub record NumbersSo (m regions : ℕ) (old words : List ℕ) (k r : ℕ) : Type 0 where
+  pub long : length words ≡ regions
   pub count : k ≡ rank (marked m old) r
-  pub is : (i : ℕ) → i < r → get_or new (m + i) 0 ≡ number_of m old i
-  pub later : (i : ℕ) → r ≤ i → i < regions → get_or new (m + i) 0 ≡ get_or old (m + i) 0
+  pub is : (i : ℕ) → i < r → get_or words i 0 ≡ number_of m old i
+  pub later : (i : ℕ) → r ≤ i → i < regions → get_or words i 0 ≡ get_or old (m + i) 0
 
-module _ (m regions : ℕ) (old : List ℕ) where
-  pub numbers-start : NumbersSo m regions old old 0 0
-  unfolding keep tabulate
-  numbers-start = record {
-    within = omega arith;
-    only = only-refl ((m, regions) ∷ []) old;
+module _ (m regions : ℕ) (old : List ℕ) (room : m + regions ≤ length old) where
+  pub numbers-start : (n : ℕ) → n ≡ regions → NumbersSo m regions old (take n (drop m old)) 0 0
+  unfolding keep tabulate seg
+  numbers-start n e = rw e (record {
+    long = length-seg m regions old room;
     count = refl;
     is = λ i h. absurd (omega arith);
-    later = λ i p q. refl;
-  }
+    later = λ i p q. get_or-seg m regions old i q;
+  })
 
-  module _ (room : m + regions ≤ length old) (new : List ℕ) (k r : ℕ) (h : NumbersSo m regions old new k r) (l : r < regions) where
+  module _ (words : List ℕ) (k r : ℕ) (h : NumbersSo m regions old words k r) (l : r < regions) where
     pub numbers-low : k ≤ r
     numbers-low = omega (arith, h.count, rank_most (marked m old) r)
 
-    pub numbers-in : (get_or new (m + r) 0 ≡ 0 → ⊥) → NumbersSo m regions old (set new (m + r) (k + 1)) (k + 1) (r + 1)
+    pub numbers-in : (get_or words r 0 ≡ 0 → ⊥) → NumbersSo m regions old (set words r (k + 1)) (k + 1) (r + 1)
     numbers-in d =
         let e : marked m old r ≡ true = rw (ne_eqb (get_or old (m + r) 0) 0 (λ z. d (h.later r (omega arith) l ∙ z))) in
         record {
-          within = omega arith;
-          only = only-trans h.only (only_set ((m, regions) ∷ []) new (m + r) (k + 1) (λ x. omega (arith, x.0.apart (omega arith))));
+          long = length-set words r (k + 1) ∙ h.long;
           count = sym (rank-in (marked m old) r e ∙ ap (λ (x : ℕ). x + 1) (sym h.count));
           is = λ i b. ⊎_elim
-              (λ (c : i < r). get_or-set_other new (m + r) (m + i) (k + 1) 0 (λ z. omega arith) ∙ h.is i c)
+              (λ (c : i < r). get_or-set_other words r i (k + 1) 0 (λ z. omega arith) ∙ h.is i c)
               (λ (c : r ≤ i).
               let z : i ≡ r = omega arith in
-              rw (z, e) (omega (arith, get_or-set_same new (m + r) (k + 1) 0 (omega (arith, h.only.long)), h.count)))
+              rw (z, e) (omega (arith, get_or-set_same words r (k + 1) 0 (omega (arith, h.long)), h.count)))
               (lt-or-ge i r);
-          later = λ i p q. get_or-set_other new (m + r) (m + i) (k + 1) 0 (λ z. omega arith) ∙ h.later i (omega arith) q;
+          later = λ i p q. get_or-set_other words r i (k + 1) 0 (λ z. omega arith) ∙ h.later i (omega arith) q;
         }
 
-    pub numbers-out : get_or new (m + r) 0 ≡ 0 → NumbersSo m regions old new k (r + 1)
+    pub numbers-out : get_or words r 0 ≡ 0 → NumbersSo m regions old words k (r + 1)
     numbers-out d =
         let a : get_or old (m + r) 0 ≡ 0 = sym (h.later r (omega arith) l) ∙ d in
         let e : marked m old r ≡ false = rw (eq-eqb (get_or old (m + r) 0) 0 a) in
         record {
-          within = omega arith;
-          only = h.only;
+          long = h.long;
           count = h.count ∙ sym (rank-out (marked m old) r e);
           is = λ i b. ⊎_elim
               (λ (c : i < r). h.is i c)
@@ -237,7 +189,11 @@ module _ (m regions : ℕ) (old : List ℕ) where
           later = λ i p q. h.later i (omega arith) q;
         }
 
-  pub numbers-done : (new : List ℕ) (k r : ℕ) → NumbersSo m regions old new k r → regions ≤ r → NumberedAt m regions old new k
-  numbers-done new k r h l =
-      let e : r ≡ regions = omega (arith, h.within) in
-      record { only = h.only; is = λ i b. h.is i (omega arith); count = h.count ∙ ap (rank (marked m old)) e }
+  pub numbers-done : (words : List ℕ) (k r : ℕ) → NumbersSo m regions old words k r → r ≡ regions → NumberedAt m regions old (put_mid m (m + regions - m) old words) k
+  numbers-done words k r h e =
+      let f : length words ≡ m + regions - m = omega (arith, h.long) in
+      record {
+        only = only-mid m regions old words room f;
+        is = λ i b. sym (get_or-seg m regions (put_mid m (m + regions - m) old words) i b) ∙ ap (λ (x : List ℕ). get_or x i 0) (seg-mid m regions old words room f) ∙ h.is i (omega arith);
+        count = h.count ∙ ap (rank (marked m old)) e;
+      }

@@ -1,20 +1,21 @@
 -- Loops that put one piece after another. Assumes nothing.
-use mathlib.Core.Path.{◌≡◌, refl, sym, ap, ◌∙◌}
+use mathlib.Core.Path.{◌≡◌, refl, ap, ◌∙◌}
 use mathlib.Core.Bool.{Bool, true, false}
-use mathlib.Core.List.{List, [], ◌∷◌, ◌++◌, map}
+use mathlib.Core.List.{List, [], ◌++◌, map}
 use Prim.Native.Nat.{ℕ, zero, suc, ◌+◌, ◌-◌, ◌*◌, ◌≤◌, ◌<◌}
-use native.Mathlib.Nat.{add-zero, suc-mul, zero-mul}
+use native.Mathlib.Nat.{suc-mul, zero-mul}
 use native.Mathlib.Numerals.{add-one}
 use native.Mathlib.Omega.{arith}
-use lib.ListN.{length, get_or, set, length-append}
+use lib.ListN.{length, take, drop, length-append}
+use lib.Seq.{drop-drop}
+use borrow.Rule.Slice.PartMut.{put_mid}
 use Rattle.laws.specs.Bytes.{over}
 use Rattle.laws.specs.Bounded.{tabulate, up_to}
 use Rattle.laws.specs.LentRange.{seg}
 use Rattle.laws.specs.Sorting.{keep}
 use Rattle.laws.specs.Joining.{join_all}
-use Rattle.laws.proofs.RangeLaws.{seg-cons, seg-none}
+use Rattle.laws.proofs.RangeLaws.{length-seg}
 use Rattle.rows.specs.Lent.{Put}
-use Rattle.rows.proofs.OverLaws.{set-over}
 use Rattle.rows.proofs.PutLaws.{Putting, put-start, put-more, put-done}
 
 -- ---- a piece for each number below n
@@ -63,40 +64,10 @@ pieces-long f k a (suc n) h =
 
 -- ---- bytes copied
 
-bytes-seg : (src : List ℕ) (from n a : ℕ) → from + a + n ≤ length src → join_all (tabulate a n (λ i. get_or src (from + i) 0 ∷ [])) ≡ seg (from + a) n src
-unfolding join_all tabulate
-bytes-seg src from zero a h = sym (seg-none (from + a) src)
-bytes-seg src from (suc n) a h =
-    let z : from + suc a ≡ from + a + 1 = omega arith in
-    rw (seg-cons (from + a) n src (omega arith)) (ap (λ (l : List ℕ). get_or src (from + a) 0 ∷ l) (bytes-seg src from n (suc a) (omega arith) ∙ ap (λ (x : ℕ). seg x n src) z))
-
-abbrev byte : List ℕ → ℕ → ℕ → List ℕ
-byte src from i = get_or src (from + i) 0 ∷ []
-
--- the first i are copied
-pub record Copying (src : List ℕ) (from n at : ℕ) (old new : List ℕ) (i : ℕ) : Type 0 where
-  pub within : i ≤ n
-  pub put : Putting at (pieces (byte src from) n) old new (at + i) (rest (byte src from) n i)
-
-module _ (src : List ℕ) (from n at : ℕ) (old : List ℕ) (inside : from + n ≤ length src) (room : at + n ≤ length old) where
-  long : length (pieces (byte src from) n) ≡ n
-  long = pieces-long (byte src from) 1 0 n (λ i p q. refl) ∙ omega arith
-
-  pub copy_start : Copying src from n at old old 0
-  copy_start = record { within = omega arith; put = rw (add-zero at) (pieces-start (byte src from) n at old) }
-
-  pub copy_more : (new : List ℕ) (i : ℕ) → Copying src from n at old new i → i < n → Copying src from n at old (set new (at + i) (get_or src (from + i) 0)) (i + 1)
-  copy_more new i c h =
-      let e : at + i + 1 ≡ at + (i + 1) = omega arith in
-      record {
-        within = omega arith;
-        put = rw e at (pieces-over (byte src from) n at old (omega (arith, long)) new (at + i) i c.put h (set new (at + i) (get_or src (from + i) 0)) 1 refl (set-over new (at + i) (get_or src (from + i) 0) (omega (arith, c.put.long))));
-      }
-
-  pub copy_done : (new : List ℕ) (i : ℕ) → Copying src from n at old new i → n ≤ i → Put at (seg from n src) old new (at + i)
-  copy_done new i c h =
-      let e : from + 0 ≡ from = omega arith in
-      rw (bytes-seg src from n 0 (omega arith), e) at (pieces-done (byte src from) n at old new (at + i) i c.put h)
+-- a part of src in the place of a part of out, as the code leaves it
+pub copy_put : (out src : List ℕ) (at from n k j : ℕ) → from + n ≤ length src → k ≡ n → j ≡ n → Put at (seg from n src) out (put_mid at k out (take j (drop from src))) (at + n)
+unfolding seg
+copy_put out src at from n k j h p q = let e = length-seg from n src h in rw (p, q) (record { end = rw e; is = rw (e, drop-drop n at out) })
 
 -- ---- a piece for each number that passes a test
 
@@ -124,9 +95,6 @@ module _ (f : ℕ → List ℕ) (p : ℕ → Bool) (n : ℕ) where
   left-none r h = let m : n - r ≡ 0 = omega arith in rw m
 
   module _ (at : ℕ) (old : List ℕ) where
-    pub some-start : Putting at some old old at (left 0)
-    some-start = let e : n - 0 ≡ n = omega arith in rw e (put-start at some old)
-
     module _ (room : at + length some ≤ length old) (new : List ℕ) (a r : ℕ) (q : Putting at some old new a (left r)) (h : r < n) where
       pub some-room : p r ≡ true → a + length (f r) ≤ length new
       some-room t =

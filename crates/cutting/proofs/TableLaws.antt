@@ -32,9 +32,6 @@ module _ (s : List ℕ) (from n : ℕ) (w : List ℕ) (m at : ℕ) (old : List �
     pub spot : p ≡ at + 2 * j
     pub put : Putting at (pieces column n) old new p (rest column n j)
 
-  pub names-start : ColumnsAt old at 0
-  names-start = record { within = omega arith; spot = omega arith; put = pieces-start column n at old }
-
   pub names_more : at + 2 * n ≤ length old → (new next : List ℕ) (p j r : ℕ) → ColumnsAt new p j → j < n → r ≡ be 2 s (from + 2 * j)
       → next ≡ over new p 2 (bytes_of 2 (get_or w (m + r) 0 - 1)) → ColumnsAt next (p + 2) (j + 1)
   names_more room new next p j r c h e o = record {
@@ -46,10 +43,6 @@ module _ (s : List ℕ) (from n : ℕ) (w : List ℕ) (m at : ℕ) (old : List �
   pub names-done : (new : List ℕ) (p j : ℕ) → ColumnsAt new p j → n ≤ j → Put at (columns_put s from n w m) old new p
   unfolding columns_put
   names-done new p j c h = pieces-done column n at old new p j c.put h
-
--- a column's region has a number
-pub names-pos : (s : List ℕ) (from n : ℕ) (w : List ℕ) (m : ℕ) → NamesFit s from n w m → (j r : ℕ) → j < n → r ≡ be 2 s (from + 2 * j) → (m + r < length w) × (0 < get_or w (m + r) 0)
-names-pos s from n w m f j r h e = rw e (f.in-work j h, f.numbered j h)
 
 pub columns-long : (s : List ℕ) (from n : ℕ) (w : List ℕ) (m : ℕ) → length (columns_put s from n w m) ≡ 2 * n
 unfolding columns_put

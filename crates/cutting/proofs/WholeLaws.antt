@@ -27,7 +27,7 @@ use Rattle.reader.proofs.StoreLaws.{header-fits}
 use Rattle.rows.specs.Lent.{Put}
 use Rattle.rows.proofs.PutLaws.{Putting, put-start, put-more, put_last, put-join, put-long}
 use Rattle.cutting.specs.LentCut.{StoreFit, cut_bytes, cut_size, marked, header_put, spots_put, regions_put, list_put, tables_put, store_put}
-use Rattle.cutting.proofs.PieceLaws.{pieces, rest, pieces-start, pieces-over, pieces_more, pieces_room, pieces-done, pieces-long, some, left, some-start, some-room, some_in, some_out, some-done}
+use Rattle.cutting.proofs.PieceLaws.{pieces, rest, pieces-start, pieces-over, pieces_more, pieces_room, pieces-done, pieces-long, some, left, some-room, some_in, some_out, some-done}
 use Rattle.cutting.proofs.TableLaws.{cut-long}
 
 -- ---- header
@@ -102,9 +102,6 @@ regions-inside from long regions end r b h = omega (arith, row_fits long regions
 module _ (s : List ℕ) (from long : ℕ) (w : List ℕ) (m regions at : ℕ) (old : List ℕ) where
   abbrev c : ℕ → List ℕ
   c = coords s from long
-
-  pub regions-start : RegionsAt s from long w m regions at old old at 0
-  regions-start = record { put = some-start c (marked m w) regions at old }
 
   module _ (room : at + length (regions_put s from long w m regions) ≤ length old) (new : List ℕ) (p r : ℕ) (h : RegionsAt s from long w m regions at old new p r) (l : r < regions) where
     room' : at + length (some c (marked m w) regions) ≤ length old
@@ -209,9 +206,6 @@ pub record TablesAt (s : List ℕ) (n : ℕ) (w : List ℕ) (t at : ℕ) (old ne
   pub put : Putting at (pieces (cut_bytes s n w) t) old new p (rest (cut_bytes s n w) t g)
 
 module _ (s : List ℕ) (n : ℕ) (w : List ℕ) (t at : ℕ) (old : List ℕ) where
-  pub bodies-start : TablesAt s n w t at old old at 0
-  bodies-start = record { put = pieces-start (cut_bytes s n w) t at old }
-
   module _ (room : at + length (tables_put s n w t) ≤ length old) (new : List ℕ) (p g : ℕ) (h : TablesAt s n w t at old new p g) (l : g < t) where
     room₁ : at + length (pieces (cut_bytes s n w) t) ≤ length old
     unfolding tables_put

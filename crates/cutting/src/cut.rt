@@ -27,6 +27,7 @@ fn table_at(store: &[u8], work: &[u32], n: usize, g: usize) -> usize
     be(store, 8 + 4 * o, 4)
 }
 
+// Store, work and n stay three parameters: of a slice in a struct's field a proof no longer knows that its bytes are below 256, as it must here.
 pub fn cut_of(store: &[u8], work: &[u32], n: usize, g: usize) -> Cut
     requires { TableFit store.now n work.now g }
     ensures { CutIs store.now n work.now g result.at result.word result.columns result.from result.rows }
@@ -59,11 +60,9 @@ pub fn tables_size(store: &[u8], work: &[u32], n: usize, t: usize) -> usize
     ensures { (result ≡ sum (cut_size store.now n work.now) t) × (result < 2251799813685248) }
 {
     let mut size: usize = 0;
-    let mut g: usize = 0;
-    while g < t {
+    for g in 0..t {
         let c = cut_of(store, work, n, g);
         size += size_of(c.word, c.columns, c.rows);
-        g += 1;
     }
     size
 }

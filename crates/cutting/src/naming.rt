@@ -14,11 +14,9 @@ fn mark_columns(store: &[u8], from: usize, n: usize, work: &mut [u32], marks: us
     requires by_index { (j : ℕ) → j < n → marks + be 2 store.now (from + 2 * j) < length work.old }
     ensures { ColumnsMarked store.now from n marks work.old work.new }
 {
-    let mut j: usize = 0;
-    while j < n {
+    for j in 0..n {
         let r = be(store, from + 2 * j, 2);
         work[marks + r] = 1;
-        j += 1;
     }
 }
 
@@ -28,11 +26,9 @@ pub fn mark_tables(store: &[u8], work: &mut [u32], n: usize, t: usize)
     requires by_index { (r : ℕ) → r < region_count store.now → get_or work.old (3 * n + 1 + r) 0 ≡ 0 }
     ensures { TablesMarked store.now n t work.old work.new }
 {
-    let mut g: usize = 0;
-    while g < t {
+    for g in 0..t {
         let c = cut_of(store, work, n, g);
         mark_columns(store, c.at + 6, c.columns, work, 3 * n + 1);
-        g += 1;
     }
 }
 
@@ -41,16 +37,12 @@ pub fn number(work: &mut [u32], marks: usize, regions: usize) -> usize
     requires { (regions < 65536) × (marks + regions ≤ length work.old) }
     ensures { NumberedAt marks regions work.old work.new result }
 {
-    let mut k: usize = 0;
-    let mut r: usize = 0;
-    while r < regions {
-        if work[marks + r] != 0 {
+    let mut k: u32 = 0;
+    for mark in work[marks..marks + regions].iter_mut() {
+        if *mark != 0 {
             k += 1;
-            work[marks + r] = k as u32;
-            r += 1;
-        } else {
-            r += 1;
+            *mark = k;
         }
     }
-    k
+    k as usize
 }

@@ -15,12 +15,8 @@ pub fn copy(out: &mut [u8], at: usize, src: &[u8], from: usize, n: usize) -> usi
     requires { (at + n ≤ length out.old) × (from + n ≤ length src.now) }
     ensures { Put at (seg from n src.now) out.old out.new result }
 {
-    let mut i: usize = 0;
-    while i < n {
-        out[at + i] = src[from + i];
-        i += 1;
-    }
-    at + i
+    out[at..at + n].copy_from_slice(&src[from..from + n]);
+    at + n
 }
 
 fn write_head(out: &mut [u8], at: usize, rows: usize, word: usize, columns: usize) -> usize
@@ -48,12 +44,10 @@ fn write_columns(
     ensures { Put at (columns_put store.now from n work.now marks) out.old out.new result }
 {
     let mut p = at;
-    let mut j: usize = 0;
-    while j < n {
+    for j in 0..n {
         let r = be(store, from + 2 * j, 2);
         put(out, p, 2, work[marks + r] - 1);
         p += 2;
-        j += 1;
     }
     p
 }
@@ -74,11 +68,9 @@ fn write_rows(
     ensures { Put at (rows_put store.now first long work.now from count) out.old out.new result }
 {
     let mut p = at;
-    let mut i: usize = 0;
-    while i < count {
+    for i in 0..count {
         let row = wide(work[from + i]) % 65536;
         p = copy(out, p, store, first + row * long, long);
-        i += 1;
     }
     p
 }

@@ -36,13 +36,11 @@ fn write_spots(
 {
     let mut p = at;
     let mut next = first;
-    let mut g: usize = 0;
-    while g < t {
+    for g in 0..t {
         let c = cut_of(store, work, n, g);
         put(out, p, 4, next as u32);
         p += 4;
         next += size_of(c.word, c.columns, c.rows);
-        g += 1;
     }
     p
 }
@@ -63,13 +61,9 @@ fn write_regions(
     ensures { Put at (regions_put store.now from long work.now marks regions) out.old out.new result }
 {
     let mut p = at;
-    let mut r: usize = 0;
-    while r < regions {
+    for r in 0..regions {
         if work[marks + r] != 0 {
             p = copy(out, p, store, from + r * long, long);
-            r += 1;
-        } else {
-            r += 1;
         }
     }
     p
@@ -103,10 +97,8 @@ fn write_tables(out: &mut [u8], at: usize, store: &[u8], work: &[u32], n: usize,
     ensures { Put at (tables_put store.now n work.now t) out.old out.new result }
 {
     let mut p = at;
-    let mut g: usize = 0;
-    while g < t {
+    for g in 0..t {
         p = write_table(out, p, store, work, n, g);
-        g += 1;
     }
     p
 }

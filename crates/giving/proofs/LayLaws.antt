@@ -1,6 +1,5 @@
 -- Entries laid out by listed region, and looked at again: the two loops over them. Assumes nothing.
 use mathlib.Core.Path.{◌≡◌, refl, sym, ap, ◌∙◌}
-use mathlib.Core.Bool.{true, false}
 use mathlib.Core.List.{List, [], ◌∷◌}
 use mathlib.Core.Logic.{◌⊎◌, inl, inr, ⊎_elim}
 use Prim.Native.Nat.{ℕ, zero, suc, ◌+◌, ◌-◌, ◌*◌, ◌≤◌, ◌<◌}
@@ -8,16 +7,15 @@ use native.Mathlib.Omega.{arith}
 use lib.ListN.{length, get_or, set}
 use lib.Seq.{get_or-set_same, get_or-set_other}
 use borrow.Author.Tests.{eq-eqb, ne_eqb}
-use borrow.Author.Count.{below_more}
 use Rattle.laws.specs.LentRange.{Only}
 use Rattle.laws.specs.Signed.{zero_word}
-use Rattle.laws.proofs.Cases.{same_or_not, true-false}
+use Rattle.laws.proofs.Cases.{same_or_not}
 use Rattle.laws.proofs.RangeLaws.{only-refl, only-trans, only_set}
 use Rattle.sets.specs.Set.{Set}
 use Rattle.sets.specs.Lent.{entries}
 use Rattle.sets.proofs.SetLaws.{entries-cons, entries_none}
 use Rattle.giving.specs.declared.entries.Aims.{Aims}
-use Rattle.giving.specs.Lent.{aim_at, aim, Clean, EntriesFit, Lost, Laid, Met}
+use Rattle.giving.specs.Lent.{aim_at, aim, Clean, EntriesFit}
 
 -- as two reads find it
 pub aim-of : (w : List ℕ) (t : Aims) (x k q : ℕ) → k ≡ get_or w x 0 → q ≡ get_or w (t.to + k) 0 → q ≡ aim_at w t x
@@ -110,9 +108,6 @@ module _ (start count : ℕ) (t : Aims) (old : List ℕ) (f : EntriesFit old sta
       q-old : q ≡ aim_at old t (start + 2 * (i - 1))
       q-old = q-is ∙ same-aim ∙ ap (aim_at old t) x-is
 
-      pub laying-lost : t.listed ≤ q → Lost old start count t
-      laying-lost l = record { entry = i - 1; within = omega (arith, g.within); past = omega (arith, q-old) }
-
       module _ (l : q < t.listed) where
         pub value_room : t.values + q < length new
         value_room = omega (arith, f.room, g.only.long)
@@ -153,26 +148,6 @@ module _ (start count : ℕ) (t : Aims) (old : List ℕ) (f : EntriesFit old sta
               (same_or_not j (i - 1));
         }
 
-  pub laying-done : (new : List ℕ) (i : ℕ) → Laying start count t old new i → (0 < i → ⊥) → Laid start count t old new true
-  laying-done new i g h =
-      let z : i ≡ 0 = omega arith in
-      let a : start + 2 * i ≡ start = omega arith in
-      let b : count - i ≡ count = omega arith in
-      record {
-        only = g.only;
-        is = λ e q m. rw (a, b) at (g.is q m);
-        listed-all = λ e j m. g.past j (omega arith) m;
-        lost = λ e. absurd (true-false refl e);
-      }
-
-  pub laid-lost : (new : List ℕ) (i : ℕ) → Laying start count t old new i → Lost old start count t → Laid start count t old new false
-  laid-lost new i g l = record {
-    only = g.only;
-    is = λ e. absurd (true-false e refl);
-    listed-all = λ e. absurd (true-false e refl);
-    lost = λ e. l;
-  }
-
 -- the entries are where they were, and aim as they did
 module _ (start count : ℕ) (t : Aims) (old new : List ℕ) (f : EntriesFit old start count t) (o : Only ((t.values, t.listed) ∷ []) old new) where
   entry_kept : (i : ℕ) → i < count → get_or new (start + 2 * i) 0 ≡ get_or old (start + 2 * i) 0
@@ -196,23 +171,3 @@ module _ (start count : ℕ) (t : Aims) (old new : List ℕ) (f : EntriesFit old
 pub record Meeting (w : List ℕ) (start count : ℕ) (t : Aims) (i : ℕ) : Type 0 where
   pub within : i ≤ count
   pub met : (j : ℕ) → j < i → get_or w (t.values + aim_at w t (start + 2 * j)) 0 ≡ zero_word
-
-module _ (w : List ℕ) (start count : ℕ) (t : Aims) where
-  pub meeting-start : Meeting w start count t 0
-  meeting-start = record { within = omega arith; met = λ j h. absurd (omega arith) }
-
-  module _ (i : ℕ) (g : Meeting w start count t i) (h : i < count) (q : ℕ) (e : q ≡ aim_at w t (start + 2 * i)) where
-    pub meeting-more : get_or w (t.values + q) 0 ≡ zero_word → Meeting w start count t (i + 1)
-    meeting-more z = record {
-      within = omega arith;
-      met = below_more _ _ g.met (ap (λ (k : ℕ). get_or w (t.values + k) 0) (sym e) ∙ z);
-    }
-
-    pub meeting-bad : (get_or w (t.values + q) 0 ≡ zero_word → ⊥) → Met w start count t false
-    meeting-bad d = record {
-      met = λ z. absurd (true-false z refl);
-      unmet = λ z. record { entry = i; within = h; differs = λ m. d (ap (λ (k : ℕ). get_or w (t.values + k) 0) e ∙ m) };
-    }
-
-  pub meeting-done : (i : ℕ) → Meeting w start count t i → count ≤ i → Met w start count t true
-  meeting-done i g h = record { met = λ z j m. g.met j (omega arith); unmet = λ z. absurd (true-false refl z) }

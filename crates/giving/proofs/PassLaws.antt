@@ -1,9 +1,9 @@
 -- The cells of a row that are not zero, each compared with the word of its column's region: the loop over them, and one cell. Assumes nothing.
 use mathlib.Core.Path.{◌≡◌, refl, sym, ap, ◌∙◌}
-use mathlib.Core.Bool.{true, false}
+use mathlib.Core.Bool.{false}
 use mathlib.Core.List.{List, [], ◌∷◌}
 use mathlib.Core.Logic.{⊎_elim}
-use Prim.Native.Nat.{ℕ, suc, ◌+◌, ◌-◌, ◌*◌, ◌^◌, ◌≤◌, ◌<◌}
+use Prim.Native.Nat.{ℕ, zero, suc, ◌+◌, ◌-◌, ◌*◌, ◌%◌, ◌^◌, ◌≤◌, ◌<◌}
 use native.Mathlib.Omega.{arith}
 use lib.IntN.{pos, negsuc}
 use lib.ListN.{length, get_or, set}
@@ -14,7 +14,7 @@ use Rattle.laws.specs.Bytes.{be}
 use Rattle.laws.specs.LentRange.{Only}
 use Rattle.laws.specs.Signed.{signed, value, word, zero_word}
 use Rattle.laws.proofs.Cases.{lt-or-ge, true-false}
-use Rattle.laws.proofs.RangeLaws.{only-refl, only-trans, only_set}
+use Rattle.laws.proofs.RangeLaws.{only-trans, only_set}
 use Rattle.laws.proofs.SignedLaws.{value-below, value-above, word_value}
 use Rattle.reader.specs.Store.{words, column_start, column_width}
 use Rattle.reader.proofs.StoreLaws.{words-length, words-at, ok-below, ok-once}
@@ -22,6 +22,15 @@ use Rattle.reader.proofs.ColumnLaws.{at-fits}
 use Rattle.cells.specs.Lent.{Ahead, CellsFit, NextCell}
 use Rattle.giving.specs.declared.entries.Aims.{Aims}
 use Rattle.giving.specs.Lent.{column_of, cell_at, ColumnsFit, Nonzero, Passed}
+
+-- as many numbers as k bytes have, by a shift
+pub span-is : (k : ℕ) → k ≤ 4 → (1 * 2 ^ (8 * k)) % 2 ^ 64 ≡ 256 ^ k
+span-is zero h = refl
+span-is (suc zero) h = refl
+span-is (suc (suc zero)) h = refl
+span-is (suc (suc (suc zero))) h = refl
+span-is (suc (suc (suc (suc zero)))) h = refl
+span-is (suc (suc (suc (suc (suc k))))) h = absurd (omega arith)
 
 -- ---- one cell
 
@@ -63,15 +72,6 @@ pub record Passing (s : List ℕ) (at row word n : ℕ) (t : Aims) (old new : Li
       → get_or new (t.values + q) 0 ≡ get_or old (t.values + q) 0
 
 module _ (s : List ℕ) (at row word n : ℕ) (t : Aims) (old : List ℕ) (f : ColumnsFit s at row word n old t) where
-  pub passing-start : Passing s at row word n t old old 0
-  passing-start = record {
-    within = omega arith;
-    only = only-refl ((t.values, t.listed) ∷ []) old;
-    same = λ i h. absurd (omega arith);
-    crossed = λ i h. absurd (omega arith);
-    rest = λ q h d. refl;
-  }
-
   pub cell-in : (j : ℕ) → j < n → row + column_start word j + column_width word j ≤ length s
   cell-in j h = omega (arith, at-fits word j n h, f.cells_in)
 
@@ -82,15 +82,6 @@ module _ (s : List ℕ) (at row word n : ℕ) (t : Aims) (old : List ℕ) (f : C
   column-once i j l h e =
       ok-once t.listed (words s at n) f.named i j l (omega (arith, words-length s at n))
       (words-at s at n j h ∙ sym e ∙ sym (words-at s at n i (omega arith)))
-
-  pub passing-done : (new : List ℕ) (j : ℕ) → Passing s at row word n t old new j → n ≤ j → Passed s at row word n t old new true
-  passing-done new j g h = record {
-    only = g.only;
-    same = λ z i l. g.same i (omega arith);
-    crossed = λ z i l. g.crossed i (omega arith);
-    rest = λ z q m d. g.rest q m (λ i l. d i (omega (arith, g.within)));
-    other = λ z. absurd (true-false refl z);
-  }
 
   module _ (new : List ℕ) (j : ℕ) (g : Passing s at row word n t old new j) where
     pub cells_fit : CellsFit s new t.zeros row word n j
@@ -112,9 +103,6 @@ module _ (s : List ℕ) (at row word n : ℕ) (t : Aims) (old : List ℕ) (f : C
         crossed = λ k l d. ⊎_elim (λ (m : k < j). g.crossed k m d) (λ (m : j ≤ k). absurd (d (c.zeros k m l))) (lt-or-ge k j);
         rest = λ q m d. g.rest q m (λ k l. d k (omega (arith, c.behind)));
       }
-
-      pub passing-end : n ≤ i → Passed s at row word n t old new true
-      passing-end h = passing-done new i skipped h
 
       module _ (h : i < n) (q : ℕ) (q-is : q ≡ column_of s at i) where
         pub column-room : t.values + q < length new

@@ -13,7 +13,7 @@ use Rattle.laws.specs.Signed.{signed, value, zero_word}
 use Rattle.laws.proofs.BytesLaws.{pow-top}
 use Rattle.laws.proofs.Cases.{Tri, tri, lt-or-ge, same_or_not, true-false}
 use Rattle.laws.proofs.Cases.Tri.{below, same, above}
-use Rattle.laws.proofs.Products.{product, row_fits}
+use Rattle.laws.proofs.Products.{row_fits}
 use Rattle.laws.proofs.RangeLaws.{only-trans}
 use Rattle.sets.specs.Lent.{entries}
 use Rattle.reader.specs.declared.column.Column.{Column}
@@ -24,8 +24,8 @@ use Rattle.stores.proofs.PartLaws.{be-two}
 use Rattle.stores.proofs.WholeLaws.{subtable-named}
 use Rattle.cells.specs.Lent.{cell_of}
 use Rattle.giving.specs.declared.entries.Aims.{Aims}
-use Rattle.giving.specs.Lent.{aim_at, aim, EntriesFit, Laid, Met, column_of, cell_at, ColumnsFit, Nonzero, Passed, row_value, Given, RowFit, RowJudged}
-use Rattle.giving.proofs.LayLaws.{Aiming, aim-cases, aim_kept, fits_kept}
+use Rattle.giving.specs.Lent.{aim_at, aim, Laid, Met, column_of, cell_at, ColumnsFit, Nonzero, Passed, row_value, Given, RowFit, RowJudged}
+use Rattle.giving.proofs.LayLaws.{Aiming, aim-cases, aim_kept}
 use Rattle.giving.proofs.PassLaws.{ahead-kept, value-once, column-low, column-once}
 
 -- the value of zero's word, and no other word has it
@@ -116,9 +116,6 @@ pub row_is : (s : List ℕ) (at inner w m k : ℕ) → w ≡ word_at s at → m 
     → at + 6 + 2 * m + inner * k ≡ at + 6 + 2 * column_count s at + inner * column_start (word_at s at) (column_count s at)
 row_is s at inner w m k e f g = rw (g, e, f) refl
 
-pub row_low : (inner k : ℕ) → inner < 65536 → k < 262144 → inner * k ≤ 17179869184
-row_low inner k h l = product 65536 262144 (omega arith) (omega arith)
-
 pub laid-true : {start count : ℕ} {t : Aims} {old new : List ℕ} {ok : Bool} → Laid start count t old new ok → not ok ≡ false → Laid start count t old new true
 laid-true {start} {count} {t} {old} {new} {ok} l h = subst (λ (b : Bool). Laid start count t old new b) (not-false ok h) l
 
@@ -128,14 +125,6 @@ passed-true {s} {at} {row} {word} {n} {t} {old} {new} {ok} l h = subst (λ (b : 
 
 module _ (s : List ℕ) (at inner start count : ℕ) (t : Aims) (old : List ℕ) (f : RowFit s at inner old start count t) where
   module _ (laid : List ℕ) where
-    pub not-laid : {ok : Bool} → Laid start count t old laid ok → not ok ≡ true → RowJudged s at inner start count t old laid false
-    not-laid {ok} l h = record {
-      only = l.only;
-      given = λ z. absurd (true-false z refl);
-      clean = λ z. absurd (true-false z refl);
-      not-given = λ z g. let x = l.lost (not-true ok h) in omega (arith, x.past, g.listed-all x.entry x.within);
-    }
-
     module _ (l : Laid start count t old laid true) (bytes : (k : ℕ) → get_or s k 0 < 256)
         (w m r : ℕ) (w-is : w ≡ word_at s at) (m-is : m ≡ column_count s at) (r-is : r ≡ at + 6 + 2 * column_count s at + inner * column_start (word_at s at) (column_count s at)) where
       sub : SubtableFits s at
@@ -208,14 +197,8 @@ module _ (s : List ℕ) (at inner start count : ℕ) (t : Aims) (old : List ℕ)
           all-only : Only ((t.values, t.listed) ∷ []) old passed
           all-only = only-trans l.only p.only
 
-          pub met-fits : EntriesFit passed start count t
-          met-fits = fits_kept start count t old passed f.fits all-only
-
           aims_same : (i : ℕ) → i < count → aim_at passed t (start + 2 * i) ≡ aim_at old t (start + 2 * i)
           aims_same = aim_kept start count t old passed f.fits all-only
-
-          pub met-listed : (i : ℕ) → i < count → aim_at passed t (start + 2 * i) < t.listed
-          met-listed i h = rw (aims_same i h) (l.listed-all refl i h)
 
           abbrev aimed : ℕ → ℕ
           aimed q = aim old t (entries start count old) q

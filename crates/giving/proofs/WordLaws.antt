@@ -19,7 +19,7 @@ use Rattle.stores.specs.Stores.{Parsed, table_count, offset_at, parse, parses}
 use Rattle.stores.proofs.WholeLaws.{Slot, Whole, parse-is}
 use Rattle.stores.proofs.WholeLaws.Slot.{null, good}
 use Rattle.giving.specs.declared.entries.Aims.{Aims}
-use Rattle.giving.specs.Lent.{aim_at, aim, Clean, Given, RowFit, RowJudged, outer_of, inner_of, start_in, count_in, SetGiven, SetsFit, SetJudged, FirstFailing}
+use Rattle.giving.specs.Lent.{aim_at, aim, Clean, Given, RowFit, outer_of, inner_of, start_in, count_in, SetGiven, SetsFit, SetJudged, FirstFailing}
 use Rattle.giving.proofs.LayLaws.{aim-here, aim-else, aim-none, kept-below, aim_kept, fits_kept}
 use Rattle.giving.proofs.PassLaws.{ahead-kept}
 
@@ -55,23 +55,8 @@ module _ (s words : List ℕ) (k : ℕ) (t : Aims) (old : List ℕ) where
     not-given = λ z. d;
   }
 
-  pub no_word : length words ≤ k → SetJudged s words k t old old false
-  no_word h = lacks (λ g. omega (arith, g.word-there))
-
   module _ (w : ℕ) (w-is : w ≡ get_or words k 0) where
-    pub no_outer : (n : ℕ) → n ≡ table_count s → n ≤ outer_of w → SetJudged s words k t old old false
-    no_outer n e h = lacks (λ g. let x : table_count s ≤ outer_of (get_or words k 0) = rw (← w-is, ← e) h in omega (arith, g.outer-there))
-
     module _ (at : ℕ) (at-is : at ≡ offset_at s (outer_of w)) where
-      at_here : at ≡ offset_at s (outer_of (get_or words k 0))
-      at_here = at-is ∙ ap (λ (x : ℕ). offset_at s (outer_of x)) w-is
-
-      pub no_table : at ≡ 0 → SetJudged s words k t old old false
-      no_table h = lacks (λ g. g.not_null (sym at_here ∙ h))
-
-      pub no_inner : (n : ℕ) → n ≡ item_count s at → n ≤ inner_of w → SetJudged s words k t old old false
-      no_inner n e h = lacks (λ g. let x : item_count s (offset_at s (outer_of (get_or words k 0))) ≤ inner_of (get_or words k 0) = rw (← w-is, ← at-is, ← e) h in omega (arith, g.inner-there))
-
       module _ (f : SetsFit s k old t) (word_in : k < length words) (n : ℕ) (n-is : n ≡ table_count s) (outer-in : outer_of w < n) (not_null : at ≡ 0 → ⊥) where
         pub table-good : is_subtable_ok s at t.listed ≡ true
         table-good =
@@ -93,22 +78,6 @@ module _ (s words : List ℕ) (k : ℕ) (t : Aims) (old : List ℕ) where
             inner-in = omega (arith, i-is);
             inner-low = omega arith;
             at_low = low;
-          }
-
-          pub set-judged : (new : List ℕ) (ok : Bool) → RowJudged s at (inner_of w) start count t old new ok → SetJudged s words k t old new ok
-          set-judged new ok r = record {
-            only = r.only;
-            given = λ z. record {
-              word-there = word_in;
-              outer-there = rw (← w-is, ← n-is) outer-in;
-              not_null = λ e. not_null (at_here ∙ e);
-              inner-there = rw (← w-is, ← at-is, ← i-is) inner-in;
-              given = rw (← w-is, ← at-is, ← start_is, ← count-is) (r.given z);
-            };
-            clean = r.clean;
-            not-given = λ z g.
-                r.not-given z
-                (rw (start_is, count-is) (rw (at-is, w-is) g.given));
           }
 
 -- ---- in another list of words that differs by values only
@@ -202,18 +171,7 @@ pub record Judging (s words : List ℕ) (sets : ℕ) (t : Aims) (old new : List 
   pub given : (j : ℕ) → j < k → SetGiven s words old t j
 
 module _ (s words : List ℕ) (sets : ℕ) (t : Aims) (old : List ℕ) (f : (k : ℕ) → k < sets → SetsFit s k old t) where
-  pub judging-start : Judging s words sets t old old 0
-  judging-start = record {
-    within = omega arith;
-    only = only-refl ((t.values, t.listed) ∷ []) old;
-    clean = λ h. (f 0 h).clean;
-    given = λ j h. absurd (omega arith);
-  }
-
   module _ (new : List ℕ) (k : ℕ) (g : Judging s words sets t old new k) (h : k < sets) where
-    pub judging-fits : SetsFit s k new t
-    judging-fits = sets-fit s words k t old new (f k h) g.only (g.clean h)
-
     module _ (after : List ℕ) (ok : Bool) (r : SetJudged s words k t new after ok) where
       pub judging-more : ok ≡ true → Judging s words sets t old after (k + 1)
       judging-more z = record {
@@ -230,11 +188,3 @@ module _ (s words : List ℕ) (sets : ℕ) (t : Aims) (old : List ℕ) (f : (k :
         before-it = g.given;
         fails = λ l x. r.not-given z (given-on s words k t old new (f k h) g.only x);
       }
-
-  pub judging-done : (new : List ℕ) (k : ℕ) → Judging s words sets t old new k → sets ≤ k → FirstFailing s words sets t old new sets
-  judging-done new k g h = record {
-    only = g.only;
-    within = omega arith;
-    before-it = λ j l. g.given j (omega arith);
-    fails = λ l. absurd (omega arith);
-  }

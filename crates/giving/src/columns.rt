@@ -8,27 +8,14 @@ use crate::entries::{Aims, ZERO};
 use cells::next_cell;
 use reader::{be, column_at, column_bytes};
 
-// How many numbers k bytes have.
-fn span(k: usize) -> usize
-    requires { k ≤ 4 }
-    ensures { result ≡ 256 ^ k }
-{
-    match k {
-        0 => 1,
-        1 => 256,
-        2 => 65536,
-        3 => 16777216,
-        _ => 4294967296,
-    }
-}
-
 // The word of the number that the k bytes from p are as two's complement.
 fn cell(store: &[u8], p: usize, k: usize) -> u32
     requires { (k ≤ 4) × (p + k ≤ length store.now) }
     ensures { value result ≡ signed k (be k store.now p) }
 {
     let x = be(store, p, k);
-    let m = span(k);
+    // As many numbers as k bytes have.
+    let m = 1usize << (8 * k);
     if 2 * x < m {
         return (0x8000_0000 + x) as u32;
     }
@@ -50,6 +37,7 @@ pub fn pass(
     ensures { Passed store.now at row word n t work.old work.new result }
 {
     let mut j = 0;
+    // No `for`: `next_cell` jumps over the cells that are zero.
     while j < n {
         let i = next_cell(store, work, t.zeros, row, word, n, j);
         if n <= i {

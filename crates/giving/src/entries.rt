@@ -23,15 +23,13 @@ pub fn lay(work: &mut [u32], start: usize, count: usize, t: Aims) -> bool
     requires clean { Clean work.old t }
     ensures { Laid start count t work.old work.new result }
 {
-    let mut i = count;
-    while 0 < i {
-        let x = start + 2 * (i - 1);
+    for i in (0..count).rev() {
+        let x = start + 2 * i;
         let q = wide(work[t.to + wide(work[x])]);
         if t.listed <= q {
             return false;
         }
         work[t.values + q] = work[x + 1];
-        i -= 1;
     }
     true
 }
@@ -42,13 +40,11 @@ pub fn all_met(work: &[u32], start: usize, count: usize, t: Aims) -> bool
     requires by_index { (i : ℕ) → i < count → aim_at work.now t (start + 2 * i) < t.listed }
     ensures { Met work.now start count t result }
 {
-    let mut i = 0;
-    while i < count {
+    for i in 0..count {
         let q = wide(work[t.to + wide(work[start + 2 * i])]);
         if work[t.values + q] != ZERO {
             return false;
         }
-        i += 1;
     }
     true
 }

@@ -63,12 +63,10 @@ pub fn first_failing(store: &[u8], words: &[u32], sets: usize, work: &mut [u32],
     requires { (k : ℕ) → k < sets → SetsFit store.now k work.old t }
     ensures { FirstFailing store.now words.now sets t work.old work.new result }
 {
-    let mut k = 0;
-    while k < sets {
+    for k in 0..sets {
         if !set_gives(store, words, k, work, t) {
             return k;
         }
-        k += 1;
     }
     sets
 }

@@ -6,7 +6,7 @@ use native.Mathlib.Omega.{arith}
 use lib.ListN.{length, length-append}
 use Rattle.rows.specs.Lent.{Put}
 use Rattle.rows.proofs.OverLaws.{over_none}
-use Rattle.rows.proofs.PutLaws.{Putting, put-more, put-done, put-long}
+use Rattle.rows.proofs.PutLaws.{Putting, put-more, put-done}
 
 module _ {at : ℕ} {all old new : List ℕ} {n : ℕ} {left : List ℕ} (x rest : List ℕ) (room : at + length all ≤ length old) (p : Putting at all old new n left) (e : left ≡ x ++ rest) where
   -- there is room for it
@@ -27,9 +27,6 @@ piece-last {at} {all} {old} {new} {next} {n} {r} {left} x room p e q =
 
 pub last-room : {at : ℕ} {all old new : List ℕ} {n : ℕ} {left x : List ℕ} → at + length all ≤ length old → Putting at all old new n left → left ≡ x → n + length x ≤ length new
 last-room {at} {all} {old} {new} {n} {left} {x} room p e = omega (arith, p.long, p.end, ap length e)
-
-pub done-long : {at : ℕ} {all old new : List ℕ} {r : ℕ} → at + length all ≤ length old → Put at all old new r → length new ≡ length old
-done-long {at} {all} {old} {new} {r} room p = put-long at all old new r p room
 
 pub from_zero : {n m : ℕ} → n ≤ m → 0 + n ≤ m
 from_zero h = omega arith

@@ -1,7 +1,7 @@
 -- Records as three numbers of four bytes. Assumes nothing.
 use mathlib.Core.Path.{◌≡◌, refl, ◌∙◌}
 use mathlib.Core.List.{List, [], ◌∷◌, ◌++◌}
-use Prim.Native.Nat.{ℕ, ◌+◌, ◌-◌, ◌*◌, ◌/◌, ◌%◌, ◌^◌, ◌≤◌, ◌<◌}
+use Prim.Native.Nat.{ℕ, zero, suc, ◌+◌, ◌-◌, ◌*◌, ◌/◌, ◌%◌, ◌^◌, ◌≤◌, ◌<◌}
 use native.Mathlib.Omega.{arith}
 use lib.ListN.{length, get_or, drop, length-append}
 use lib.Seq.{get_or-drop}
@@ -13,6 +13,15 @@ use Rattle.rows.specs.Lent.{Put}
 use Rattle.rows.proofs.PutLaws.{put-start, put-more, put_last}
 use Rattle.recovering.specs.Recovering.{low_byte, high_byte, axis_record, value_bytes, end_record}
 use Rattle.job_writing.specs.LentWrite.{three_words}
+
+-- as many numbers as k bytes have, by a shift
+pub span-is : (k : ℕ) → k ≤ 4 → (1 * 2 ^ (8 * k)) % 2 ^ 64 ≡ 256 ^ k
+span-is zero h = refl
+span-is (suc zero) h = refl
+span-is (suc (suc zero)) h = refl
+span-is (suc (suc (suc zero))) h = refl
+span-is (suc (suc (suc (suc zero)))) h = refl
+span-is (suc (suc (suc (suc (suc k))))) h = absurd (omega arith)
 
 pub three-long : (a b c : ℕ) → length (three_words a b c) ≡ 12
 three-long a b c =

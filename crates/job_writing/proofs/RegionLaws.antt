@@ -26,15 +26,6 @@ abbrev pub axes_left : List ℕ → (q from axes a : ℕ) → List ℕ
 axes_left s q from axes a = axes_from q a (axes - a) (drop (from + 6 * a) s)
 
 module _ (s : List ℕ) (q from axes : ℕ) where
-  pub axes-start : axes_left s q from axes 0 ≡ axes_from q 0 axes (drop from s)
-  axes-start =
-      let z : axes - 0 ≡ axes = omega arith in
-      let y : from + 6 * 0 ≡ from = omega arith in
-      rw (z, y)
-
-  pub axes-put : (at : ℕ) (old : List ℕ) → Putting at (axes_from q 0 axes (drop from s)) old old at (axes_left s q from axes 0)
-  axes-put at old = rw axes-start (put-start at (axes_from q 0 axes (drop from s)) old)
-
   pub axes-step : (a : ℕ) → a < axes → axes_left s q from axes a ≡ axis_record q a (drop (from + 6 * a) s) ++ axes_left s q from axes (a + 1)
   unfolding axes_from
   axes-step a h =

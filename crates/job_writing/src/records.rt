@@ -50,26 +50,13 @@ pub fn put_end(out: &mut [u8], at: usize)
     put_record(out, at, head(3, 0, 0), 0, 0);
 }
 
-// How many numbers k bytes have.
-fn span(k: usize) -> usize
-    requires { k ≤ 4 }
-    ensures { result ≡ 256 ^ k }
-{
-    match k {
-        0 => 1,
-        1 => 256,
-        2 => 65536,
-        3 => 16777216,
-        _ => 4294967296,
-    }
-}
-
 // A number of k bytes, as two's complement, in four.
 pub fn in_four(k: usize, x: usize) -> u32
     requires { (k ≤ 4) × (x < 256 ^ k) }
     ensures { result ≡ twos 4 (signed k x) }
 {
-    let m = span(k);
+    // As many numbers as k bytes have.
+    let m = 1usize << (8 * k);
     if 2 * x < m {
         return x as u32;
     }

@@ -15,11 +15,9 @@ fn write_axes(out: &mut [u8], at: usize, q: usize, s: &[u8], from: usize, axes: 
     ensures { Put at (axes_from q 0 axes (drop from s.now)) out.old out.new result }
 {
     let mut p = at;
-    let mut a: usize = 0;
-    while a < axes {
+    for a in 0..axes {
         put_axis(out, p, q, a, s, from + 6 * a);
         p += 12;
-        a += 1;
     }
     p
 }
@@ -34,11 +32,9 @@ pub fn write_regions(out: &mut [u8], s: &[u8]) -> usize
     let n = be(s, list + 2, 2);
     let mut p: usize = 0;
     let mut from = list + 4;
-    let mut q: usize = 0;
-    while q < n {
+    for q in 0..n {
         p = write_axes(out, p, q, s, from, axes);
         from += 6 * axes;
-        q += 1;
     }
     p
 }

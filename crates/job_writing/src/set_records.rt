@@ -31,6 +31,7 @@ fn write_set(out: &mut [u8], at: usize, s: &[u8], work: &[u32], table: usize, ro
     let n = be(s, table + 4, 2);
     let mut p = at;
     let mut j = next_cell(s, work, 0, row, word, n, 0);
+    // No `for`: `next_cell` jumps over the columns that are zero.
     while j < n {
         let q = be(s, table + 6 + 2 * j, 2);
         let x = cell(s, row, word, j);
@@ -54,11 +55,9 @@ fn write_table(out: &mut [u8], at: usize, s: &[u8], work: &[u32], table: usize) 
     let long = column_at(word, n);
     let mut row = table + 6 + 2 * n;
     let mut p = at;
-    let mut i: usize = 0;
-    while i < items {
+    for i in 0..items {
         p = write_set(out, p, s, work, table, row);
         row += long;
-        i += 1;
     }
     p
 }
@@ -82,10 +81,8 @@ pub fn write_sets(out: &mut [u8], at: usize, s: &[u8], work: &[u32]) -> usize
 {
     let n = be(s, 6, 2);
     let mut p = at;
-    let mut o: usize = 0;
-    while o < n {
+    for o in 0..n {
         p = write_slot(out, p, s, work, be(s, 8 + 4 * o, 4));
-        o += 1;
     }
     p
 }

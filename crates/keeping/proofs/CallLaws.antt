@@ -2,18 +2,15 @@
 use mathlib.Core.Path.{◌≡◌, refl, sym, ap, ◌∙◌}
 use mathlib.Core.Bool.{true, false}
 use mathlib.Core.List.{List}
-use mathlib.Core.Logic.{⊎_elim}
 use mathlib.Core.Option.{Option, none, some}
-use Prim.Native.Nat.{ℕ, ◌+◌, ◌≤◌, ◌<◌}
+use Prim.Native.Nat.{ℕ, ◌≤◌, ◌<◌}
 use native.Mathlib.Omega.{arith}
-use lib.ListN.{length, get_or, replicate, get_or-eq_default}
-use lib.Seq.{take_all}
+use lib.ListN.{length, get_or, replicate}
 use borrow.Author.Tests.{lt-ltb, le-ltb}
-use Rattle.laws.specs.LentRange.{Zeroed, seg}
-use Rattle.laws.proofs.Cases.{lt-or-ge, Which, which}
+use Rattle.laws.proofs.Cases.{Which, which}
 use Rattle.laws.proofs.Cases.Which.{holds, fails}
-use Rattle.laws.proofs.ZeroLaws.{zeroed-part}
 use Rattle.reader.specs.Store.{bad_store, no_row}
+use Rattle.reader.proofs.StoreLaws.{zeros-at}
 use Rattle.stores.specs.Stores.{Parsed, store_at, is_whole_ok, parse, parses}
 use Rattle.stores.proofs.WholeLaws.{whole_is, parse-done}
 use Rattle.keeping.specs.Keeping.{keeping_work, all_there, last_of, keep_in, keep_parsed, keep_of, out_left, places_left, work_left, work_short, places_short}
@@ -79,19 +76,12 @@ work-short s rows a b need o l w e h =
     let f = lt-ltb (length w) (keeping_work (length s) (length rows)) (omega arith) in
     (rw f, (refused-out (parse s) rows work_short o, (refused-places (parse s) rows work_short l, rw f)))
 
-pub zeros-all : {n : ℕ} {old new : List ℕ} → Zeroed 0 n old new → n ≡ length old → (k : ℕ) → get_or new k 0 ≡ 0
-zeros-all {n} {old} {new} z e k = ⊎_elim
-    (λ (h : k < n). let y : 0 + k ≡ k = omega arith in rw y at (z.is k h))
-    (λ (h : n ≤ k). get_or-eq_default new 0 {n = k} (omega (arith, z.only.long)))
-    (lt-or-ge k n)
-
-pub zeros-are : {n : ℕ} {old new : List ℕ} → Zeroed 0 n old new → n ≡ length old → new ≡ replicate n 0
-unfolding seg
-zeros-are {n} {old} {new} z e = sym (take_all n new (omega (arith, z.only.long))) ∙ zeroed-part z (omega arith)
+pub zeros-all : (n : ℕ) {new : List ℕ} → new ≡ replicate n 0 → (k : ℕ) → get_or new k 0 ≡ 0
+zeros-all n e k = rw e (zeros-at n k)
 
 pub keep-done : (s rows : List ℕ) (a b need : ℕ) (r : Kept) (o o' l l' w w₂ w₃ : List ℕ) → need ≡ keeping_work (length s) (length rows) → need ≤ length w
-    → Left (parse s) rows a b r o o' l l' → Zeroed 0 (length w) w₂ w₃ → length w₂ ≡ length w → Whole s rows (length w) a b r o o' l l' w w₃
+    → Left (parse s) rows a b r o o' l l' → w₃ ≡ replicate (length w₂) 0 → length w₂ ≡ length w → Whole s rows (length w) a b r o o' l l' w w₃
 unfolding keep_of work_left
 keep-done s rows a b need r o o' l l' w w₂ w₃ e h k z m =
     let f = le-ltb (length w) (keeping_work (length s) (length rows)) (omega arith) in
-    (rw f k.0, (k.1.0, (k.1.1, rw f (zeros-are z (sym m)))))
+    (rw f k.0, (k.1.0, (k.1.1, rw f (rw m at z))))

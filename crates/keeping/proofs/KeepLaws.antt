@@ -1,16 +1,16 @@
 -- The call: its tests, and what it leaves. Assumes nothing.
 use mathlib.Core.Path.{◌≡◌, refl, sym, ap, ap₂, ◌∙◌}
-use mathlib.Core.Bool.{Bool, true, false, ◌||◌, or-true}
-use mathlib.Core.List.{List, map}
+use mathlib.Core.Bool.{Bool, true, false, ◌&&◌, ◌||◌, or-true}
+use mathlib.Core.List.{List, [], ◌∷◌, map}
 use mathlib.Core.Logic.{⊎_elim}
 use mathlib.Core.Option.{Option, none, some}
-use Prim.Native.Nat.{ℕ, zero, suc, ◌+◌, ◌-◌, ◌*◌, ◌/◌, ◌%◌, ◌^◌, ◌≤◌, ◌<◌}
+use Prim.Native.Nat.{ℕ, zero, suc, ◌+◌, ◌-◌, ◌*◌, ◌/◌, ◌%◌, ◌^◌, ◌≤◌, ◌<◌, min}
+use Rattle.std.specs.List.{list_all}
 use native.Mathlib.Nat.{zero-add}
-use native.Mathlib.Numerals.{add-one}
 use native.Mathlib.Omega.{arith}
 use lib.Dec.{ltb}
 use lib.ListN.{length, get_or, drop, take, length-map, take-append-drop, length-drop}
-use lib.Seq.{drop-cons, drop-length, take_all}
+use lib.Seq.{take_all}
 use borrow.Author.Tests.{lt-ltb, le-ltb}
 use Rattle.laws.specs.Bag.{sum, weigh}
 use Rattle.laws.specs.Bounded.{up_to}
@@ -50,10 +50,6 @@ use Rattle.keeping.proofs.PlacedLaws.{store-named, tables-count, rows-count, reg
 
 -- ---- the published work
 
-pub words-much : (bytes rows : ℕ) → 9223372036854775807 < bytes → 0 ≡ keeping_work bytes rows
-unfolding keeping_work
-words-much bytes rows h = rw (le-ltb bytes (2 ^ 63) (omega arith))
-
 pub words-many : (bytes rows : ℕ) → bytes ≤ 9223372036854775807 → 2305843009213693951 < rows → 0 ≡ keeping_work bytes rows
 unfolding keeping_work
 words-many bytes rows h l = rw (lt-ltb bytes (2 ^ 63) (omega arith), le-ltb rows (2 ^ 61) (omega arith))
@@ -64,13 +60,16 @@ words-some bytes rows h l = rw (lt-ltb bytes (2 ^ 63) (omega arith), lt-ltb rows
 
 -- ---- room
 
-pub room-over : (long : ℕ) → most_bytes < long → (most_bytes ≡ room_of long) × (most_bytes ≤ long) × (most_bytes ≤ 4294967295)
+pub room-is : (long r : ℕ) → r ≡ min long most_bytes → (r ≡ room_of long) × (r ≤ long) × (r ≤ 4294967295)
 unfolding room_of
-room-over long h = (rw (lt-ltb most_bytes long h), omega arith, omega arith)
-
-pub room-all : (long : ℕ) → long ≤ most_bytes → (long ≡ room_of long) × (long ≤ long) × (long ≤ 4294967295)
-unfolding room_of
-room-all long h = (rw (le-ltb most_bytes long h), omega arith, omega arith)
+room-is long r e = (
+  ⊎_elim
+      (λ (h : most_bytes < long). rw (lt-ltb most_bytes long h) (omega arith))
+      (λ (h : long ≤ most_bytes). rw (le-ltb most_bytes long h) (omega arith))
+      (lt-or-ge most_bytes long),
+  omega arith,
+  omega arith,
+)
 
 room-cases : (long end : ℕ) → end ≡ room_of long → (P : Type 0) → (most_bytes < long → end ≡ most_bytes → P) → (long ≤ most_bytes → end ≡ long → P) → P
 unfolding room_of
@@ -91,21 +90,12 @@ not-long long end n e h = room-cases long end e (ltb long n || ltb most_bytes n 
     (λ l f. rw (le-ltb long n (omega arith), le-ltb most_bytes n (omega arith)))
     (λ l f. rw (le-ltb long n (omega arith), le-ltb most_bytes n (omega arith)))
 
--- ---- the entries one after the other
+-- ---- the entries
 
-pub all_more : (p : Parsed) (rows : List ℕ) (i : ℕ) → i < length rows → is_row_there p (get_or rows i 0 / 65536) (get_or rows i 0 % 65536) ≡ true
-    → all_there p (drop i rows) ≡ all_there p rows → all_there p (drop (i + 1) rows) ≡ all_there p rows
+pub all_there_is : (p : Parsed) (rows : List ℕ) → list_all (λ x. is_row_there p (x / 65536) (x % 65536)) rows ≡ all_there p rows
 unfolding all_there
-all_more p rows i h e a = (let b = rw (drop-cons rows i 0 h, e) at a in rw (add-one i) b)
-
-pub all-fail : (p : Parsed) (rows : List ℕ) (i : ℕ) → i < length rows → is_row_there p (get_or rows i 0 / 65536) (get_or rows i 0 % 65536) ≡ false
-    → all_there p (drop i rows) ≡ all_there p rows → false ≡ all_there p rows
-unfolding all_there
-all-fail p rows i h e a = rw (drop-cons rows i 0 h, e) at a
-
-pub all_end : (p : Parsed) (rows : List ℕ) (i : ℕ) → i ≡ length rows → all_there p (drop i rows) ≡ all_there p rows → true ≡ all_there p rows
-unfolding all_there
-all_end p rows i e a = rw (e, drop-length rows) at a
+all_there_is p [] = refl
+all_there_is p (x ∷ rows) = ap (λ b. is_row_there p (x / 65536) (x % 65536) && b) (all_there_is p rows)
 
 -- ---- words put over a front
 

@@ -54,9 +54,6 @@ module _ {s : List ℕ} {n t : ℕ} {w₀ : List ℕ} (f : StoreFit s n w₀ t) 
       abbrev nm : ℕ → Bool
       nm = named (tables_of s n w₀ t)
 
-      pub number-room : (regions < 65536) → (regions < 65536) × (3 * n + 1 + regions ≤ length w₂)
-      number-room l = (l, omega (arith, m.only.long, only₁.long, zero_room))
-
       marked-are : (r : ℕ) → r < region_count s → marked (3 * n + 1) w₂ r ≡ nm r
       marked-are r h = m.is r h ∙ ap (λ (ts : List (Option Table)). named ts r) tables₁
 

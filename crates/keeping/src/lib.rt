@@ -17,7 +17,6 @@ pub use crate::words::keep_words;
 use crate::words::room;
 use choosing::{choose, write_places};
 use cutting::{tables_size, write_store};
-use laws::zero_part;
 use reader::{ReadError, be};
 use stores::whole_ok;
 
@@ -105,9 +104,8 @@ pub fn keep(
     if work.len() < keep_words(store.len(), rows.len()) {
         return Kept::Refused(Kept::WORK_SHORT);
     }
-    let long = work.len();
-    zero_part(work, 0, long);
+    work.fill(0);
     let answer = keep_in(store, rows, work, out, places);
-    zero_part(work, 0, long);
+    work.fill(0);
     answer
 }

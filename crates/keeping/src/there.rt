@@ -27,12 +27,5 @@ pub fn rows_there(store: &[u8], rows: &[u32]) -> bool
     requires { is_whole_ok store.now ≡ true }
     ensures { result ≡ all_there (store_at store.now) rows.now }
 {
-    let mut i: usize = 0;
-    while i < rows.len() {
-        if !row_there(store, rows[i]) {
-            return false;
-        }
-        i += 1;
-    }
-    true
+    rows.iter().all(|row| row_there(store, *row))
 }

@@ -3,6 +3,7 @@ ghost use Rattle.std.specs.Prelude.{◌≡◌, ◌≤◌};
 ghost use Rattle.keeping.specs.Keeping.{keeping_work, room_of};
 
 // The published number, of a store's bytes and the entries of the list; 0 for more than any memory holds.
+#[tactic(auto, unfolding(crate::specs::Keeping::keeping_work))]
 pub fn keep_words(bytes: usize, rows: usize) -> usize
     ensures { result ≡ keeping_work bytes rows }
 {
@@ -18,11 +19,9 @@ pub fn keep_words(bytes: usize, rows: usize) -> usize
 // The most bytes of a store: offsets have four bytes.
 const LONGEST: usize = 4294967295;
 
+#[tactic(auto, unfolding(crate::specs::Keeping::room_of))]
 pub fn room(long: usize) -> usize
     ensures { (result ≡ room_of long) × (result ≤ long) × (result ≤ 4294967295) }
 {
-    if LONGEST < long {
-        return LONGEST;
-    }
-    long
+    long.min(LONGEST)
 }

@@ -135,9 +135,6 @@ module _ (store job : List ℕ) (t : Sides) (old : List ℕ) (f : SidesFit store
     pub siding-room : start + 6 * t.axes ≤ body_of t + total t * (6 * t.axes)
     siding-room = omega (arith, row_fits (6 * t.axes) (total t) x h, g.start_is)
 
-    pub siding-long : length new ≡ length old
-    siding-long = g.only.long
-
     module _ (mid : List ℕ) (m : RegionAt start (3 * t.axes) (side_at store job new t x) new mid) where
       index : ℕ
       index = t.index

@@ -32,12 +32,10 @@ fn write_listed(store: &[u8], p: usize, n: usize, work: &mut [u32], at: usize)
     requires { (p + 2 * n ≤ length store.now) × (at + 2 * n ≤ length work.old) × (n ≤ 65536) }
     ensures { RegionAt at n (words store.now p n) work.old work.new }
 {
-    let mut k = 0;
-    while k < n {
+    for k in 0..n {
         let v = be(store, p + 2 * k, 2);
         work[at + 2 * k] = k as u32;
         work[at + 2 * k + 1] = v as u32;
-        k += 1;
     }
 }
 
@@ -46,12 +44,10 @@ fn write_used(job: &[u8], p: usize, axes: usize, work: &mut [u32], at: usize)
     requires { (p + region_length axes ≤ length job.now) × (at + 2 * (3 * axes) ≤ length work.old) × (axes ≤ most_axes) }
     ensures { RegionAt at (3 * axes) (coordinates axes (drop p job.now)) work.old work.new }
 {
-    let mut k = 0;
-    while k < 3 * axes {
+    for k in 0..3 * axes {
         let v = coordinate(job, p, k);
         work[at + 2 * k] = k as u32;
         work[at + 2 * k + 1] = v;
-        k += 1;
     }
 }
 
@@ -75,13 +71,11 @@ fn write_sides(store: &[u8], job: &[u8], t: Sides, work: &mut [u32])
     ensures { Written store.now job.now t work.old work.new }
 {
     let all = t.listed + t.uses;
-    let mut x = 0;
     let mut start = t.index + 2 * all;
-    while x < all {
+    for x in 0..all {
         write_side(store, job, t, work, x, start);
         work[t.index + 2 * x] = start as u32;
         work[t.index + 2 * x + 1] = (3 * t.axes) as u32;
-        x += 1;
         start += 6 * t.axes;
     }
 }

@@ -20,10 +20,9 @@ use Rattle.rule.specs.Model.{Living, State, number, start, run, merged, total}
 use Rattle.rule.specs.Told.{Among, words}
 use Rattle.rule.proofs.Theorems.{pairs-count, number-length}
 use Rattle.slots.specs.declared.tables.MergeTables.{MergeTables}
-use Rattle.slots.specs.Lent.{Laid, Sound, Dealt, MeasuredAll, group_in, starting}
+use Rattle.slots.specs.Lent.{Laid, Sound, MeasuredAll, group_in, starting}
 use Rattle.pairs.specs.declared.Pair.{Pair}
-use Rattle.pairs.specs.LentQueue.{SameFrom}
-use Rattle.waits.specs.LentWaits.{room, place_of, group_of, alive, Opening, Opened}
+use Rattle.waits.specs.LentWaits.{place_of, group_of, alive, Opening, Opened}
 use Rattle.merging.specs.LentHeld.{Lives, Held, Standing, Ran}
 use Rattle.merging.specs.LentHeld.Reaches.{here}
 use Rattle.merging.specs.LentOptimized.{Ready, Optimized, GroupsPlaced, Onward, AllResolved}
@@ -72,12 +71,6 @@ module _ (t : MergeTables) (w w₁ : List ℕ) (h : Ready t w) (q : MeasuredAll 
 
   groups₁ : (s : ℕ) → s < t.groups → group_in t w₁ s ≡ group_in t w s
   groups₁ = frame-groups t w w₁ lies q.only (λ k a b. omega (arith, lies)) (λ k a b. omega (arith, lies))
-
-  pub dealt₁ : Dealt t w₁
-  dealt₁ = record {
-    within = λ i l. rw (order₁ i l) (h.dealt.within i l);
-    apart = λ i j l m e. h.dealt.apart i j l m (sym (order₁ i (omega arith)) ∙ e ∙ order₁ j m);
-  }
 
   starting₁ : starting t w₁ ≡ starting t w
   unfolding starting
@@ -235,9 +228,6 @@ module _ {t : MergeTables} {w w₁ w₂ : List ℕ} {ps ps₁ : List Pair} {z n 
 
     pub optimize-few : t.groups + j ≤ 2 * t.groups
     optimize-few = merges-few t (starting t w) j w₄ ended.many ended.held
-
-    pub optimize-rest : SameFrom ps (room t.groups) ps₂
-    optimize-rest i l = r.rest i l ∙ o.rest i l
 
     pub optimized : {w₅ : List ℕ} → AllResolved t (t.groups + j) w₄ w₅ → Optimized t j m' z z' w w₅
     unfolding run

@@ -1,14 +1,14 @@
 -- The turns of the run, and its end. Assumes nothing.
-use mathlib.Core.Path.{◌≡◌, refl, ap₂, subst, ◌∙◌}
+use mathlib.Core.Path.{◌≡◌, refl, ap₂, ◌∙◌}
 use mathlib.Core.Logic.{◌⊎◌, ⊎_elim}
-use mathlib.Core.List.{List, [], ◌∷◌, Memᴰ}
+use mathlib.Core.List.{List, Memᴰ}
 use Prim.Native.Nat.{ℕ, ◌+◌, ◌-◌, ◌*◌, ◌≤◌, ◌<◌}
 use native.Mathlib.Omega.{arith}
 use lib.ListN.{length}
 use Rattle.laws.specs.Bag.{sum}
 use Rattle.laws.specs.LentRange.{Only}
 use Rattle.laws.proofs.Cases.{same_or_not}
-use Rattle.laws.proofs.RangeLaws.{only-refl, only-trans}
+use Rattle.laws.proofs.RangeLaws.{only-refl}
 use Rattle.shapes.specs.Group.{Group, gain}
 use Rattle.rule.specs.Model.{Living, gain_of, start, run, merged}
 use Rattle.rule.proofs.Theorems.{weighed-few}
@@ -18,9 +18,9 @@ use Rattle.pairs.specs.LentQueue.{HeapOrdered, SameFrom, Popped, Numbered, KeptM
 use Rattle.slots.specs.declared.tables.MergeTables.{MergeTables}
 use Rattle.slots.specs.Lent.{Laid}
 use Rattle.waits.specs.LentWaits.{room, place_of, group_of, alive, Reached, Asked, OfferedAll}
-use Rattle.merging.specs.LentHeld.{written, Lives, Standing, Chosen, Joinable, JoinedAt, SomeStanding, Turned, Tidied, Ran}
+use Rattle.merging.specs.LentHeld.{written, Lives, Standing, Chosen, Joinable, JoinedAt, SomeStanding, Turned, Tidied}
 use Rattle.waits.proofs.WaitLaws.{room-is, waits_kept, waits-numbered}
-use Rattle.merging.proofs.HeldLaws.{merges-few, merges-less, chosen-taken, chosen-dead}
+use Rattle.merging.proofs.HeldLaws.{merges-few, chosen-taken, chosen-dead}
 use Rattle.merging.proofs.MergeLaws.{joinable, joined-asked, joined-room, joined-stands, joined-less, gain-fits}
 
 -- ---- a turn
@@ -96,9 +96,6 @@ module _ {t : MergeTables} {n m j z : ℕ} {w : List ℕ} {ps : List Pair} (s : 
 
 -- ---- dead pairs dropped
 
-pub tidied-none : {t : MergeTables} {n m j z : ℕ} {w : List ℕ} {ps : List Pair} → Tidied t n m j z n m j z w ps ps
-tidied-none = record { stands = λ xs s. s; fewer = omega arith; weighed-same = refl; rest = λ i _. refl }
-
 module _ {t : MergeTables} {n m j z : ℕ} {w : List ℕ} {ps : List Pair} (s : SomeStanding t n m j z w ps) where
   pub tidy-numbered : Numbered w t.place ps n
   tidy-numbered = waits-numbered (turn-laid s) (turn-merges s) s.standing.waits
@@ -127,32 +124,15 @@ pub record Running (t : MergeTables) (n₀ m₀ j₀ z₀ n m j z : ℕ) (w₀ w
   pub stands : (xs : List Group) → Standing t xs n₀ m₀ j₀ z₀ w₀ ps₀ → Standing t xs n m j z w ps
   pub rest : SameFrom ps₀ (room t.groups) ps
 
-pub running-start : {t : MergeTables} {n m j z : ℕ} {w : List ℕ} {ps : List Pair} → SomeStanding t n m j z w ps → Running t n m j z n m j z w w ps ps
-running-start {t} {w = w} s = record { only = only-refl (written t) w; some = s; stands = λ xs q. q; rest = λ i _. refl }
-
 module _ {t : MergeTables} {n₀ m₀ j₀ z₀ n m j z : ℕ} {w₀ w : List ℕ} {ps₀ ps : List Pair} (r : Running t n₀ m₀ j₀ z₀ n m j z w₀ w ps₀ ps) where
   module _ {n' m' j' z' : ℕ} {w' : List ℕ} {ps' : List Pair} (d : Turned t n m j z n' m' j' z' w w' ps ps') where
-    pub turned-some : SomeStanding t n' m' j' z' w' ps'
-    turned-some = record { groups = r.some.groups; standing = d.stands r.some.groups r.some.standing }
-
     module _ {n'' m'' j'' z'' : ℕ} {ps'' : List Pair} (u : Tidied t n' m' j' z' n'' m'' j'' z'' w' ps' ps'') where
-      pub running_more : Running t n₀ m₀ j₀ z₀ n'' m'' j'' z'' w₀ w' ps₀ ps''
-      running_more = record {
-        only = only-trans r.only d.only;
-        some = record { groups = r.some.groups; standing = u.stands r.some.groups (d.stands r.some.groups r.some.standing) };
-        stands = λ xs s. u.stands xs (d.stands xs (r.stands xs s));
-        rest = λ i l. u.rest i l ∙ d.rest i l ∙ r.rest i l;
-      }
-
       -- each turn there is less to come
       pub running-less : room t.groups - m'' + n'' < room t.groups - m + n
       running-less =
           let a = weighed-room t r.some.groups n m j z w ps r.some.standing in
           let b = weighed-room t r.some.groups n' m' j' z' w' ps' (d.stands r.some.groups r.some.standing) in
           omega (arith, d.less, u.fewer, u.weighed-same)
-
-  pub running-done : n ≤ 0 → Ran t n₀ m₀ j₀ z₀ n m j z w₀ w ps₀ ps
-  running-done l = record { only = r.only; stands = r.stands; done = omega arith; rest = r.rest }
 
 -- ---- its end: nothing waits, so no two living groups gain
 

@@ -29,10 +29,8 @@ pub fn place_groups(work: &mut [u32], t: MergeTables)
     let groups = t.groups;
     let place = t.place;
     let order = t.order;
-    let mut i = 0;
-    while i < groups {
+    for i in 0..groups {
         work[place + i] = work[order + i] + 1;
-        i += 1;
     }
 }
 
@@ -58,9 +56,7 @@ pub fn resolve_all(work: &mut [u32], t: MergeTables, k: usize)
     requires { Onward t k work.old }
     ensures { AllResolved t k work.old work.new }
 {
-    let mut c = k;
-    while 0 < c {
-        c -= 1;
+    for c in (0..k).rev() {
         resolve(work, t, c);
     }
 }

@@ -4,7 +4,6 @@ ghost use Rattle.waits.specs.LentWaits.{room};
 ghost use Rattle.merging.specs.LentHeld.{Joinable, JoinedAt, SomeStanding, Turned, Tidied, Ran};
 
 use crate::joining;
-use limits::Limits;
 use pairs::{Pair, keep_marked, marked, take};
 use slots::MergeTables;
 use waits::{Tally, offer_all};
@@ -27,22 +26,10 @@ pub fn join(work: &mut [u32], t: MergeTables, s: Progress, p: Pair) -> Progress
 {
     joining::join_pair(work, t, s.merges, p);
     Progress {
-        waiting: s.waiting,
-        weighed: s.weighed,
         merges: s.merges + 1,
         size: s.size - p.gain as u64,
-        taken: s.taken,
+        ..s
     }
-}
-
-// One more, up to as many as there are pair records.
-pub fn one_more(taken: usize) -> usize
-    ensures { result ≤ taken + 1 }
-{
-    if taken < Limits::PAIRS {
-        return taken + 1;
-    }
-    taken
 }
 
 // Takes the best pair. Where both of its groups live it is joined, and what they become is weighed with each living group; else it is passed over.
@@ -53,13 +40,11 @@ pub fn turn(pairs: &mut [Pair], work: &mut [u32], t: MergeTables, s: Progress) -
     ensures { Turned t s.waiting s.weighed s.merges s.size result.waiting result.weighed result.merges result.size work.old work.new pairs.old pairs.new }
 {
     let p = take(pairs, s.waiting);
-    let taken = one_more(s.taken);
+    let taken = s.taken.saturating_add(1);
     let left = Progress {
         waiting: s.waiting - 1,
-        weighed: s.weighed,
-        merges: s.merges,
-        size: s.size,
         taken,
+        ..s
     };
     if marked(work, t.place, p) {
         let joined = join(work, t, left, p);
@@ -71,9 +56,7 @@ pub fn turn(pairs: &mut [Pair], work: &mut [u32], t: MergeTables, s: Progress) -
         return Progress {
             waiting: after.waiting,
             weighed: after.weighed,
-            merges: joined.merges,
-            size: joined.size,
-            taken: joined.taken,
+            ..joined
         };
     }
     left
@@ -97,10 +80,8 @@ pub fn tidy(pairs: &mut [Pair], work: &[u32], t: MergeTables, s: Progress) -> Pr
         let waiting = keep_marked(pairs, work, t.place, s.waiting);
         return Progress {
             waiting,
-            weighed: s.weighed,
-            merges: s.merges,
-            size: s.size,
             taken: 0,
+            ..s
         };
     }
     s
@@ -113,6 +94,7 @@ pub fn join_all(pairs: &mut [Pair], work: &mut [u32], t: MergeTables, start: Pro
     ensures { Ran t start.waiting start.weighed start.merges start.size result.waiting result.weighed result.merges result.size work.old work.new pairs.old pairs.new }
 {
     let mut s = start;
+    // No `for`: how many turns there are shows only when nothing waits.
     while 0 < s.waiting {
         let turned = turn(pairs, work, t, s);
         s = tidy(pairs, work, t, turned);

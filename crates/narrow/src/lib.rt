@@ -21,13 +21,11 @@ fn some_wide(work: &[u32], t: Finals) -> bool
     requires by_index { (g : ℕ) → g < t.count → Handed t.regions t.index work.now (t.groups + 3 * g) }
     ensures { result ≡ is_some_wide (finals_at t.regions t.groups t.count work.now) }
 {
-    let mut g: usize = 0;
-    while g < t.count {
+    for g in 0..t.count {
         let form = form_of(work, t, t.groups + 3 * g);
         if COLUMNS < form.count {
             return true;
         }
-        g += 1;
     }
     false
 }

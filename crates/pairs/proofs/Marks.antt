@@ -6,11 +6,11 @@ use mathlib.Core.List.{List}
 use Prim.Native.Nat.{ℕ, ◌+◌, ◌≤◌, ◌<◌}
 use native.Mathlib.Omega.{arith}
 use lib.Dec.{T, ltb}
-use lib.ListN.{length, get_or}
+use lib.ListN.{get_or}
 use borrow.Author.Tests.{lt-ltb, le-ltb, ltb-true}
 use Rattle.laws.proofs.Cases.{same_or_not, and-true, true-false}
 use Rattle.pairs.specs.declared.Pair.{Pair}
-use Rattle.pairs.specs.LentQueue.{pair_at, HeapOrdered, Weight, weight_of, SameFrom, Pushed, both_marked, if_marked, Numbered, KeptMarked}
+use Rattle.pairs.specs.LentQueue.{pair_at, HeapOrdered, Weight, weight_of, SameFrom, Pushed, both_marked, if_marked}
 use Rattle.pairs.proofs.Bag.{total-zero, total-more}
 
 -- ---- the test
@@ -84,9 +84,6 @@ module _ {m : List ℕ} {place : ℕ} {w₀ w : List Pair} {n kept i : ℕ} (s :
     is_read : pair_at w₀ i ≡ p
     is_read = sym (s.rest i s.few) ∙ sym e
 
-    pub keeping-known : Numbered m place w₀ n → (place + p.first < length m) × (place + p.second < length m)
-    keeping-known f = rw is_read at (f i l)
-
     module _ {b : Bool} (q : b ≡ both_marked m place p) where
       pub keeping-drops : b ≡ false → Keeping m place w₀ w n kept (i + 1)
       keeping-drops f = record {
@@ -109,13 +106,3 @@ module _ {m : List ℕ} {place : ℕ} {w₀ w : List Pair} {n kept i : ℕ} (s :
             omega (arith, s.content φ, u.content φ, total-more w₀ i (if_marked m place φ));
         rest = λ k h. u.rest k h ∙ s.rest k (omega arith);
       })
-
-  pub keeping-done : n ≤ i → KeptMarked m place w₀ n kept w
-  keeping-done l =
-      let e : i ≡ n = omega (arith, s.within) in
-      record {
-        fewer = omega (arith, s.few);
-        ordered = s.ordered;
-        content = λ φ. s.content φ ∙ ap (λ (k : ℕ). weight_of w₀ k (if_marked m place φ)) e;
-        rest = s.rest;
-      }

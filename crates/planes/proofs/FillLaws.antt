@@ -4,7 +4,7 @@ use mathlib.Core.List.{List, [], ◌∷◌}
 use Prim.Native.Nat.{ℕ, zero, suc, ◌+◌, ◌*◌, ◌/◌, ◌≤◌, ◌<◌, max}
 use native.Mathlib.Omega.{arith}
 use lib.ListN.{length, get_or, set, replicate}
-use Rattle.laws.specs.LentRange.{Apart, Only, Zeroed, seg}
+use Rattle.laws.specs.LentRange.{Only, Zeroed, seg}
 use Rattle.laws.proofs.RangeLaws.{apart-sym, outside-at, only-refl, only-trans, only-seg, length-seg, get_or-seg}
 use Rattle.shapes.specs.Shape.{Shape}
 use Rattle.planes.specs.Plane.{IsCost, plane_length, plane_words}

@@ -1,7 +1,7 @@
 -- Two shapes in planes joined: measured, and in place. Assumes nothing.
 use mathlib.Core.Path.{◌≡◌, refl, sym, ap, ap₂, ◌∙◌}
 use mathlib.Core.List.{List, [], ◌∷◌}
-use Prim.Native.Nat.{ℕ, zero, suc, ◌+◌, ◌-◌, ◌*◌, ◌^◌, ◌≤◌, ◌<◌, max}
+use Prim.Native.Nat.{ℕ, ◌+◌, ◌*◌, ◌^◌, ◌≤◌, ◌<◌}
 use native.Mathlib.Omega.{arith}
 use borrow.Author.Count.{below_more}
 use lib.ListN.{length, get_or, set}
@@ -12,8 +12,7 @@ use Rattle.laws.specs.Bag.{sum}
 use Rattle.laws.specs.LentRange.{Apart, Only}
 use Rattle.laws.proofs.BagLaws.{sum_same, sum-next}
 use Rattle.laws.proofs.RangeLaws.{outside-at, only-refl, only-trans, only_set}
-use Rattle.shapes.specs.Shape.{Shape, cost_of_row, columns, join}
-use Rattle.shapes.specs.Lent.{Measured}
+use Rattle.shapes.specs.Shape.{Shape, join}
 use Rattle.shapes.proofs.ShapeLaws.{join-at}
 use Rattle.planes.specs.Plane.{IsCost, plane, word, wide}
 use Rattle.planes.specs.Lent.{Holds, PlanesAt, or_ones, FourOnes, PairOnes, LastOnes, Counting, CountedTo, MeasuresJoin, JoinsPlanes}

@@ -1,22 +1,21 @@
 -- One region's width put into planes: a join with a shape that has that region alone. Assumes nothing.
 use mathlib.Core.Path.{◌≡◌, refl, sym, ap, ap₂, ◌∙◌}
-use mathlib.Core.List.{List, [], ◌∷◌, ◌++◌}
+use mathlib.Core.List.{List, [], ◌∷◌}
 use mathlib.Core.Logic.{◌≢◌, ⊎_elim}
 use Prim.Native.Nat.{ℕ, zero, suc, ◌+◌, ◌-◌, ◌*◌, ◌/◌, ◌%◌, ◌^◌, ◌≤◌, ◌<◌, max}
-use native.Mathlib.Nat.{zero-mod, mod-eq_of_lt, mod-lt, div-eq_of_lt, mul_assoc, mul-div_cancel, mul-mod_left, pow-suc, div-add-mod'}
+use native.Mathlib.Nat.{zero-mod, mod-eq_of_lt, mod-lt, div-eq_of_lt, mul_assoc, mul-mod_left, pow-suc, div-add-mod'}
 use native.Mathlib.Omega.{arith}
 use lib.ListN.{length, get_or, set, length-set}
 use lib.Seq.{get_or-set_same, get_or-set_other}
-use lib.Pow.{pow-add, pow_pos, pow_mono, pow-lt, shl_lt, shl-shr, shl_exact}
+use lib.Pow.{pow-add, pow_mono, shl_lt, shl-shr, shl_exact}
 use lib.Bits.{bit_or, or_zero_r}
-use Rattle.laws.specs.LentRange.{Only}
-use Rattle.laws.proofs.Cases.{lt-or-ge, same_or_not, Tri, tri}
+use Rattle.laws.proofs.Cases.{same_or_not, Tri, tri}
 use Rattle.laws.proofs.Cases.Tri.{below, same, above}
 use Rattle.laws.proofs.RangeLaws.{only-trans, only_set}
 use Rattle.shapes.specs.Shape.{Shape, join}
 use Rattle.shapes.proofs.ShapeLaws.{join-comm, join-none}
 use Rattle.planes.specs.Plane.{IsCost, at_least, plane, word}
-use Rattle.planes.specs.Lent.{PlanesAt, PutsCost}
+use Rattle.planes.specs.Lent.{PutsCost}
 use Rattle.planes.proofs.PlaneLaws.{at_none, at_some, at_most}
 use Rattle.planes.proofs.JoinLaws.{Ored, planes-or}
 

@@ -1,6 +1,6 @@
 -- A shape as three numbers, its planes. Bit r of the plane of t is 1 where region r costs at least t, for t = 1, 2 and 4.
 -- Bit r lies in word r / 32, as its bit r % 32, the lowest bit first. Assumes nothing.
-use Rattle.std.specs.Prelude.{◌≡◌, List, [], ◌∷◌, ◌++◌, ℕ, zero, suc, ◌+◌, ◌*◌, ◌/◌, ◌%◌, ◌^◌, ◌≤◌, ltb}
+use Rattle.std.specs.Prelude.{◌≡◌, List, [], ◌∷◌, ◌++◌, ℕ, ◌+◌, ◌*◌, ◌/◌, ◌%◌, ◌^◌, ◌≤◌, ltb}
 use Rattle.laws.specs.Pick.{pick}
 use Rattle.laws.specs.Bounded.{tabulate}
 use Rattle.shapes.specs.Shape.{Shape}

@@ -11,14 +11,10 @@ fn put_all(work: &mut [u32], x: usize, m: usize, a: usize, words: usize)
     requires by_index { (k : ℕ) → k < 3 * words → get_or work.old (a + k) 0 ≡ 0 }
     ensures { Filled x m a words work.old work.new }
 {
-    let mut r = 0;
-    while r < m {
+    for r in 0..m {
         let cost = work[x + r];
-        if cost == 0 {
-            r += 1;
-        } else {
+        if cost != 0 {
             put(work, a, words, r, cost);
-            r += 1;
         }
     }
 }

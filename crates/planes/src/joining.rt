@@ -70,10 +70,11 @@ fn count_fours(work: &[u32], a: usize, b: usize, words: usize) -> Ones
     let mut two: u32 = 0;
     let mut four: u32 = 0;
     let mut i = 0;
+    // No `for`: it goes four words at a time, and tells how far it came.
     while i + 3 < words {
-        one = one + four_ones(work, a, b, i);
-        two = two + four_ones(work, c, d, i);
-        four = four + four_ones(work, e, f, i);
+        one += four_ones(work, a, b, i);
+        two += four_ones(work, c, d, i);
+        four += four_ones(work, e, f, i);
         i += 4;
     }
     Ones {
@@ -101,10 +102,11 @@ fn count_pairs(work: &[u32], a: usize, b: usize, words: usize, s: Ones) -> Ones
     let mut two = s.two;
     let mut four = s.four;
     let mut i = s.upto;
+    // No `for`: it goes two words at a time, and tells how far it came.
     while i + 1 < words {
-        one = one + pair_ones(work, a, b, i);
-        two = two + pair_ones(work, c, d, i);
-        four = four + pair_ones(work, e, f, i);
+        one += pair_ones(work, a, b, i);
+        two += pair_ones(work, c, d, i);
+        four += pair_ones(work, e, f, i);
         i += 2;
     }
     Ones {
@@ -153,12 +155,10 @@ pub fn measure_words(work: &[u32], a: usize, b: usize, words: usize) -> RowShape
     let mut one: u32 = 0;
     let mut two: u32 = 0;
     let mut four: u32 = 0;
-    let mut i = 0;
-    while i < words {
-        one = one + u32::count_ones(work[a + i] | work[b + i]);
-        two = two + u32::count_ones(work[c + i] | work[d + i]);
-        four = four + u32::count_ones(work[e + i] | work[f + i]);
-        i += 1;
+    for i in 0..words {
+        one += u32::count_ones(work[a + i] | work[b + i]);
+        two += u32::count_ones(work[c + i] | work[d + i]);
+        four += u32::count_ones(work[e + i] | work[f + i]);
     }
     RowShape {
         row_cost: one + two + 2 * four,
@@ -188,9 +188,7 @@ pub fn join_into(work: &mut [u32], a: usize, b: usize, words: usize)
     ensures { JoinsPlanes a b words work.old work.new }
 {
     let n = 3 * words;
-    let mut i = 0;
-    while i < n {
-        work[a + i] = work[a + i] | work[b + i];
-        i += 1;
+    for i in 0..n {
+        work[a + i] |= work[b + i];
     }
 }

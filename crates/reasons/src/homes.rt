@@ -7,6 +7,7 @@ use crate::id_rows::place_in;
 use encoder::Places;
 
 // Its place among the final groups, of which there are `count`; as many where none has it.
+// A number and no Option: the promise is `home_in`, of which the theorems on reasons speak (why_told).
 pub fn home_of(work: &[u32], p: Places, count: usize, x: u32) -> usize
     requires { GroupsIn p count work.now }
     ensures { result ≡ home_in x (finals_in p count work.now) }

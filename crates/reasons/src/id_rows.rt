@@ -5,7 +5,7 @@ ghost use Rattle.reasons.specs.LentReasons.{AmongFit, ids_at, RowsIn, ids_in};
 
 use encoder::Places;
 
-// Its place among n rows; n where it has none there.
+// Its place among n rows; n where it has none there: `first_at`, as in finding.
 fn place_among(work: &[u32], ids: usize, rows: usize, n: usize, x: u32) -> usize
     requires { AmongFit ids rows n work.now }
     ensures { result ≡ first_at x (ids_at ids rows n work.now) }

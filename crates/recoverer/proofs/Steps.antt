@@ -5,16 +5,14 @@ use mathlib.Core.List.{List, []}
 use mathlib.Core.Logic.{◌⊎◌, ⊎_elim}
 use mathlib.Core.Option.{none, some}
 use Prim.Native.Nat.{ℕ, ◌+◌, ◌*◌, ◌≤◌, ◌<◌}
-use native.Mathlib.Nat.{zero-add}
 use native.Mathlib.Omega.{arith}
 use lib.Dec.{ltb, leb}
-use lib.ListN.{length, get_or, replicate, length-replicate, get_or-eq_default}
-use lib.Seq.{ext_get_or}
+use lib.ListN.{length, get_or, replicate}
 use borrow.Author.Tests.{not-true, not-false, lt-ltb, le-ltb, ltb-true, le-leb, lt-leb, leb-true, ne_eqb}
 use Rattle.laws.specs.Pick.{pick}
 use Rattle.laws.specs.Bag.{weigh}
 use Rattle.laws.specs.Bytes.{be}
-use Rattle.laws.specs.LentRange.{Apart, Zeroed}
+use Rattle.laws.specs.LentRange.{Apart}
 use Rattle.laws.proofs.Cases.{lt-or-ge, and-true, Which, which, true-false}
 use Rattle.laws.proofs.Cases.Which.{holds, fails}
 use Rattle.laws.proofs.Products.{product}
@@ -100,16 +98,8 @@ sort-room s place axes n work ok h l d =
 -- ---- words of work
 
 -- all of them are zero
-pub zeros-all : (n : ℕ) (old new : List ℕ) → Zeroed 0 n old new → n ≡ length old → (k : ℕ) → get_or new k 0 ≡ 0
-zeros-all n old new z e k = ⊎_elim
-    (λ (l : k < n). rw (zero-add k) at (z.is k l))
-    (λ (l : n ≤ k). get_or-eq_default new 0 {n = k} (omega (arith, z.only.long)))
-    (lt-or-ge k n)
-
-pub zeroed-all : (n : ℕ) (old new : List ℕ) → Zeroed 0 n old new → n ≡ length old → new ≡ replicate (length old) 0
-zeroed-all n old new z e =
-    ext_get_or 0 new (replicate (length old) 0) (z.only.long ∙ sym (length-replicate (length old) 0))
-    (λ k h. zeros-all n old new z e k ∙ sym (zeros-at (length old) k))
+pub zeros-all : (n : ℕ) {new : List ℕ} → new ≡ replicate n 0 → (k : ℕ) → get_or new k 0 ≡ 0
+zeros-all n e k = rw e (zeros-at n k)
 
 -- ---- R20 and R50
 
@@ -153,22 +143,6 @@ look-passed s h = go (which (parses (parse s))) (which (once (store_at s).region
 -- ---- R51
 
 module _ (regions axes : ℕ) where
-  pub bounds-regions : max_regions < regions → 51 ≡ bounds_refusal regions axes
-  unfolding bounds_refusal first_failed
-  bounds-regions h = rw (lt-leb regions max_regions h)
-
-  pub bounds-none : regions ≤ max_regions → axes ≡ 0 → 51 ≡ bounds_refusal regions axes
-  unfolding bounds_refusal first_failed
-  bounds-none h e = rw (le-leb regions max_regions h, le-ltb 0 axes (omega arith))
-
-  pub bounds-axes : regions ≤ max_regions → (axes ≡ 0 → ⊥) → most_axes < axes → 51 ≡ bounds_refusal regions axes
-  unfolding bounds_refusal first_failed
-  bounds-axes h d l = rw (le-leb regions max_regions h, lt-ltb 0 axes (omega arith), lt-leb axes most_axes l)
-
-  pub bounds-fine : regions ≤ max_regions → (axes ≡ 0 → ⊥) → axes ≤ most_axes → 0 ≡ bounds_refusal regions axes
-  unfolding bounds_refusal first_failed
-  bounds-fine h d l = rw (le-leb regions max_regions h, lt-ltb 0 axes (omega arith), le-leb axes most_axes l)
-
   abbrev fit : Bool
   fit = leb regions max_regions && (ltb 0 axes && leb axes most_axes)
 
@@ -308,9 +282,9 @@ pub work-short : (bytes : ℕ) (work : List ℕ) → length work < bytes → wor
 unfolding work_left
 work-short bytes work h = rw (lt-leb bytes (length work) h)
 
-pub work-zeros : (bytes n : ℕ) (old mid new : List ℕ) → bytes ≤ length old → length mid ≡ length old → Zeroed 0 n mid new → n ≡ length mid → new ≡ work_left bytes old
+pub work-zeros : (bytes : ℕ) (old mid new : List ℕ) → bytes ≤ length old → length mid ≡ length old → new ≡ replicate (length mid) 0 → new ≡ work_left bytes old
 unfolding work_left
-work-zeros bytes n old mid new h l z e = rw (le-leb bytes (length old) h) (zeroed-all n mid new z e ∙ ap (λ (m : ℕ). replicate m 0) l)
+work-zeros bytes old mid new h l e = rw (le-leb bytes (length old) h) (e ∙ ap (λ (m : ℕ). replicate m 0) l)
 
 -- the same number, the same answer
 pub same_answer : (p : Parsed) (r : Recovered) (a b : ℕ) → r ≡ answer_for p a → b ≡ a → r ≡ answer_for p b

@@ -10,7 +10,6 @@ ghost use Rattle.recoverer.specs.Recover.{recovering_work, look_no, bounds_refus
 
 use cells::look_ahead;
 use job_writing::write_job;
-use laws::zero_part;
 use limits::Limits;
 use listed::list_order;
 use reader::be;
@@ -61,12 +60,12 @@ fn all_once(store: &[u8], work: &mut [u32]) -> bool
 }
 
 // R20 and R50, with work for scratch; 0 where both are passed.
+#[tactic(auto, unfolding(crate::specs::Recover::look_no, said::specs::Refusals::first_failed))]
 fn look(store: &[u8], work: &mut [u32]) -> usize
     requires { length store.now ≤ length work.old }
     ensures { result ≡ look_no store.now }
 {
-    let n = work.len();
-    zero_part(work, 0, n);
+    work.fill(0);
     if !whole_ok(store, work) {
         return Recovered::BAD_STORE;
     }
@@ -77,6 +76,7 @@ fn look(store: &[u8], work: &mut [u32]) -> usize
 }
 
 // R51.
+#[tactic(auto, unfolding(crate::specs::Recover::bounds_refusal, said::specs::Refusals::first_failed))]
 fn bounds_no(regions: usize, axes: usize) -> usize
     ensures { result ≡ bounds_refusal regions axes }
 {
@@ -126,13 +126,12 @@ pub fn recover(store: &[u8], work: &mut [u32], out: &mut [u8]) -> Recovered
         return Recovered::Refused(Recovered::WORK_SHORT);
     }
     let no = look(store, work);
-    let n = work.len();
     if no != 0 {
-        zero_part(work, 0, n);
+        work.fill(0);
         return Recovered::Refused(no);
     }
     look_ahead(store, work, 0);
     let answer = finish(store, work, out);
-    zero_part(work, 0, n);
+    work.fill(0);
     answer
 }

@@ -8,13 +8,14 @@ use records::{Kind, is_kind, records_in};
 const BYTES: usize = 12;
 
 // A part of some bytes: where it starts, and how many there are. An empty one starts at 0.
+// No Option for none: the C call tells 0 and 0 (specs/Parts `no_span`).
 #[derive(Clone, Copy, Debug, PartialEq, Eq)]
 pub struct Span {
     pub at: usize,
     pub long: usize,
 }
 
-// The number of the record that ends set j; as many as there are records where there is none.
+// The number of the record that ends set j; as many as there are records where there is none, as `end_at` of specs/Parts says.
 fn end_at(job: &[u8], j: usize) -> usize
     ensures { result ≡ end_at job.now j }
 {

@@ -2,7 +2,7 @@
 use mathlib.Core.Path.{◌≡◌, refl, sym, ap, ap₂, subst, ◌∙◌}
 use mathlib.Core.Logic.{◌≢◌, ⊎_elim}
 use mathlib.Core.List.{List, [], ◌∷◌}
-use Prim.Native.Nat.{ℕ, ◌+◌, ◌-◌, ◌*◌, ◌≤◌, ◌<◌}
+use Prim.Native.Nat.{ℕ, ◌+◌, ◌*◌, ◌≤◌, ◌<◌}
 use native.Mathlib.Nat.{add-zero}
 use native.Mathlib.Omega.{arith}
 use lib.ListN.{length, get_or, set, length-set}
@@ -23,7 +23,7 @@ use Rattle.shapes.proofs.GroupLaws.{joined-shape, joined-sets, cost-measured}
 use Rattle.shapes.proofs.ShapeLaws.{join-self}
 use Rattle.shapes.proofs.LentLaws.{narrow-join}
 use Rattle.planes.specs.Plane.{IsCost, plane_length, plane_words}
-use Rattle.planes.specs.Lent.{PlanesAt, MeasuresJoin, JoinsPlanes, FillFit, Filled}
+use Rattle.planes.specs.Lent.{MeasuresJoin, JoinsPlanes, FillFit, Filled}
 use Rattle.planes.proofs.Meaning.{planes-kept}
 use Rattle.planes.proofs.FillLaws.{words-three, planes-room}
 use Rattle.slots.specs.declared.tables.MergeTables.{MergeTables}

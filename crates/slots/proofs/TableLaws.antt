@@ -6,7 +6,7 @@ use Prim.Native.Nat.{ℕ, ◌+◌, ◌-◌, ◌*◌, ◌≤◌, ◌<◌}
 use native.Mathlib.Omega.{arith}
 use lib.ListN.{length}
 use Rattle.laws.proofs.RangeLaws.{length-seg}
-use Rattle.laws.proofs.Products.{product, row_fits}
+use Rattle.laws.proofs.Products.{row_fits}
 use Rattle.shapes.specs.Shape.{join}
 use Rattle.shapes.specs.Group.{Group, gain}
 use Rattle.shapes.specs.Lent.{Measured, Small, cost_of, is_too_far}

@@ -95,10 +95,8 @@ pub fn measure_all(work: &mut [u32], t: MergeTables)
     ensures { MeasuredAll t work.old work.new }
 {
     let groups = t.groups;
-    let mut s = 0;
-    while s < groups {
+    for s in 0..groups {
         measure(work, t, s);
-        s += 1;
     }
 }
 
@@ -131,7 +129,7 @@ pub fn join_slots(work: &mut [u32], t: MergeTables, a: usize, b: usize)
 {
     let counts = t.counts;
     join_shapes(work, t, a, b);
-    work[counts + a] = work[counts + a] + work[counts + b];
+    work[counts + a] += work[counts + b];
     note_costs(work, t, a);
 }
 
@@ -144,12 +142,10 @@ pub fn size(work: &[u32], t: MergeTables) -> u64
     let groups = t.groups;
     let order = t.order;
     let mut total: u64 = 0;
-    let mut i = 0;
-    while i < groups {
+    for i in 0..groups {
         let s = work[order + i] as usize;
         let group = costs(work, t, s);
-        total = total + group.cost();
-        i += 1;
+        total += group.cost();
     }
     total
 }

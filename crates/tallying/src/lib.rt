@@ -24,6 +24,7 @@ fn row_values(s: &[u8], work: &[u32], at: usize, row: usize) -> usize
     let n = be(s, at + 4, 2);
     let mut count: usize = 0;
     let mut j = next_cell(s, work, 0, row, word, n, 0);
+    // No `for`: `next_cell` jumps over the columns that are zero.
     while j < n {
         count += 1;
         j = next_cell(s, work, 0, row, word, n, j + 1);
@@ -43,11 +44,9 @@ fn table_values(s: &[u8], work: &[u32], at: usize) -> usize
     let long = column_at(word, n);
     let mut row = at + 6 + 2 * n;
     let mut count: usize = 0;
-    let mut i: usize = 0;
-    while i < items {
+    for i in 0..items {
         count += row_values(s, work, at, row);
         row += long;
-        i += 1;
     }
     count
 }
@@ -72,15 +71,12 @@ fn add_slot(s: &[u8], work: &[u32], at: usize, t: Count) -> Count
     let records = t.records + items;
     let sets = t.sets + items;
     if Limits::RECORDS < records {
-        return Count {
-            records: records,
-            sets: sets,
-        };
+        return Count { records, sets };
     }
     let values = table_values(s, work, at);
     Count {
         records: records + values,
-        sets: sets,
+        sets,
     }
 }
 
@@ -97,13 +93,11 @@ pub fn tally(s: &[u8], work: &[u32]) -> Count
         records: regions * axes,
         sets: 0,
     };
-    let mut o: usize = 0;
-    while o < n {
+    for o in 0..n {
         if Limits::RECORDS < t.records {
             return t;
         }
         t = add_slot(s, work, be(s, 8 + 4 * o, 4), t);
-        o += 1;
     }
     t
 }

@@ -3,7 +3,7 @@ use mathlib.Core.Path.{◌≡◌, refl, sym, ap, ap₂, subst, ◌∙◌}
 use mathlib.Core.Bool.{Bool, not}
 use mathlib.Core.Logic.{⊎_elim}
 use mathlib.Core.List.{List}
-use Prim.Native.Nat.{ℕ, zero, suc, ◌+◌, ◌-◌, ◌*◌, ◌/◌, ◌≤◌, ◌<◌}
+use Prim.Native.Nat.{ℕ, zero, suc, ◌+◌, ◌-◌, ◌*◌, ◌≤◌, ◌<◌}
 use native.Mathlib.Omega.{arith}
 use lib.Dec.{T, eqb}
 use lib.ListN.{length, set}
@@ -15,13 +15,12 @@ use Rattle.laws.proofs.BagLaws.{sum-next, sum-zero}
 use Rattle.laws.proofs.Products.{product}
 use Rattle.shapes.specs.Group.{gain}
 use Rattle.pairs.specs.declared.Pair.{Pair}
-use Rattle.pairs.specs.LentQueue.{pair_at, HeapOrdered, Has, SameFrom, Heaped, Numbered, KeptMarked}
-use Rattle.pairs.proofs.Order.{carry}
+use Rattle.pairs.specs.LentQueue.{pair_at, Has, SameFrom, Heaped, Numbered, KeptMarked}
 use Rattle.pairs.proofs.Sets.{Put, is-put}
 use Rattle.pairs.proofs.Content.{behind-has, behind-keeps, behind-only, heaped-has, heaped-only, kept-has, kept-only}
 use Rattle.slots.specs.declared.tables.MergeTables.{MergeTables}
 use Rattle.slots.specs.Lent.{Laid, group_in}
-use Rattle.waits.specs.LentWaits.{room, place_of, group_of, alive, pair_of, Reached, Fair, Waits, Lists, Considered, Asked, Offered, OfferedAll, Opening, Opened}
+use Rattle.waits.specs.LentWaits.{room, place_of, group_of, alive, pair_of, Reached, Fair, Waits, Lists, Asked, Offered, OfferedAll, Opening, Opened}
 use Rattle.slots.proofs.SlotLaws.{shape-kept, group-is}
 
 -- ---- how many pairs can wait
@@ -85,80 +84,97 @@ reached-more k c a b r = record { order = r.order; below = r.below; last = λ e.
 fair-more : (t : MergeTables) (w : List ℕ) (k c : ℕ) (q : Pair) → Fair t k c w q → Fair t k (c + 1) w q
 fair-more t w k c q f = record { reached = reached-more k c q.first q.second f.reached; some = f.some; is = f.is }
 
-pub considered-dead : (t : MergeTables) (w : List ℕ) (c k : ℕ) → place_of t w c ≡ 0 → Considered t c k 0 (record { gain = 0; first = c; second = k }) w
-considered-dead t w c k e = record { weighed = sym (alive-none t w c e); first-is = refl; second_is = refl; dead = λ _. refl; gain-is = λ l. absurd (omega arith) }
-
 pub considered : (t : MergeTables) (w : List ℕ) (c k g : ℕ) → (place_of t w c ≡ 0 → ⊥) → g ≡ gain (group_in t w (place_of t w c - 1)) (group_in t w (place_of t w k - 1))
-    → Considered t c k 1 (record { gain = g; first = c; second = k }) w
+    → (0 < place_of t w c) × ◌≡◌ {A = Pair} (record { gain = g; first = c; second = k }) (pair_of t w c k)
 unfolding group_of
-considered t w c k g d e = record { weighed = sym (alive-one t w c d); first-is = refl; second_is = refl; dead = λ z. absurd (d z); gain-is = λ _. e }
+considered t w c k g d e = (omega arith, λ i. record { gain = e i; first = c; second = k })
 
-module _ {t : MergeTables} {w : List ℕ} {ps : List Pair} {k c n v : ℕ} {p : Pair} (h : Lists t k c n w ps) (l : c < k) (q : Considered t c k v p w) where
+module _ {t : MergeTables} {w : List ℕ} {ps : List Pair} {k c n : ℕ} (h : Lists t k c n w ps) (l : c < k) where
   -- they gain nothing, or c is dead
-  pub offer-none : (m : ℕ) → p.gain ≡ 0 → Offered t k c n m n (m + v) w ps ps
-  offer-none m z = record {
-    lists = record {
-      all = λ a b r x y u.
-          h.all a b
-          (reached-less k c a b r
-          (λ i j.
-          let o : 0 < place_of t w c = omega (arith, ap (place_of t w) j) in
-          omega (arith, q.gain-is o, ap₂ (λ (i j : ℕ). gain (group_of t w i) (group_of t w j)) j i)))
-          x y u;
-      fair = λ f u. fair-more t w k c f (h.fair f u);
-    };
-    weighed = ap (λ (i : ℕ). m + i) q.weighed;
+  lists-same : (0 < place_of t w c → gain (group_of t w c) (group_of t w k) ≡ 0) → Lists t k (c + 1) n w ps
+  lists-same z = record {
+    all = λ a b r x y u.
+        h.all a b
+        (reached-less k c a b r
+        (λ i j.
+        let o : 0 < place_of t w c = omega (arith, ap (place_of t w) j) in
+        omega (arith, z o, ap₂ (λ (i j : ℕ). gain (group_of t w i) (group_of t w j)) j i)))
+        x y u;
+    fair = λ f u. fair-more t w k c f (h.fair f u);
+  }
+
+  pub offer-dead : (m : ℕ) → place_of t w c ≡ 0 → Offered t k c n m n m w ps ps
+  offer-dead m e = record {
+    lists = lists-same (λ o. absurd (omega arith));
+    weighed = omega (arith, alive-none t w c e);
     few = omega arith;
     more = omega arith;
     front = λ i _. refl;
     rest = λ i _. refl;
   }
 
-  -- they gain
-  module _ (d : p.gain ≡ 0 → ⊥) where
-    lives : 0 < place_of t w c
-    lives = ⊎_elim (λ (e : place_of t w c ≡ 0). absurd (d (q.dead e))) (λ e. omega arith) (same_or_not (place_of t w c) 0)
-
+  module _ {p : Pair} (lives : 0 < place_of t w c) (p-is : p ≡ pair_of t w c k) where
     pub offer-one : alive t w c ≡ 1
     offer-one = alive-one t w c (λ e. omega (arith, lives))
 
-    pair_same : pair_of t w c k ≡ p
-    pair_same = λ i. record { gain = sym (q.gain-is lives) i; first = sym q.first-is i; second = sym q.second_is i }
+    gain-is : p.gain ≡ gain (group_of t w c) (group_of t w k)
+    gain-is = ap (λ (q : Pair). q.gain) p-is
 
-    own : Fair t k (c + 1) w p
-    own = record {
-      reached = record { order = omega (arith, q.first-is, q.second_is); below = omega (arith, q.second_is); last = λ e. omega (arith, q.first-is) };
-      some = omega arith;
-      is = λ x y. sym pair_same ∙ ap₂ (pair_of t w) (sym q.first-is) (sym q.second_is);
+    first-is : p.first ≡ c
+    first-is = ap (λ (q : Pair). q.first) p-is
+
+    second_is : p.second ≡ k
+    second_is = ap (λ (q : Pair). q.second) p-is
+
+    pub offer-none : (m : ℕ) → p.gain ≡ 0 → Offered t k c n m n (m + 1) w ps ps
+    offer-none m z = record {
+      lists = lists-same (λ _. sym gain-is ∙ z);
+      weighed = omega (arith, offer-one);
+      few = omega arith;
+      more = omega arith;
+      front = λ i _. refl;
+      rest = λ i _. refl;
     }
 
-    lists-more : {ps' : List Pair} → Put ps n p ps' → Lists t k (c + 1) (n + 1) w ps'
-    lists-more {ps'} s = record {
-      all = λ a b r x y z. ⊎_elim
-          (λ (i : b ≡ k). ⊎_elim
-          (λ (j : a ≡ c). subst (Has ps' (n + 1)) (sym (ap₂ (pair_of t w) j i ∙ pair_same)) (behind-has s))
-          (λ j. behind-keeps s (h.all a b (reached-less k c a b r (λ _ f. j f)) x y z))
-          (same_or_not a c))
-          (λ i. behind-keeps s (h.all a b (reached-less k c a b r (λ f _. i f)) x y z))
-          (same_or_not b k);
-      fair = λ f z. ⊎_elim
-          (λ (e : f ≡ p). subst (Fair t k (c + 1) w) (sym e) own)
-          (λ e. fair-more t w k c f (h.fair f e))
-          (behind-only s z);
-    }
+    -- they gain
+    module _ (d : p.gain ≡ 0 → ⊥) where
+      pair_same : pair_of t w c k ≡ p
+      pair_same = sym p-is
 
-    pub offer-append : (m : ℕ) (ps' : List Pair) (n' : ℕ) → n + alive t w c ≤ room t.groups → room t.groups ≤ length ps → n' ≡ n + 1 → ps' ≡ set ps n p → Offered t k c n m n' (m + v) w ps ps'
-    offer-append m ps' n' fits enough e made =
-        let u = offer-one in
-        let s = is-put ps ps' n p (omega arith) made in
-        record {
-          lists = rw e (lists-more s);
-          weighed = ap (λ (i : ℕ). m + i) q.weighed;
-          few = omega arith;
-          more = omega arith;
-          front = λ i j. s.other i (omega arith);
-          rest = λ i j. s.other i (omega arith);
-        }
+      own : Fair t k (c + 1) w p
+      own = record {
+        reached = record { order = omega (arith, first-is, second_is); below = omega (arith, second_is); last = λ e. omega (arith, first-is) };
+        some = omega arith;
+        is = λ x y. p-is ∙ ap₂ (pair_of t w) (sym first-is) (sym second_is);
+      }
+
+      lists-more : {ps' : List Pair} → Put ps n p ps' → Lists t k (c + 1) (n + 1) w ps'
+      lists-more {ps'} s = record {
+        all = λ a b r x y z. ⊎_elim
+            (λ (i : b ≡ k). ⊎_elim
+            (λ (j : a ≡ c). subst (Has ps' (n + 1)) (sym (ap₂ (pair_of t w) j i ∙ pair_same)) (behind-has s))
+            (λ j. behind-keeps s (h.all a b (reached-less k c a b r (λ _ f. j f)) x y z))
+            (same_or_not a c))
+            (λ i. behind-keeps s (h.all a b (reached-less k c a b r (λ f _. i f)) x y z))
+            (same_or_not b k);
+        fair = λ f z. ⊎_elim
+            (λ (e : f ≡ p). subst (Fair t k (c + 1) w) (sym e) own)
+            (λ e. fair-more t w k c f (h.fair f e))
+            (behind-only s z);
+      }
+
+      pub offer-append : (m : ℕ) (ps' : List Pair) (n' : ℕ) → n + alive t w c ≤ room t.groups → room t.groups ≤ length ps → n' ≡ n + 1 → ps' ≡ set ps n p → Offered t k c n m n' (m + 1) w ps ps'
+      offer-append m ps' n' fits enough e made =
+          let u = offer-one in
+          let s = is-put ps ps' n p (omega arith) made in
+          record {
+            lists = rw e (lists-more s);
+            weighed = omega (arith, u);
+            few = omega arith;
+            more = omega arith;
+            front = λ i j. s.other i (omega arith);
+            rest = λ i j. s.other i (omega arith);
+          }
 
 -- ---- weighing k with each number below it
 
@@ -210,9 +226,6 @@ module _ {t : MergeTables} {k n : ℕ} {w : List ℕ} {ps₀ : List Pair} (h : A
     pub offering-few : (r : ℕ) → n + sum (alive t w) k ≤ r → n' ≤ r
     offering-few r x = omega (arith, o.few, sum_mono (alive t w) c k o.within)
 
-    pub offering-ordered : HeapOrdered ps n
-    offering-ordered i a b = carry (o.front ((i - 1) / 2) (omega arith)) (o.front i b) (h.waits.ordered i a b)
-
     pub offering-done : {ps' : List Pair} → k ≤ c → n + sum (alive t w) k ≤ room t.groups → Heaped ps n' ps' → OfferedAll t k n m n' m' w ps₀ ps'
     offering-done l fits s =
         let e : c ≡ k = omega (arith, o.within) in
@@ -259,31 +272,7 @@ open-arith (suc k) n m l e =
     omega arith
 
 module _ {t : MergeTables} {w : List ℕ} (h : Opening t w) (ps₀ : List Pair) where
-  pub opens-start : Opens t w ps₀ ps₀ 0 0 0
-  opens-start = record {
-    within = omega arith;
-    waits = record {
-      ordered = λ k p q. absurd (omega arith);
-      all = λ a b r x y z. absurd (omega (arith, r.order, r.below));
-      fair = λ q u. absurd (omega (arith, u.below));
-    };
-    weighed = omega arith;
-    few = omega arith;
-    rest = λ i _. refl;
-  }
-
   module _ {ps : List Pair} {n m k : ℕ} (o : Opens t w ps₀ ps n m k) where
-    pub opens-asks : k < t.groups → Asked t k 0 n w ps
-    opens-asks l = record {
-      weighable = record {
-        sound = h.sound;
-        placed = record { within = λ c q. (h.living c (omega arith)).1 };
-        living = (h.living k l).0;
-        known = omega arith;
-      };
-      waits = o.waits;
-    }
-
     ones : k ≤ t.groups → sum (alive t w) k ≡ k
     ones l = sum_ones (alive t w) k (λ c q. alive-one t w c (λ z. omega (arith, h.living c (omega arith))))
 

@@ -61,14 +61,6 @@ pub record Weighable (t : MergeTables) (k : ℕ) (w : List ℕ) : Type 0 where
   pub living : 0 < place_of t w k
   pub known : k < 2 * t.groups
 
--- it was, with number c: a pair was weighed where c lives, and gains that much; where c is dead nothing gains
-pub record Considered (t : MergeTables) (c k v : ℕ) (p : Pair) (w : List ℕ) : Type 0 where
-  pub weighed : v ≡ alive t w c
-  pub first-is : p.first ≡ c
-  pub second_is : p.second ≡ k
-  pub dead : place_of t w c ≡ 0 → p.gain ≡ 0
-  pub gain-is : 0 < place_of t w c → p.gain ≡ gain (group_of t w c) (group_of t w k)
-
 -- what weighing number k with those from c on asks
 pub record Asked (t : MergeTables) (k c n : ℕ) (w : List ℕ) (ps : List Pair) : Type 0 where
   pub weighable : Weighable t k w

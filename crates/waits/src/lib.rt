@@ -1,9 +1,9 @@
 // The pairs that wait: each pair of living groups that was weighed and gains, in a lent slice of records.
 #![tactic(auto)]
 
-ghost use Rattle.std.specs.Prelude.{◌+◌, ◌≤◌, ◌<◌, length};
+ghost use Rattle.std.specs.Prelude.{◌≡◌, ◌+◌, ◌≤◌, ◌<◌, MatchOption, length};
 ghost use Rattle.laws.specs.Bag.{sum};
-ghost use Rattle.waits.specs.LentWaits.{room, alive, Lists, Weighable, Considered, Asked, Offered, OfferedAll, Opening, Opened};
+ghost use Rattle.waits.specs.LentWaits.{room, place_of, alive, pair_of, Lists, Weighable, Asked, Offered, OfferedAll, Opening, Opened};
 
 use pairs::{Pair, append, raise_all};
 use slots::MergeTables;
@@ -15,43 +15,26 @@ pub struct Tally {
     pub weighed: usize,
 }
 
-// What weighing two numbers found: how many pairs that was, and the pair, which gains nothing where one is dead.
-#[derive(Clone, Copy)]
-pub struct Found {
-    pub weighed: usize,
-    pub pair: Pair,
-}
-
-// Weighs numbers c and k, if c lives.
-fn consider(work: &[u32], t: MergeTables, c: usize, k: usize) -> Found
+// Weighs numbers c and k: their pair, with what it gains; None where c is dead.
+fn consider(work: &[u32], t: MergeTables, c: usize, k: usize) -> Option<Pair>
     requires weighable { Weighable t k work.now }
     requires c_lt_k { c < k }
-    ensures { Considered t c k result.weighed result.pair work.now }
+    ensures { MatchOption result (place_of t work.now c ≡ 0) (λ p. (0 < place_of t work.now c) × (p ≡ pair_of t work.now c k)) }
 {
     let place = t.place;
-    let first = c as u32;
-    let second = k as u32;
     let x = work[place + c] as usize;
     if x == 0 {
-        return Found {
-            weighed: 0,
-            pair: Pair {
-                gain: 0,
-                first,
-                second,
-            },
-        };
+        return None;
     }
     let y = work[place + k] as usize;
     let gain = slots::weigh(work, t, x - 1, y - 1);
-    Found {
-        weighed: 1,
-        pair: Pair {
-            gain,
-            first,
-            second,
-        },
-    }
+    let first = c as u32;
+    let second = k as u32;
+    Some(Pair {
+        gain,
+        first,
+        second,
+    })
 }
 
 // Weighs numbers c and k, if c lives; where they gain, they wait, behind the others and in no order yet.
@@ -64,14 +47,12 @@ fn offer(pairs: &mut [Pair], work: &[u32], t: MergeTables, c: usize, k: usize, a
     requires groups_in_bounds { room t.groups ≤ length pairs.old }
     ensures { Offered t k c at.waiting at.weighed result.waiting result.weighed work.now pairs.old pairs.new }
 {
-    let found = consider(work, t, c, k);
-    let weighed = at.weighed + found.weighed;
-    let pair = found.pair;
+    let Some(pair) = consider(work, t, c, k) else {
+        return at;
+    };
+    let weighed = at.weighed + 1;
     if pair.gain == 0 {
-        return Tally {
-            waiting: at.waiting,
-            weighed,
-        };
+        return Tally { weighed, ..at };
     }
     let waiting = append(pairs, at.waiting, pair);
     Tally { waiting, weighed }
@@ -87,10 +68,8 @@ pub fn offer_all(pairs: &mut [Pair], work: &[u32], t: MergeTables, k: usize, at:
     ensures { OfferedAll t k at.waiting at.weighed result.waiting result.weighed work.now pairs.old pairs.new }
 {
     let mut now = at;
-    let mut c = 0;
-    while c < k {
+    for c in 0..k {
         now = offer(pairs, work, t, c, k, now);
-        c += 1;
     }
     raise_all(pairs, at.waiting, now.waiting);
     now
@@ -107,10 +86,8 @@ pub fn weigh_each(pairs: &mut [Pair], work: &[u32], t: MergeTables) -> Tally
         waiting: 0,
         weighed: 0,
     };
-    let mut k = 0;
-    while k < groups {
+    for k in 0..groups {
         now = offer_all(pairs, work, t, k, now);
-        k += 1;
     }
     now
 }

@@ -1,5 +1,4 @@
 use native.Mathlib.Omega.{arith}
-use Rattle.job_writing.proofs.PieceLaws.{done-long, from_zero}
 use Rattle.job_writing.proofs.JobLaws.{header_of, front-room, back-room, job-put}
 use Rattle.job_writing.proofs.write_job.Goals as goal
 
@@ -8,9 +7,6 @@ write_regions-p-requires c = record { s_value = (header_of _ c.requires.s_value.
 
 pub write_sets-requires : goal.write_sets-requires
 write_sets-requires c = record { s_value = (c.requires.s_value.0, c.requires.s_value.2); s_in_bounds = back-room _ _ c.requires.s_in_bounds c.write_regions-p.ensures }
-
-pub shape_of-out : goal.shape_of-out
-shape_of-out c = done-long (from_zero c.requires.s_in_bounds) (job-put _ _ c.requires.s_in_bounds c.write_regions-p.ensures c.write_sets.ensures)
 
 pub returns : goal.returns
 returns c = job-put _ _ c.requires.s_in_bounds c.write_regions-p.ensures c.write_sets.ensures

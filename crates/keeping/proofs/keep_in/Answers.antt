@@ -1,4 +1,3 @@
-use borrow.Author.Rules.{rules}
 use mathlib.Core.Path.{sym, ◌∙◌}
 use lib.ListN.{length}
 use native.Mathlib.Omega.{arith}
@@ -6,12 +5,6 @@ use borrow.Author.Tests.{not-true, not-false}
 use Rattle.stores.specs.Stores.{parse}
 use Rattle.keeping.proofs.CallLaws.{parses-whole, bad-store, no-row, few-places, kept-so}
 use Rattle.keeping.proofs.keep_in.Goals as goal
-
-pub whole_ok-requires : goal.whole_ok-requires
-whole_ok-requires c = search rules
-
-pub shape_of-work-then-not-whole_ok : goal.shape_of-work-then-not-whole_ok
-shape_of-work-then-not-whole_ok c = search rules
 
 pub returns-then-not-whole_ok : goal.returns-then-not-whole_ok
 returns-then-not-whole_ok c =
@@ -21,16 +14,10 @@ returns-then-not-whole_ok c =
 pub rows_there-requires : goal.rows_there-requires
 rows_there-requires c = parses-whole _ (sym c.whole_ok.ensures ∙ not-false _ c.if-not-whole_ok.false-raw)
 
-pub shape_of-work-then-not-rows_there : goal.shape_of-work-then-not-rows_there
-shape_of-work-then-not-rows_there c = search rules
-
 pub returns-then-not-rows_there : goal.returns-then-not-rows_there
 returns-then-not-rows_there c =
     let k = no-row c.args.store.now c.args.rows.now (parses-whole c.args.store.now (sym c.whole_ok.ensures ∙ not-false _ c.if-not-whole_ok.false-raw)) (length c.args.out.now) (length c.args.places.now) c.args.out.now c.args.places.now (sym c.rows_there.ensures ∙ not-true _ c.if-not-rows_there.true-raw) in
     record { value = k.0; out_after = k.1.0; places_after = k.1.1 }
-
-pub shape_of-work-then-places-rows : goal.shape_of-work-then-places-rows
-shape_of-work-then-places-rows c = search rules
 
 pub returns-then-places-rows : goal.returns-then-places-rows
 returns-then-places-rows c =
@@ -39,15 +26,6 @@ returns-then-places-rows c =
 
 pub keep_rows-requires : goal.keep_rows-requires
 keep_rows-requires c = record { ok = parses-whole _ (sym c.whole_ok.ensures ∙ not-false _ c.if-not-whole_ok.false-raw); there = sym c.rows_there.ensures ∙ not-false _ c.if-not-rows_there.false-raw; work-room = omega (arith, c.requires.0, c.whole_ok.auto.seen); place-room = omega (arith, c.if-places-rows.false) }
-
-pub shape_of-work : goal.shape_of-work
-shape_of-work c = search rules
-
-pub shape_of-out : goal.shape_of-out
-shape_of-out c = search rules
-
-pub shape_of-places : goal.shape_of-places
-shape_of-places c = search rules
 
 pub returns : goal.returns
 returns c = record { value = (kept-so _ _ (parses-whole _ (sym c.whole_ok.ensures ∙ not-false _ c.if-not-whole_ok.false-raw)) (length c.args.out.now) (length c.args.places.now) _ _ _ _ _ (sym c.rows_there.ensures ∙ not-false _ c.if-not-rows_there.false-raw) (omega (arith, c.if-places-rows.false)) (c.keep_rows.ensures.value, (c.keep_rows.ensures.out_after, c.keep_rows.ensures.places_after))).0; out_after = (kept-so _ _ (parses-whole _ (sym c.whole_ok.ensures ∙ not-false _ c.if-not-whole_ok.false-raw)) (length c.args.out.now) (length c.args.places.now) _ _ _ _ _ (sym c.rows_there.ensures ∙ not-false _ c.if-not-rows_there.false-raw) (omega (arith, c.if-places-rows.false)) (c.keep_rows.ensures.value, (c.keep_rows.ensures.out_after, c.keep_rows.ensures.places_after))).1.0; places_after = (kept-so _ _ (parses-whole _ (sym c.whole_ok.ensures ∙ not-false _ c.if-not-whole_ok.false-raw)) (length c.args.out.now) (length c.args.places.now) _ _ _ _ _ (sym c.rows_there.ensures ∙ not-false _ c.if-not-rows_there.false-raw) (omega (arith, c.if-places-rows.false)) (c.keep_rows.ensures.value, (c.keep_rows.ensures.out_after, c.keep_rows.ensures.places_after))).1.1 }

@@ -1,4 +1,3 @@
-use borrow.Author.Rules.{rules}
 use mathlib.Core.Path.{refl}
 use Prim.Native.Nat.{ℕ, ◌<◌}
 use lib.ListN.{get_or}
@@ -13,21 +12,6 @@ choose-c-requires c = (omega (arith, c.requires.work-room), rows-low c.requires 
 pub tables_size-size-requires : goal.tables_size-size-requires
 tables_size-size-requires c = ((fit c.requires (λ k. omega (arith, c.type_inv.store k)) c.choose-c.ensures).few, (fit c.requires (λ k. omega (arith, c.type_inv.store k)) c.choose-c.ensures).table)
 
-pub room-end-requires : goal.room-end-requires
-room-end-requires c = search rules
-
-pub overflow_mul-t : goal.overflow_mul-t
-overflow_mul-t c = search rules
-
-pub overflow_add-t : goal.overflow_add-t
-overflow_add-t c = search rules
-
-pub overflow_add-t-2 : goal.overflow_add-t-2
-overflow_add-t-2 c = search rules
-
-pub shape_of-work-then-end-t : goal.shape_of-work-then-end-t
-shape_of-work-then-end-t c = search rules
-
 pub returns-then-end-t : goal.returns-then-end-t
 returns-then-end-t c = record { value = early-long c.requires (λ k. omega (arith, c.type_inv.store k)) c.choose-c.ensures _ _ _ c.room-end.ensures.0 c.tables_size-size.ensures.0 (omega (arith, c.if-end-t.true)); out_after = out-same _ _ _ _; places_after = places_same _ _ _ _ }
 
@@ -37,17 +21,8 @@ name_regions-kept-requires c = fit c.requires (λ k. omega (arith, c.type_inv.st
 pub be-list-requires : goal.be-list-requires
 be-list-requires c = record { k_bound = omega arith; k_in_bounds = omega (arith, header-fits _ (fit c.requires (λ k. omega (arith, c.type_inv.store k)) c.choose-c.ensures).header) }
 
-pub overflow_mul-first : goal.overflow_mul-first
-overflow_mul-first c = search rules
-
-pub overflow_add-first : goal.overflow_add-first
-overflow_add-first c = search rules
-
 pub be-requires : goal.be-requires
 be-requires c = record { k_bound = omega arith; k_in_bounds = omega (arith, header-fits _ (fit c.requires (λ k. omega (arith, c.type_inv.store k)) c.choose-c.ensures).header, c.be-list.ensures.is) }
-
-pub overflow_mul-first-2 : goal.overflow_mul-first-2
-overflow_mul-first-2 c = search rules
 
 pub overflow_mul-first-3 : goal.overflow_mul-first-3
 overflow_mul-first-3 c = omega (arith, first-low _ _ c.be.ensures.below (kept-few c.requires (λ k. omega (arith, c.type_inv.store k)) c.choose-c.ensures c.name_regions-kept.ensures))
@@ -57,9 +32,6 @@ overflow_add-first-2 c = omega (arith, first-low _ _ c.be.ensures.below (kept-fe
 
 pub overflow_add-first-3 : goal.overflow_add-first-3
 overflow_add-first-3 c = omega (arith, first-low _ _ c.be.ensures.below (kept-few c.requires (λ k. omega (arith, c.type_inv.store k)) c.choose-c.ensures c.name_regions-kept.ensures), (fit c.requires (λ k. omega (arith, c.type_inv.store k)) c.choose-c.ensures).few, c.tables_size-size.ensures.1)
-
-pub shape_of-work-then-end-first : goal.shape_of-work-then-end-first
-shape_of-work-then-end-first c = search rules
 
 pub returns-then-end-first : goal.returns-then-end-first
 returns-then-end-first c = record { value = late-long c.requires (λ k. omega (arith, c.type_inv.store k)) c.choose-c.ensures c.name_regions-kept.ensures _ _ _ _ c.be-list.ensures.is c.be.ensures.is c.tables_size-size.ensures.0 refl _ _ c.room-end.ensures.0 (omega (arith, c.if-end-first.true)); out_after = out-same _ _ _ _; places_after = places_same _ _ _ _ }
@@ -81,15 +53,6 @@ write_places-requires c =
     let q = c.name_regions-kept.ensures in
     let f = places-fit h b d q _ _ _ _ c.be-list.ensures.is c.be.ensures.is c.tables_size-size.ensures.0 refl in
     record { k_in_bounds = (f.0, f.1, (words-now h b d q).rising); by_index = (words-now h b d q).into; rows_in_bounds = h.place-room }
-
-pub shape_of-work : goal.shape_of-work
-shape_of-work c = search rules
-
-pub shape_of-out : goal.shape_of-out
-shape_of-out c = search rules
-
-pub shape_of-places : goal.shape_of-places
-shape_of-places c = search rules
 
 pub returns : goal.returns
 returns c =

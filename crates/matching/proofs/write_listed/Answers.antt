@@ -8,9 +8,6 @@ use Rattle.matching.proofs.write_listed.Goals as goal
 pub loop-k-init : goal.loop-k-init
 loop-k-init c = writing_start _ _ _ _ (omega arith) (words-length c.args.store.now c.args.p c.args.n)
 
-pub be-v-requires : goal.be-v-requires
-be-v-requires c = record { k_bound = omega arith; k_in_bounds = omega arith }
-
 pub loop-k-preserved : goal.loop-k-preserved
 loop-k-preserved c =
     let a = c.args in

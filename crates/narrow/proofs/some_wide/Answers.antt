@@ -6,9 +6,6 @@ use Rattle.narrow.proofs.some_wide.Goals as goal
 pub loop-g-init : goal.loop-g-init
 loop-g-init c = let a = c.args in wide-start a.work.now a.t.regions a.t.groups a.t.count
 
-pub form_of-form-requires : goal.form_of-form-requires
-form_of-form-requires c = record { regions_le_max_regions = c.requires.regions_le_max_regions; handed = c.requires.by_index c.loop-g.g c.loop-g-test.true }
-
 pub returns-then-form-gt-COLUMNS : goal.returns-then-form-gt-COLUMNS
 returns-then-form-gt-COLUMNS c =
     let a = c.args in let l = c.loop-g in

@@ -7,6 +7,3 @@ use Rattle.narrow.proofs.some_wide.Given as goal
 
 abbrev pub invariant-loop-g : goal.invariant-loop-g
 invariant-loop-g l = is_some_wide (tabulate l.g (l.t.count - l.g) (λ k. final_at l.t.regions l.work (l.t.groups + 3 * k))) ≡ is_some_wide (finals_at l.t.regions l.t.groups l.t.count l.work)
-
-abbrev pub decreases-loop-g : goal.decreases-loop-g
-decreases-loop-g l = l.t.count - l.g

@@ -1,11 +1,7 @@
 use mathlib.Core.Path.{◌∙◌}
 use Rattle.store.specs.Lent.{finals_at}
 use Rattle.narrow.proofs.WideLaws.{wide-plain, wide-panel}
-use borrow.Author.Rules.{rules}
 use Rattle.narrow.proofs.too_wide.Goals as goal
-
-pub some_wide-requires : goal.some_wide-requires
-some_wide-requires c = record { regions_le_max_regions = search rules; count_in_bounds = search rules; by_index = search rules }
 
 pub returns-in-Plain : goal.returns-in-Plain
 returns-in-Plain c = let a = c.args in wide-plain a.profile (finals_at a.t.regions a.t.groups a.t.count a.work.now) c.in-Plain.is

@@ -14,9 +14,6 @@ be-axes-requires c =
     let f = header-fits _ (header_of _ c.requires.0) in
     record { k_bound = omega arith; k_in_bounds = omega (arith, f.list, c.be-list.ensures.is) }
 
-pub overflow_add-list : goal.overflow_add-list
-overflow_add-list c = let f = header-fits _ (header_of _ c.requires.0) in omega (arith, f.list, c.be-list.ensures.is)
-
 pub be-regions-requires : goal.be-regions-requires
 be-regions-requires c =
     let f = header-fits _ (header_of _ c.requires.0) in

@@ -5,14 +5,8 @@ use Rattle.tallying.proofs.add_slot.Goals as goal
 pub returns-then-at-eq0 : goal.returns-then-at-eq0
 returns-then-at-eq0 c = added_none _ _ _ _ c.requires.records_le_most_records.0 c.requires.records_le_most_records.1 (omega arith)
 
-pub be-items-requires : goal.be-items-requires
-be-items-requires c = record { k_bound = omega arith; k_in_bounds = omega (arith, (c.requires.slot_in.0.there (λ e. omega arith)).inside) }
-
 pub returns-then-records-gt-RECORDS : goal.returns-then-records-gt-RECORDS
 returns-then-records-gt-RECORDS c = added-over _ _ _ _ c.requires.records_le_most_records.0 c.requires.records_le_most_records.1 (λ e. omega arith) _ c.be-items.ensures.is (omega arith) (omega arith)
-
-pub table_values-values-requires : goal.table_values-values-requires
-table_values-values-requires c = (c.requires.slot_in.0.there (λ e. omega arith), c.requires.slot_in.1)
 
 pub returns : goal.returns
 returns c = added-values _ _ _ _ c.requires.records_le_most_records.0 c.requires.records_le_most_records.1 (λ e. omega arith) _ c.be-items.ensures.is (omega arith) _ c.table_values-values.ensures.value c.table_values-values.ensures.upper_bound

@@ -1,21 +1,9 @@
 use native.Mathlib.Omega.{arith}
-use Rattle.tallying.proofs.RowLaws.{cells_fit, count-start, count-more, count-done}
+use Rattle.tallying.proofs.RowLaws.{count-start, count-more, count-done}
 use Rattle.tallying.proofs.row_values.Goals as goal
-
-pub be-word-requires : goal.be-word-requires
-be-word-requires c = record { k_bound = omega arith; k_in_bounds = omega (arith, c.requires.0.head) }
-
-pub be-n-requires : goal.be-n-requires
-be-n-requires c = record { k_bound = omega arith; k_in_bounds = omega (arith, c.requires.0.head) }
-
-pub next_cell-j-requires : goal.next_cell-j-requires
-next_cell-j-requires c = cells_fit _ _ _ c.requires.0 _ _ c.be-word.ensures.is c.be-n.ensures.is c.requires.1 (omega arith) (omega arith) _ (omega arith)
 
 pub loop-j-init : goal.loop-j-init
 loop-j-init c = count-start _ _ _ c.requires.0 _ _ c.be-word.ensures.is c.be-n.ensures.is c.next_cell-j.ensures (omega arith)
-
-pub next_cell-j-requires-in-loop-j : goal.next_cell-j-requires-in-loop-j
-next_cell-j-requires-in-loop-j c = cells_fit _ _ _ c.requires.0 _ _ c.be-word.ensures.is c.be-n.ensures.is c.requires.1 (omega arith) (omega arith) _ (omega arith)
 
 pub loop-j-preserved : goal.loop-j-preserved
 loop-j-preserved c = count-more _ _ _ c.requires.0 _ _ c.be-word.ensures.is c.be-n.ensures.is c.loop-j.invariant (omega arith) c.next_cell-j-in-loop-j.ensures (omega arith)

@@ -1,6 +1,6 @@
 use native.Mathlib.Omega.{arith}
 use Rattle.stores.proofs.WholeLaws.{count-from}
-use Rattle.tallying.proofs.TallyLaws.{axes-from, small_product, head-there, list-there, offset-in, slot-there, tally-start, tally-more, tally-over, tally-done}
+use Rattle.tallying.proofs.TallyLaws.{axes-from, head-there, list-there, offset-in, slot-there, tally-start, tally-more, tally-done}
 use Rattle.tallying.proofs.tally.Goals as goal
 
 pub be-list-requires : goal.be-list-requires
@@ -9,29 +9,14 @@ be-list-requires c = record { k_bound = omega arith; k_in_bounds = omega (arith,
 pub be-axes-requires : goal.be-axes-requires
 be-axes-requires c = record { k_bound = omega arith; k_in_bounds = omega (arith, list-there _ c.requires.0, c.be-list.ensures.is) }
 
-pub overflow_add-list : goal.overflow_add-list
-overflow_add-list c = omega (arith, list-there _ c.requires.0, c.be-list.ensures.is)
-
 pub be-regions-requires : goal.be-regions-requires
 be-regions-requires c = record { k_bound = omega arith; k_in_bounds = omega (arith, list-there _ c.requires.0, c.be-list.ensures.is) }
 
 pub be-n-requires : goal.be-n-requires
 be-n-requires c = record { k_bound = omega arith; k_in_bounds = omega (arith, head-there _ c.requires.0) }
 
-pub overflow_mul-t : goal.overflow_mul-t
-overflow_mul-t c = omega (arith, small_product _ _ c.be-regions.ensures.below c.be-axes.ensures.below)
-
 pub loop-o-init : goal.loop-o-init
 loop-o-init c = tally-start _ c.requires.0 _ _ _ (axes-from _ _ _ c.be-list.ensures.is c.be-axes.ensures.is) (count-from _ _ _ c.be-list.ensures.is c.be-regions.ensures.is) c.be-n.ensures.is
-
-pub returns-then-t-gt-RECORDS : goal.returns-then-t-gt-RECORDS
-returns-then-t-gt-RECORDS c = tally-over _ c.requires.0 _ _ _ _ c.loop-o.invariant (omega arith)
-
-pub overflow_mul-o : goal.overflow_mul-o
-overflow_mul-o c = omega (arith, offset-in _ c.requires.0 _ _ c.be-n.ensures.is c.loop-o-test.true)
-
-pub overflow_add-o : goal.overflow_add-o
-overflow_add-o c = omega (arith, offset-in _ c.requires.0 _ _ c.be-n.ensures.is c.loop-o-test.true)
 
 pub be-requires : goal.be-requires
 be-requires c = record { k_bound = omega arith; k_in_bounds = omega (arith, offset-in _ c.requires.0 _ _ c.be-n.ensures.is c.loop-o-test.true) }

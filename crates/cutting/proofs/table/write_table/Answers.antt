@@ -1,36 +1,14 @@
-use borrow.Author.Rules.{rules}
 use Rattle.cutting.proofs.TableLaws.{head-room, columns-in, names_in, columns-room, rows-room, words-in, rows_inside, table-put}
 use Rattle.cutting.proofs.table.write_table.Goals as goal
 
-pub cut_of-c-requires : goal.cut_of-c-requires
-cut_of-c-requires c = search rules
-
 pub write_head-p-requires : goal.write_head-p-requires
 write_head-p-requires c = (head-room c.requires.table_fit c.cut_of-c.ensures c.args.at c.args.out.now c.requires.g_in_bounds, c.cut_of-c.ensures.rows-low, c.cut_of-c.ensures.word_low, c.cut_of-c.ensures.columns-low)
-
-pub overflow_add-from : goal.overflow_add-from
-overflow_add-from c = search rules
-
-pub overflow_mul-n : goal.overflow_mul-n
-overflow_mul-n c = search rules
-
-pub overflow_add-n : goal.overflow_add-n
-overflow_add-n c = search rules
 
 pub write_columns-q-requires : goal.write_columns-q-requires
 write_columns-q-requires c =
     let o = c.args.out.now in
     let d = c.cut_of-c.ensures in
     record { n_bound = (d.columns-low, columns-in c.requires.table_fit d c.args.at o c.requires.g_in_bounds, columns-room c.requires.table_fit d c.args.at o c.requires.g_in_bounds c.write_head-p.ensures); names_fit = names_in c.requires.table_fit d c.args.at o c.requires.g_in_bounds c.requires.table_named }
-
-pub overflow_mul-first : goal.overflow_mul-first
-overflow_mul-first c = search rules
-
-pub overflow_add-first : goal.overflow_add-first
-overflow_add-first c = search rules
-
-pub column_at-long-requires : goal.column_at-long-requires
-column_at-long-requires c = record { word_bound = search rules; j_bound = search rules }
 
 pub write_rows-requires : goal.write_rows-requires
 write_rows-requires c =
@@ -40,9 +18,6 @@ write_rows-requires c =
     let b = c.write_columns-q.ensures in
     let l = c.column_at-long.ensures.value in
     record { long_bound = (c.column_at-long.ensures.upper_bound, words-in c.requires.table_fit d c.args.at o c.requires.g_in_bounds a b _ l, rows-room c.requires.table_fit d c.args.at o c.requires.g_in_bounds a b _ l); by_index = rows_inside c.requires.table_fit d c.args.at o c.requires.g_in_bounds a b _ l }
-
-pub shape_of-out : goal.shape_of-out
-shape_of-out c = search rules
 
 pub returns : goal.returns
 returns c = table-put c.requires.table_fit c.cut_of-c.ensures c.args.at c.args.out.now c.requires.g_in_bounds c.write_head-p.ensures c.write_columns-q.ensures _ c.column_at-long.ensures.value c.write_rows.ensures

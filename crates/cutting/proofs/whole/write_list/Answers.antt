@@ -1,4 +1,3 @@
-use borrow.Author.Rules.{rules}
 use native.Mathlib.Omega.{arith}
 use Rattle.reader.proofs.StoreLaws.{header-fits}
 use Rattle.cutting.proofs.WholeLaws.{list-head, list_inside, list-room, list-put, regions-are}
@@ -10,35 +9,14 @@ be-list-requires c = record { k_bound = omega arith; k_in_bounds = omega (arith,
 pub be-axes-requires : goal.be-axes-requires
 be-axes-requires c = record { k_bound = omega arith; k_in_bounds = omega (arith, header-fits _ c.requires.store_value.0, c.be-list.ensures.is) }
 
-pub overflow_add-list : goal.overflow_add-list
-overflow_add-list c = search rules
-
 pub be-regions-requires : goal.be-regions-requires
 be-regions-requires c = record { k_bound = omega arith; k_in_bounds = omega (arith, header-fits _ c.requires.store_value.0, c.be-list.ensures.is) }
-
-pub overflow_cast-axes : goal.overflow_cast-axes
-overflow_cast-axes c = search rules
 
 pub put-requires : goal.put-requires
 put-requires c = omega (arith, list-head _ _ _ _ _ c.args.out.now c.requires.kept_in_bounds _ _ _ c.be-list.ensures.is c.be-axes.ensures.is c.be-regions.ensures.is)
 
-pub overflow_add-at : goal.overflow_add-at
-overflow_add-at c = search rules
-
-pub overflow_cast-kept : goal.overflow_cast-kept
-overflow_cast-kept c = search rules
-
 pub put-requires-2 : goal.put-requires-2
 put-requires-2 c = omega (arith, list-head _ _ _ _ _ c.args.out.now c.requires.kept_in_bounds _ _ _ c.be-list.ensures.is c.be-axes.ensures.is c.be-regions.ensures.is, c.put.auto.out)
-
-pub overflow_add-at-2 : goal.overflow_add-at-2
-overflow_add-at-2 c = search rules
-
-pub overflow_add-list-2 : goal.overflow_add-list-2
-overflow_add-list-2 c = search rules
-
-pub overflow_mul-axes : goal.overflow_mul-axes
-overflow_mul-axes c = search rules
 
 pub write_regions-requires : goal.write_regions-requires
 write_regions-requires c =
@@ -47,9 +25,6 @@ write_regions-requires c =
     let y = c.be-axes.ensures.is in
     let z = c.be-regions.ensures.is in
     record { regions_bound = (c.be-regions.ensures.below, list_inside _ _ _ _ _ o c.requires.kept_in_bounds _ _ _ x y z c.requires.store_value.0, omega (arith, regions-are _ _ _ _ _ o c.requires.kept_in_bounds _ _ _ x y z, c.requires.store_value.2)); regions_in_bounds = list-room _ _ _ _ _ o c.requires.kept_in_bounds _ _ _ x y z c.put.ensures c.put-2.ensures }
-
-pub shape_of-out : goal.shape_of-out
-shape_of-out c = search rules
 
 pub returns : goal.returns
 returns c = list-put _ _ _ _ _ c.args.out.now c.requires.kept_in_bounds _ _ _ c.be-list.ensures.is c.be-axes.ensures.is c.be-regions.ensures.is c.put.ensures c.put-2.ensures c.write_regions.ensures

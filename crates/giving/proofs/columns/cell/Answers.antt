@@ -2,33 +2,27 @@ use mathlib.Core.Path.{ap, ◌∙◌}
 use mathlib.Core.Path.{refl}
 use Rattle.laws.proofs.BytesLaws.{pow-top}
 use Rattle.laws.specs.Signed.{signed}
-use Rattle.giving.proofs.PassLaws.{cell-low, cell-high}
+use Rattle.giving.proofs.PassLaws.{span-is, cell-low, cell-high}
 use native.Mathlib.Omega.{arith}
 use Rattle.giving.proofs.columns.cell.Goals as goal
-
-pub be-x-requires : goal.be-x-requires
-be-x-requires c = record { k_bound = c.requires.0; k_in_bounds = c.requires.1 }
 
 pub overflow_mul-x : goal.overflow_mul-x
 overflow_mul-x c = omega (arith, c.be-x.ensures.below, pow-top 4 c.requires.0)
 
-pub overflow_add-result : goal.overflow_add-result
-overflow_add-result c = omega (arith, c.be-x.ensures.below, pow-top 4 c.requires.0)
-
 pub overflow_cast-result : goal.overflow_cast-result
-overflow_cast-result c = omega (arith, c.be-x.ensures.below, pow-top 4 c.requires.0, c.span-m.ensures)
+overflow_cast-result c = omega (arith, c.be-x.ensures.below, pow-top 4 c.requires.0, (span-is c.args.k c.requires.0))
 
 pub returns-then-x-m : goal.returns-then-x-m
-returns-then-x-m c = cell-low c.args.k c.be-x.result _ (omega (arith, c.span-m.ensures)) refl ∙ ap (signed c.args.k) c.be-x.ensures.is
+returns-then-x-m c = cell-low c.args.k c.be-x.result _ (omega (arith, (span-is c.args.k c.requires.0))) refl ∙ ap (signed c.args.k) c.be-x.ensures.is
 
 pub overflow_add-result-2 : goal.overflow_add-result-2
 overflow_add-result-2 c = omega (arith, c.be-x.ensures.below, pow-top 4 c.requires.0)
 
 pub overflow_sub-result : goal.overflow_sub-result
-overflow_sub-result c = omega (arith, c.be-x.ensures.below, pow-top 4 c.requires.0, c.span-m.ensures)
-
-pub overflow_cast-result-2 : goal.overflow_cast-result-2
-overflow_cast-result-2 c = omega (arith, c.be-x.ensures.below, pow-top 4 c.requires.0, c.span-m.ensures)
+overflow_sub-result c = omega (arith, c.be-x.ensures.below, pow-top 4 c.requires.0, (span-is c.args.k c.requires.0))
 
 pub returns : goal.returns
-returns c = cell-high c.args.k c.be-x.result _ (omega (arith, c.span-m.ensures)) c.be-x.ensures.below (omega (arith, c.be-x.ensures.below, pow-top 4 c.requires.0, c.span-m.ensures)) ∙ ap (signed c.args.k) c.be-x.ensures.is
+returns c = cell-high c.args.k c.be-x.result _ (omega (arith, (span-is c.args.k c.requires.0))) c.be-x.ensures.below (omega (arith, c.be-x.ensures.below, pow-top 4 c.requires.0, (span-is c.args.k c.requires.0))) ∙ ap (signed c.args.k) c.be-x.ensures.is
+
+pub overflow_cast-result-2 : goal.overflow_cast-result-2
+overflow_cast-result-2 c = omega (arith, c.be-x.ensures.below, pow-top 4 c.requires.0, (span-is c.args.k c.requires.0))

@@ -1,4 +1,3 @@
-use Prim.Native.Nat.{◌-◌}
 use lib.ListN.{drop}
 use Rattle.rows.proofs.PutLaws.{Putting}
 use Rattle.recovering.specs.Recovering.{axes_from}
@@ -7,6 +6,3 @@ use Rattle.job_writing.proofs.regions.write_axes.Given as goal
 
 abbrev pub invariant-loop-a : goal.invariant-loop-a
 invariant-loop-a l = Putting l.at (axes_from l.q 0 l.axes (drop l.from l.s)) l.initial.out l.out l.p (axes_left l.s l.q l.from l.axes l.a)
-
-abbrev pub decreases-loop-a : goal.decreases-loop-a
-decreases-loop-a l = l.axes - l.a

@@ -14,16 +14,10 @@ be-axes-requires c =
     let f = header-fits _ c.requires.s_value.0 in
     record { k_bound = omega arith; k_in_bounds = omega (arith, f.list, c.be-list.ensures.is) }
 
-pub overflow_add-list : goal.overflow_add-list
-overflow_add-list c = let f = header-fits _ c.requires.s_value.0 in omega (arith, f.list, c.be-list.ensures.is)
-
 pub be-n-requires : goal.be-n-requires
 be-n-requires c =
     let f = header-fits _ c.requires.s_value.0 in
     record { k_bound = omega arith; k_in_bounds = omega (arith, f.list, c.be-list.ensures.is) }
-
-pub overflow_add-from : goal.overflow_add-from
-overflow_add-from c = let f = header-fits _ c.requires.s_value.0 in omega (arith, f.list, c.be-list.ensures.is)
 
 pub loop-q-init : goal.loop-q-init
 loop-q-init c =
@@ -39,12 +33,6 @@ write_axes-p-requires c =
     let t = c.loop-q-test.true in
     let few = c.be-n.ensures.below in
     record { record_fits = (omega arith, axes-low _ ok _ _ _ h c.requires.s_value.1, region-in c.args.s.now _ _ _ (head-inside _ ok _ _ _ h) _ _ i.0 t); s_in_bounds = regions-room _ _ _ _ (head-inside _ ok _ _ _ h) _ _ i.0 t (from_zero c.requires.s_in_bounds) i.1 }
-
-pub overflow_add-from-in-loop-q : goal.overflow_add-from-in-loop-q
-overflow_add-from-in-loop-q c =
-    let h = head_of _ _ _ _ c.be-list.ensures.is c.be-axes.ensures.is c.be-n.ensures.is in
-    let ok = c.requires.s_value.0 in
-    omega (arith, region-in c.args.s.now _ _ _ (head-inside _ ok _ _ _ h) _ _ c.loop-q.invariant.0 c.loop-q-test.true)
 
 pub loop-q-preserved : goal.loop-q-preserved
 loop-q-preserved c =

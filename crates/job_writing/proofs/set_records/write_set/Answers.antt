@@ -1,39 +1,18 @@
 use native.Mathlib.Omega.{arith}
 use Prim.Native.Nat.{◌+◌}
-use Rattle.tallying.proofs.RowLaws.{at-cell, cell-in, row_inside, cells_fit}
-use Rattle.job_writing.proofs.PieceLaws.{piece-put, piece-last, last-room, done-long}
+use Rattle.tallying.proofs.RowLaws.{at-cell, cell-in, row_inside}
+use Rattle.job_writing.proofs.PieceLaws.{piece-put, piece-last, last-room}
 use Rattle.job_writing.proofs.SetLaws.{set-put, set_more, set_room, set-end}
 use Rattle.job_writing.proofs.set_records.write_set.Goals as goal
-
-pub be-word-requires : goal.be-word-requires
-be-word-requires c = record { k_bound = omega arith; k_in_bounds = omega (arith, c.requires.row_in.0.head) }
-
-pub be-n-requires : goal.be-n-requires
-be-n-requires c = record { k_bound = omega arith; k_in_bounds = omega (arith, c.requires.row_in.0.head) }
-
-pub next_cell-j-requires : goal.next_cell-j-requires
-next_cell-j-requires c = cells_fit _ _ _ c.requires.row_in.0 _ _ c.be-word.ensures.is c.be-n.ensures.is c.requires.row_in.1 (omega arith) (omega arith) _ (omega arith)
 
 pub loop-j-init : goal.loop-j-init
 loop-j-init c = (at-cell c.next_cell-j.ensures, set-put _ _ _ c.requires.row_in.0 _ _ c.be-word.ensures.is c.be-n.ensures.is _ _ c.next_cell-j.ensures (omega arith))
 
-pub be-q-requires : goal.be-q-requires
-be-q-requires c = record { k_bound = omega arith; k_in_bounds = omega (arith, c.requires.row_in.0.head, c.be-n.ensures.is) }
-
 pub cell-x-requires : goal.cell-x-requires
 cell-x-requires c = record { word_bound = (omega arith, omega arith); j_in_bounds = cell-in _ _ _ _ _ (row_inside _ _ _ c.requires.row_in.0 _ _ c.be-word.ensures.is c.be-n.ensures.is) (omega arith) }
 
-pub in_four-requires : goal.in_four-requires
-in_four-requires c = (c.column_bytes.ensures.upper_bound, rw c.column_bytes.ensures.value c.cell-x.ensures.below)
-
 pub put_value-requires : goal.put_value-requires
 put_value-requires c = (set_room c.args.s.now c.args.row c.be-word.result c.be-n.result (c.args.table + 6) c.loop-j.j c.cell-x.result c.loop-j-test.true c.cell-x.ensures.is c.loop-j.invariant.0 c.requires.row_in_bounds c.loop-j.invariant.1, c.be-q.ensures.below)
-
-pub overflow_add-p : goal.overflow_add-p
-overflow_add-p c = omega (arith, set_room c.args.s.now c.args.row c.be-word.result c.be-n.result (c.args.table + 6) c.loop-j.j c.cell-x.result c.loop-j-test.true c.cell-x.ensures.is c.loop-j.invariant.0 c.requires.row_in_bounds c.loop-j.invariant.1)
-
-pub next_cell-j-requires-in-loop-j : goal.next_cell-j-requires-in-loop-j
-next_cell-j-requires-in-loop-j c = cells_fit _ _ _ c.requires.row_in.0 _ _ c.be-word.ensures.is c.be-n.ensures.is c.requires.row_in.1 (omega arith) (omega arith) _ (omega arith)
 
 pub loop-j-preserved : goal.loop-j-preserved
 loop-j-preserved c = (
@@ -43,12 +22,6 @@ loop-j-preserved c = (
 
 pub put_end-requires : goal.put_end-requires
 put_end-requires c = omega (arith, last-room c.requires.row_in_bounds c.loop-j.invariant.1 (set-end c.args.s.now c.args.row c.be-word.result c.be-n.result (c.args.table + 6) c.loop-j.j c.loop-j-test.false))
-
-pub overflow_add-result : goal.overflow_add-result
-overflow_add-result c = omega (arith, last-room c.requires.row_in_bounds c.loop-j.invariant.1 (set-end c.args.s.now c.args.row c.be-word.result c.be-n.result (c.args.table + 6) c.loop-j.j c.loop-j-test.false))
-
-pub shape_of-out : goal.shape_of-out
-shape_of-out c = done-long c.requires.row_in_bounds (piece-last _ c.requires.row_in_bounds c.loop-j.invariant.1 (set-end c.args.s.now c.args.row c.be-word.result c.be-n.result (c.args.table + 6) c.loop-j.j c.loop-j-test.false) c.put_end.ensures)
 
 pub returns : goal.returns
 returns c = piece-last _ c.requires.row_in_bounds c.loop-j.invariant.1 (set-end c.args.s.now c.args.row c.be-word.result c.be-n.result (c.args.table + 6) c.loop-j.j c.loop-j-test.false) c.put_end.ensures

@@ -10,12 +10,6 @@ be-n-requires c = record { k_bound = omega arith; k_in_bounds = omega (arith, he
 pub loop-o-init : goal.loop-o-init
 loop-o-init c = slots-put _ _ c.be-n.ensures.is _ _
 
-pub overflow_mul-o : goal.overflow_mul-o
-overflow_mul-o c = omega (arith, offset-in _ c.requires.s_value.0 _ _ c.be-n.ensures.is c.loop-o-test.true)
-
-pub overflow_add-o : goal.overflow_add-o
-overflow_add-o c = omega (arith, offset-in _ c.requires.s_value.0 _ _ c.be-n.ensures.is c.loop-o-test.true)
-
 pub be-requires : goal.be-requires
 be-requires c = record { k_bound = omega arith; k_in_bounds = omega (arith, offset-in _ c.requires.s_value.0 _ _ c.be-n.ensures.is c.loop-o-test.true) }
 

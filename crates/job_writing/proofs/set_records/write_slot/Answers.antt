@@ -1,5 +1,4 @@
 use native.Mathlib.Omega.{arith}
-use Rattle.job_writing.proofs.PieceLaws.{done-long}
 use Rattle.job_writing.proofs.SetLaws.{slot-put-none, slot-room, slot-put}
 use Rattle.job_writing.proofs.set_records.write_slot.Goals as goal
 
@@ -10,9 +9,6 @@ pub write_table-requires : goal.write_table-requires
 write_table-requires c =
     let d = c.if-table-eq0.false in
     record { table_in = (c.requires.slot_in.0.there d, c.requires.slot_in.1); table_in_bounds = slot-room _ _ d _ _ c.requires.table_in_bounds }
-
-pub shape_of-out : goal.shape_of-out
-shape_of-out c = done-long c.requires.table_in_bounds (slot-put c.args.s.now c.args.table c.if-table-eq0.false c.write_table.ensures)
 
 pub returns : goal.returns
 returns c = slot-put c.args.s.now c.args.table c.if-table-eq0.false c.write_table.ensures

@@ -1,21 +1,8 @@
-use borrow.Author.Rules.{rules}
 use native.Mathlib.Omega.{arith}
-use Rattle.tallying.proofs.TableLaws.{rowing_start, rowing_more, row_in, row_room}
+use Rattle.tallying.proofs.TableLaws.{rowing_start, rowing_more, row_in}
 use Rattle.job_writing.proofs.PieceLaws.{piece-put, piece-done}
 use Rattle.job_writing.proofs.SetLaws.{table-put, rows-bytes, rows-room, rows_none}
 use Rattle.job_writing.proofs.set_records.write_table.Goals as goal
-
-pub be-items-requires : goal.be-items-requires
-be-items-requires c = record { k_bound = omega arith; k_in_bounds = omega (arith, c.requires.table_in.0.inside) }
-
-pub be-word-requires : goal.be-word-requires
-be-word-requires c = record { k_bound = omega arith; k_in_bounds = omega (arith, c.requires.table_in.0.inside) }
-
-pub be-n-requires : goal.be-n-requires
-be-n-requires c = record { k_bound = omega arith; k_in_bounds = omega (arith, c.requires.table_in.0.inside) }
-
-pub column_at-long-requires : goal.column_at-long-requires
-column_at-long-requires c = record { word_bound = search rules; j_bound = search rules }
 
 pub loop-i-init : goal.loop-i-init
 loop-i-init c = (
@@ -28,9 +15,6 @@ write_set-p-requires c =
     let i = c.loop-i.invariant in
     let t = c.loop-i-test.true in
     record { row_in = (row_in _ _ _ _ _ _ c.requires.table_in.0 c.be-items.ensures.is c.be-word.ensures.is c.be-n.ensures.is c.column_at-long.ensures.value _ _ i.0 t, c.requires.table_in.1); row_in_bounds = rows-room _ _ _ _ _ t i.0.row_is c.requires.table_in_bounds i.1 }
-
-pub overflow_add-row-in-loop-i : goal.overflow_add-row-in-loop-i
-overflow_add-row-in-loop-i c = omega (arith, row_room _ _ _ _ _ _ c.requires.table_in.0 c.be-items.ensures.is c.be-word.ensures.is c.be-n.ensures.is c.column_at-long.ensures.value _ _ c.loop-i.invariant.0 c.loop-i-test.true)
 
 pub loop-i-preserved : goal.loop-i-preserved
 loop-i-preserved c =

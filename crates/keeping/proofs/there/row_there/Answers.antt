@@ -1,24 +1,14 @@
-use borrow.Author.Rules.{rules}
 use native.Mathlib.Omega.{arith}
 use Rattle.reader.proofs.StoreLaws.{header-fits}
 use Rattle.stores.proofs.WholeLaws.{whole_is}
 use Rattle.keeping.proofs.ThereLaws.{far-word, null_word, some_word, head_in}
 use Rattle.keeping.proofs.there.row_there.Goals as goal
 
-pub wide-w-requires : goal.wide-w-requires
-wide-w-requires c = search rules
-
 pub be-requires : goal.be-requires
 be-requires c = record { k_bound = omega arith; k_in_bounds = omega (arith, header-fits _ (whole_is _ c.requires).header) }
 
 pub returns-then-be-o : goal.returns-then-be-o
 returns-then-be-o c = far-word _ _ _ c.wide-w.ensures (omega (arith, c.if-be-o.true, c.be.ensures.is))
-
-pub overflow_mul-o : goal.overflow_mul-o
-overflow_mul-o c = search rules
-
-pub overflow_add-o : goal.overflow_add-o
-overflow_add-o c = search rules
 
 pub be-at-requires : goal.be-at-requires
 be-at-requires c = record { k_bound = omega arith; k_in_bounds = omega (arith, header-fits _ (whole_is _ c.requires).header, c.be.ensures.is) }

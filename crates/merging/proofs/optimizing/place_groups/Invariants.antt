@@ -1,10 +1,6 @@
 -- Numbers below i live in the slots of their groups.
-use Prim.Native.Nat.{◌-◌}
 use Rattle.merging.proofs.FinishLaws.{Settling}
 use Rattle.merging.proofs.optimizing.place_groups.Given as goal
 
 abbrev pub invariant-loop-i : goal.invariant-loop-i
 invariant-loop-i l = Settling l.groups l.place l.order l.initial.work l.work l.i
-
-abbrev pub decreases-loop-i : goal.decreases-loop-i
-decreases-loop-i l = l.groups - l.i

@@ -4,6 +4,3 @@ use Rattle.merging.proofs.optimizing.resolve_all.Given as goal
 
 abbrev pub invariant-loop-c : goal.invariant-loop-c
 invariant-loop-c l = Finishing l.t l.k l.initial.work l.work l.c
-
-abbrev pub decreases-loop-c : goal.decreases-loop-c
-decreases-loop-c l = l.c

@@ -1,13 +1,9 @@
 use Rattle.planes.proofs.PutLaws.{flag-some, flag-none}
 use native.Mathlib.Omega.{arith}
-use borrow.Author.Rules.{rules}
 use Rattle.planes.proofs.putting.flag.Goals as goal
 
 pub returns-then-cost-least : goal.returns-then-cost-least
 returns-then-cost-least c = flag-none c.args.least c.args.cost c.args.place (omega arith)
-
-pub overflow_shl-result : goal.overflow_shl-result
-overflow_shl-result c = search rules
 
 pub returns : goal.returns
 returns c = flag-some c.args.least c.args.cost c.args.place (omega arith) (omega arith)

@@ -1,4 +1,3 @@
-use Prim.Native.Nat.{◌-◌}
 use Rattle.slots.proofs.SlotLaws.{adding-start, adding-cost, adding-more, adding-done}
 use Rattle.slots.proofs.TableLaws.{costs-small}
 use native.Mathlib.Omega.{arith}
@@ -6,21 +5,6 @@ use Rattle.slots.proofs.groups.size.Goals as goal
 
 pub loop-i-init : goal.loop-i-init
 loop-i-init c = adding-start _ _
-
-pub overflow_add-s : goal.overflow_add-s
-overflow_add-s c = omega arith
-
-pub offset_bounds-work-order : goal.offset_bounds-work-order
-offset_bounds-work-order c = omega arith
-
-pub bounds-work-order : goal.bounds-work-order
-bounds-work-order c = omega arith
-
-pub overflow_cast-s : goal.overflow_cast-s
-overflow_cast-s c = omega (arith, c.requires.dealt.within _ c.loop-i-test.true)
-
-pub costs-group-requires : goal.costs-group-requires
-costs-group-requires c = record { laid = c.requires.sound.shaped.laid; s_lt_groups = c.requires.dealt.within _ c.loop-i-test.true }
 
 pub cost-total-requires : goal.cost-total-requires
 cost-total-requires c = costs-small _ _ _ _ _ _ c.requires.sound (c.requires.dealt.within _ c.loop-i-test.true) c.costs-group.ensures
@@ -30,12 +14,6 @@ overflow_add-total c =
     let s = costs-small _ _ _ _ _ _ c.requires.sound (c.requires.dealt.within _ c.loop-i-test.true) c.costs-group.ensures in
     let n = adding-cost _ _ _ s c.costs-group.ensures.sets-few in
     omega (arith, c.cost-total.ensures, c.loop-i.invariant.most, c.loop-i.invariant.within, c.requires.sound.shaped.laid.groups-few)
-
-pub overflow_add-i : goal.overflow_add-i
-overflow_add-i c = omega arith
-
-pub loop-i-smaller : goal.loop-i-smaller
-loop-i-smaller c = omega arith
 
 pub loop-i-preserved : goal.loop-i-preserved
 loop-i-preserved c = adding-more _ _ _ _ _ _ _ _ c.requires.sound (c.requires.dealt.within _ c.loop-i-test.true) c.loop-i.invariant c.loop-i-test.true c.costs-group.ensures c.cost-total.ensures

@@ -1,22 +1,9 @@
 use mathlib.Core.Path.{sym, ◌∙◌}
 use Rattle.slots.proofs.TableLaws.{costs-small, far-is}
-use borrow.Author.Rules.{rules}
 use Rattle.slots.proofs.groups.weigh.Goals as goal
-
-pub costs-one-requires : goal.costs-one-requires
-costs-one-requires c = record { laid = search rules; s_lt_groups = search rules }
-
-pub costs-other-requires : goal.costs-other-requires
-costs-other-requires c = record { laid = search rules; s_lt_groups = search rules }
 
 pub too_far-requires : goal.too_far-requires
 too_far-requires c = record { small = costs-small _ _ _ _ _ _ c.requires.sound c.requires.a_lt_groups c.costs-one.ensures; small_2 = costs-small _ _ _ _ _ _ c.requires.sound c.requires.b_lt_groups c.costs-other.ensures }
 
 pub returns-then-too_far : goal.returns-then-too_far
 returns-then-too_far c = far-is _ _ _ _ _ _ _ _ _ _ c.requires.sound c.requires.a_lt_groups c.requires.b_lt_groups c.costs-one.ensures c.costs-other.ensures (sym c.too_far.ensures ∙ c.if-too_far.true)
-
-pub scan-requires : goal.scan-requires
-scan-requires c = record { sound = search rules; a_lt_groups = search rules; b_lt_groups = search rules }
-
-pub returns : goal.returns
-returns c = search rules

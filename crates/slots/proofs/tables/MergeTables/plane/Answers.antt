@@ -3,11 +3,7 @@ use Rattle.planes.specs.Plane.{plane_words}
 use Rattle.planes.proofs.FillLaws.{long-few}
 use Rattle.slots.proofs.TableLaws.{plane-row}
 use native.Mathlib.Omega.{arith}
-use borrow.Author.Rules.{rules}
 use Rattle.slots.proofs.tables.MergeTables.plane.Goals as goal
-
-pub plane_long-long-requires : goal.plane_long-long-requires
-plane_long-long-requires c = search rules
 
 pub overflow_mul-long : goal.overflow_mul-long
 overflow_mul-long c = omega (arith, c.plane_long-long.ensures, long-few c.args.self.regions c.requires.regions_bound)
