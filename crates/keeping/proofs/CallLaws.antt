@@ -14,8 +14,7 @@ use Rattle.reader.proofs.StoreLaws.{zeros-at}
 use Rattle.stores.specs.Stores.{Parsed, store_at, is_whole_ok, parse, parses}
 use Rattle.stores.proofs.WholeLaws.{whole_is, parse-done}
 use Rattle.keeping.specs.Keeping.{keeping_work, all_there, last_of, keep_in, keep_parsed, keep_of, out_left, places_left, work_left, work_short, places_short}
-use Rattle.keeping.specs.declared.Kept.{Kept}
-use Rattle.keeping.specs.declared.Kept.TheVariants.{Refused}
+use Rattle.keeping.specs.Answers.{Kept, Refused}
 
 pub parses-whole : (s : List ℕ) → parses (parse s) ≡ true → is_whole_ok s ≡ true
 unfolding parse parses

@@ -42,7 +42,7 @@ use Rattle.cutting.specs.LentCut.{start_of, rows_of, table_of, StoreFit, StoreNa
 use Rattle.cutting.proofs.WholeLaws as cutting-whole
 use Rattle.keeping.specs.Keeping.{keeping_work, room_of, is_too_long, most_bytes, all_there, kept_bytes, last_of, done_of, out_left, places_left, kept_short}
 use Rattle.keeping.specs.LentKeep.{Words, RegionsNamed, Sound}
-use Rattle.keeping.specs.declared.Kept.TheVariants.{Done, Refused}
+use Rattle.keeping.specs.Answers.{Done, Refused}
 use Rattle.keeping.proofs.ThereLaws.{row_is, there-at}
 use Rattle.keeping.proofs.WordLaws.{words, words-kept, store-fit}
 use Rattle.keeping.proofs.LeftLaws.{cut_table, left_is, left-named, places-are, weigh-tabulate}

@@ -20,8 +20,7 @@ use Rattle.stores.proofs.Picking.{picked-long}
 use Rattle.stores.proofs.Words.{drop-twice}
 use Rattle.keeping.specs.Keeping.{keeping_work, most_bytes, is_too_long, all_there, kept_store, kept_bytes, done_of, last_of, keep_in, keep_parsed, keep_of}
 use Rattle.keeping.specs.KeptTold.{DoneSays}
-use Rattle.keeping.specs.declared.Kept.{Kept}
-use Rattle.keeping.specs.declared.Kept.TheVariants.{Done, Refused}
+use Rattle.keeping.specs.Answers.{Kept, Done, Refused}
 
 is_done : Kept → ℕ
 is_done (Done b t r k) = 1

@@ -9,8 +9,7 @@ use Rattle.reader.specs.Store.{bad_store, no_row}
 use Rattle.stores.specs.Stores.{Parsed, parse, place}
 use Rattle.stores.specs.Dropping.{used, dropped, new_place, row_count}
 use Rattle.stores.specs.Coordinates.{is_row_there}
-use Rattle.keeping.specs.declared.Kept.{Kept}
-use Rattle.keeping.specs.declared.Kept.TheVariants.{Done, Refused}
+use Rattle.keeping.specs.Answers.{Kept, Done, Refused}
 
 abbrev pub work_short : ℕ
 work_short = 4

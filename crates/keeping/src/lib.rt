@@ -9,6 +9,7 @@ ghost use Rattle.std.specs.Prelude.{◌≡◌, ℕ, ◌+◌, ◌*◌, ◌≤◌,
 ghost use Rattle.std.proofs.Math.Option.{some};
 ghost use Rattle.stores.specs.Stores.{store_at, parse};
 ghost use Rattle.keeping.specs.LentKeep.{Sound};
+ghost use Rattle.keeping.specs.Answers.{kept};
 ghost use Rattle.keeping.specs.Keeping.{last_of, keep_parsed, keep_of, out_left, places_left, work_left};
 
 use crate::naming::name_regions;
@@ -17,23 +18,17 @@ pub use crate::words::keep_words;
 use crate::words::room;
 use choosing::{choose, write_places};
 use cutting::{tables_size, write_store};
-use reader::{ReadError, be};
+use reader::be;
+use refusals::Refusal;
 use stores::whole_ok;
 
-// The bytes, subtables, regions and rows that are kept, or a refusal's number.
-#[derive(Clone, Copy)]
-pub enum Kept {
-    Done(usize, usize, usize, usize),
-    Refused(u8),
-}
-
-impl Kept {
-    // The numbers of its refusals, beside the reader's.
-    pub const WORK_SHORT: u8 = 4;
-
-    pub const PLACES_SHORT: u8 = 73;
-
-    pub const KEPT_SHORT: u8 = 74;
+// How much is kept.
+#[derive(Clone, Copy, Debug, PartialEq, Eq)]
+pub struct KeptCounts {
+    pub bytes: usize,
+    pub tables: usize,
+    pub regions: usize,
+    pub rows: usize,
 }
 
 // Of a sound store and entries that are rows of it, with room for the places.
@@ -43,11 +38,11 @@ fn keep_rows(
     work: &mut [u32],
     out: &mut [u8],
     places: &mut [u32],
-) -> Kept
+) -> Result<KeptCounts, Refusal>
     requires { Sound store.now rows.now work.old (length places.old) }
-    ensures value { result ≡ last_of (store_at store.now) rows.now (length out.old) }
-    ensures out_after { out.new ≡ out_left (some (store_at store.now)) rows.now result out.old }
-    ensures places_after { places.new ≡ places_left (some (store_at store.now)) rows.now result places.old }
+    ensures value { kept result ≡ last_of (store_at store.now) rows.now (length out.old) }
+    ensures out_after { out.new ≡ out_left (some (store_at store.now)) rows.now (kept result) out.old }
+    ensures places_after { places.new ≡ places_left (some (store_at store.now)) rows.now (kept result) places.old }
 {
     let n = rows.len();
     let c = choose(rows, work);
@@ -55,34 +50,45 @@ fn keep_rows(
     let size = tables_size(store, work, n, t);
     let end = room(out.len());
     if end < 12 + 4 * t + size {
-        return Kept::Refused(Kept::KEPT_SHORT);
+        return Err(Refusal::KeptShort);
     }
     let kept = name_regions(store, work, n, t);
     let list = be(store, 2, 4);
     let first = 12 + 4 * t + 6 * be(store, list, 2) * kept;
     if end < first + size {
-        return Kept::Refused(Kept::KEPT_SHORT);
+        return Err(Refusal::KeptShort);
     }
     let bytes = write_store(out, store, work, n, t, kept, first);
     write_places(work, c.rows, n, rows, places);
-    Kept::Done(bytes, t, kept, c.rows)
+    Ok(KeptCounts {
+        bytes,
+        tables: t,
+        regions: kept,
+        rows: c.rows,
+    })
 }
 
 // With zeros in work.
-fn keep_in(store: &[u8], rows: &[u32], work: &mut [u32], out: &mut [u8], places: &mut [u32]) -> Kept
+fn keep_in(
+    store: &[u8],
+    rows: &[u32],
+    work: &mut [u32],
+    out: &mut [u8],
+    places: &mut [u32],
+) -> Result<KeptCounts, Refusal>
     requires { (3 * length rows.now + length store.now + 65536 ≤ length work.old) × ((k : ℕ) → get_or work.old k 0 ≡ 0) }
-    ensures value { result ≡ keep_parsed (parse store.now) rows.now (length out.old) (length places.old) }
-    ensures out_after { out.new ≡ out_left (parse store.now) rows.now result out.old }
-    ensures places_after { places.new ≡ places_left (parse store.now) rows.now result places.old }
+    ensures value { kept result ≡ keep_parsed (parse store.now) rows.now (length out.old) (length places.old) }
+    ensures out_after { out.new ≡ out_left (parse store.now) rows.now (kept result) out.old }
+    ensures places_after { places.new ≡ places_left (parse store.now) rows.now (kept result) places.old }
 {
     if !whole_ok(store, work) {
-        return Kept::Refused(ReadError::BadStore as u8);
+        return Err(Refusal::BadStore);
     }
     if !rows_there(store, rows) {
-        return Kept::Refused(ReadError::NoRow as u8);
+        return Err(Refusal::NoRow);
     }
     if places.len() < rows.len() {
-        return Kept::Refused(Kept::PLACES_SHORT);
+        return Err(Refusal::PlacesShort);
     }
     keep_rows(store, rows, work, out, places)
 }
@@ -95,14 +101,14 @@ pub fn keep(
     work: &mut [u32],
     out: &mut [u8],
     places: &mut [u32],
-) -> Kept
-    ensures value { result ≡ keep_of store.now rows.now (length work.old) (length out.old) (length places.old) }
-    ensures out_after { out.new ≡ out_left (parse store.now) rows.now result out.old }
-    ensures places_after { places.new ≡ places_left (parse store.now) rows.now result places.old }
+) -> Result<KeptCounts, Refusal>
+    ensures value { kept result ≡ keep_of store.now rows.now (length work.old) (length out.old) (length places.old) }
+    ensures out_after { out.new ≡ out_left (parse store.now) rows.now (kept result) out.old }
+    ensures places_after { places.new ≡ places_left (parse store.now) rows.now (kept result) places.old }
     ensures work_after { work.new ≡ work_left (length store.now) (length rows.now) work.old }
 {
     if work.len() < keep_words(store.len(), rows.len()) {
-        return Kept::Refused(Kept::WORK_SHORT);
+        return Err(Refusal::WorkShort);
     }
     work.fill(0);
     let answer = keep_in(store, rows, work, out, places);

@@ -14,8 +14,7 @@ use Rattle.laws.proofs.Cases.Which.{holds, fails}
 use Rattle.reader.specs.Store.{bad_store, no_row}
 use Rattle.stores.specs.Stores.{Parsed, store_at, is_whole_ok, parse}
 use Rattle.stores.specs.Coordinates.{is_row_there}
-use Rattle.keeping.specs.declared.Kept.{Kept}
-use Rattle.keeping.specs.declared.Kept.TheVariants.{Done, Refused}
+use Rattle.keeping.specs.Answers.{Kept, Done, Refused}
 use Rattle.keeping.specs.Keeping.{work_short, places_short, kept_short, most_bytes, keeping_work, all_there, kept_bytes, is_too_long, done_of, last_of, keep_in, keep_parsed, keep_of}
 use Rattle.keeping.proofs.ThereLaws.{there-at}
 use Rattle.kept_rows.specs.Exactly.{RowsThere, Fits, Exactly}

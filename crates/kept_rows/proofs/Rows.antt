@@ -21,7 +21,7 @@ use Rattle.stores.proofs.ByCoordinates.{drop-same}
 use Rattle.stores.proofs.Kept.{drop-coordinates, drop-none, drop-parses}
 use Rattle.stores.proofs.Words.{place-outer, place-inner, word-reads}
 use Rattle.cutting.proofs.NameLaws.{has-place, has-at}
-use Rattle.keeping.specs.declared.Kept.TheVariants.{Done}
+use Rattle.keeping.specs.Answers.{Done}
 use Rattle.keeping.specs.Keeping.{all_there, kept_store, kept_bytes, keep_of, out_left, places_left}
 use Rattle.keeping.proofs.ThereLaws.{there-at}
 use Rattle.keeping.proofs.Told.{done-told, places-less}

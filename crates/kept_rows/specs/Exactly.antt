@@ -3,7 +3,7 @@ use Rattle.std.specs.Prelude.{◌≡◌, true, List, ◌↔◌, ℕ, ◌/◌, �
 use Rattle.reader.specs.Store.{bad_store, no_row}
 use Rattle.stores.specs.Stores.{Parsed, store_at, is_whole_ok}
 use Rattle.stores.specs.Coordinates.{is_row_there}
-use Rattle.keeping.specs.declared.Kept.TheVariants.{Refused}
+use Rattle.keeping.specs.Answers.{Refused}
 use Rattle.keeping.specs.Keeping.{work_short, places_short, kept_short, most_bytes, keeping_work, kept_bytes, done_of, keep_of}
 
 -- every entry names a row

@@ -37,7 +37,7 @@ use Rattle.accepted.proofs.ShortLaws.{Storable, fit}
 use Rattle.accepted.proofs.ReadBack.{Sized, shared-storable, own-storable}
 use Rattle.accepted.proofs.Accepted.{accepted, accepted-sized, store-front}
 use Rattle.accepted.proofs.WholeBack.{made_in, store-parsed}
-use Rattle.keeping.specs.declared.Kept.TheVariants.{Done}
+use Rattle.keeping.specs.Answers.{Done}
 use Rattle.keeping.specs.Keeping.{kept_bytes, keep_of, out_left, places_left}
 use Rattle.keeping.proofs.ThereLaws.{there-at}
 use Rattle.keeping.proofs.Told.{done-told}

@@ -33,8 +33,7 @@ use Rattle.listed.proofs.OrderedLaws.{distinct-once}
 use Rattle.recovering.specs.Recovering.{job_of, records_of}
 use Rattle.recovering.proofs.Walked.{job-long}
 use Rattle.tallying.specs.LentTally.{Tallied}
-use Rattle.recoverer.specs.declared.Recovered.{Recovered}
-use Rattle.recoverer.specs.declared.Recovered.TheVariants.{Done, Refused}
+use Rattle.recoverer.specs.Answers.{Recovered, Done, Refused}
 use Rattle.recoverer.specs.Recover.{look_no, bounds_refusal, late_no, recover_no, answer_for, left_for, work_left}
 
 -- ---- the header

@@ -11,8 +11,7 @@ use Rattle.stores.specs.Stores.{Parsed, store_at, parse, parses}
 use Rattle.stores.specs.Dropping.{row_count}
 use Rattle.stores.specs.Coordinates.{once}
 use Rattle.recovering.specs.Recovering.{job_of, records_of}
-use Rattle.recoverer.specs.declared.Recovered.{Recovered}
-use Rattle.recoverer.specs.declared.Recovered.TheVariants.{Done, Refused}
+use Rattle.recoverer.specs.Answers.{Recovered, Done, Refused}
 
 -- ---- the numbers of its own refusals
 

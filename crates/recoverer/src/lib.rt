@@ -6,6 +6,8 @@ ghost use Rattle.cells.specs.Lent.{Ahead};
 ghost use Rattle.reader.specs.Store.{is_header_ok};
 ghost use Rattle.stores.specs.Stores.{store_at, is_whole_ok};
 ghost use Rattle.stores.specs.Coordinates.{once};
+ghost use Rattle.refusals.specs.Refusals.{number_in};
+ghost use Rattle.recoverer.specs.Answers.{recovered};
 ghost use Rattle.recoverer.specs.Recover.{recovering_work, look_no, bounds_refusal, late_no, answer_for, left_for, recovered_of, job_left, work_left};
 
 use cells::look_ahead;
@@ -13,29 +15,17 @@ use job_writing::write_job;
 use limits::Limits;
 use listed::list_order;
 use reader::be;
+use refusals::Refusal;
 use stores::whole_ok;
 use tallying::tally;
 
-// Done: the job's bytes, axes, regions and sets; or a refusal's number.
-#[derive(Clone, Copy)]
-pub enum Recovered {
-    Done(usize, usize, usize, usize),
-    Refused(usize),
-}
-
-impl Recovered {
-    // The numbers of its own refusals.
-    pub const BAD_STORE: usize = 20;
-
-    pub const REGIONS_EQUAL: usize = 50;
-
-    pub const REGIONS_OR_AXES: usize = 51;
-
-    pub const JOB_TOO_LONG: usize = 52;
-
-    pub const JOB_SHORT: usize = 53;
-
-    pub const WORK_SHORT: usize = 4;
+// How much is read back.
+#[derive(Clone, Copy, Debug, PartialEq, Eq)]
+pub struct RecoveredCounts {
+    pub bytes: usize,
+    pub axes: usize,
+    pub regions: usize,
+    pub sets: usize,
 }
 
 // The words of work that a store of so many bytes needs.
@@ -59,76 +49,77 @@ fn all_once(store: &[u8], work: &mut [u32]) -> bool
     list_order(store, work, 0, n)
 }
 
-// R20 and R50, with work for scratch; 0 where both are passed.
+// R20 and R50, with work for scratch.
 #[tactic(auto, unfolding(crate::specs::Recover::look_no, said::specs::Refusals::first_failed))]
-fn look(store: &[u8], work: &mut [u32]) -> usize
+fn look(store: &[u8], work: &mut [u32]) -> Result<(), Refusal>
     requires { length store.now ≤ length work.old }
-    ensures { result ≡ look_no store.now }
+    ensures { number_in result ≡ look_no store.now }
 {
     work.fill(0);
     if !whole_ok(store, work) {
-        return Recovered::BAD_STORE;
+        return Err(Refusal::BadStore);
     }
     if !all_once(store, work) {
-        return Recovered::REGIONS_EQUAL;
+        return Err(Refusal::RegionsEqual);
     }
-    0
+    Ok(())
 }
 
 // R51.
 #[tactic(auto, unfolding(crate::specs::Recover::bounds_refusal, said::specs::Refusals::first_failed))]
-fn bounds_no(regions: usize, axes: usize) -> usize
-    ensures { result ≡ bounds_refusal regions axes }
+fn check_bounds(regions: usize, axes: usize) -> Result<(), Refusal>
+    ensures { number_in result ≡ bounds_refusal regions axes }
 {
     if Limits::REGIONS < regions {
-        return Recovered::REGIONS_OR_AXES;
+        return Err(Refusal::RegionsOrAxes);
     }
     if axes == 0 {
-        return Recovered::REGIONS_OR_AXES;
+        return Err(Refusal::RegionsOrAxes);
     }
     if (Limits::AXES as usize) < axes {
-        return Recovered::REGIONS_OR_AXES;
+        return Err(Refusal::RegionsOrAxes);
     }
-    0
+    Ok(())
 }
 
 // R51 to R53, and the job. Work says how many zeros follow from each byte on.
-fn finish(store: &[u8], work: &[u32], out: &mut [u8]) -> Recovered
+fn finish(store: &[u8], work: &[u32], out: &mut [u8]) -> Result<RecoveredCounts, Refusal>
     requires { (is_whole_ok store.now ≡ true) × Ahead store.now 0 work.now }
-    ensures value { result ≡ answer_for (store_at store.now) (late_no (store_at store.now) (length out.old)) }
+    ensures value { recovered result ≡ answer_for (store_at store.now) (late_no (store_at store.now) (length out.old)) }
     ensures out_after { out.new ≡ left_for (store_at store.now) (late_no (store_at store.now) (length out.old)) out.old }
 {
     let list = be(store, 2, 4);
     let axes = be(store, list, 2);
     let regions = be(store, list + 2, 2);
-    let no = bounds_no(regions, axes);
-    if no != 0 {
-        return Recovered::Refused(no);
-    }
+    check_bounds(regions, axes)?;
     let t = tally(store, work);
     if Limits::RECORDS < t.records {
-        return Recovered::Refused(Recovered::JOB_TOO_LONG);
+        return Err(Refusal::JobTooLong);
     }
     if out.len() < 12 * t.records {
-        return Recovered::Refused(Recovered::JOB_SHORT);
+        return Err(Refusal::JobShort);
     }
     write_job(out, store, work);
-    Recovered::Done(12 * t.records, axes, regions, t.sets)
+    Ok(RecoveredCounts {
+        bytes: 12 * t.records,
+        axes,
+        regions,
+        sets: t.sets,
+    })
 }
 
 // The job of a store, whatever its bytes are. A refusal writes nothing; work is as it was where it is too short, else all zeros.
-pub fn recover(store: &[u8], work: &mut [u32], out: &mut [u8]) -> Recovered
-    ensures value { result ≡ recovered_of store.now (length work.old) (length out.old) }
+pub fn recover(store: &[u8], work: &mut [u32], out: &mut [u8]) -> Result<RecoveredCounts, Refusal>
+    ensures value { recovered result ≡ recovered_of store.now (length work.old) (length out.old) }
     ensures work_after { work.new ≡ work_left (length store.now) work.old }
     ensures out_after { out.new ≡ job_left store.now (length work.old) out.old }
 {
     if work.len() < recover_words(store.len()) {
-        return Recovered::Refused(Recovered::WORK_SHORT);
+        return Err(Refusal::WorkShort);
     }
-    let no = look(store, work);
-    if no != 0 {
+    if let Err(refusal) = look(store, work) {
         work.fill(0);
-        return Recovered::Refused(no);
+        return Err(refusal);
     }
     look_ahead(store, work, 0);
     let answer = finish(store, work, out);

@@ -1,86 +1,79 @@
--- What was made of a store, taken apart into numbers; the numbers of its refusals are small. Assumes nothing.
-use mathlib.Core.Path.{◌≡◌, refl, sym, ap, subst, ◌∙◌}
-use mathlib.Core.Bool.{Bool, true, false, ◌&&◌}
+-- What was made of a store, told in numbers. Assumes nothing.
+use mathlib.Core.Path.{◌≡◌, refl, sym, ap, ◌∙◌}
+use mathlib.Core.Bool.{true, false}
 use mathlib.Core.List.{List, [], ◌∷◌}
-use Prim.Native.Nat.{ℕ, ◌*◌, ◌<◌}
-use native.Mathlib.Omega.{arith}
-use lib.Dec.{eqb, ltb, leb}
+use Prim.Native.Nat.{ℕ}
+use lib.Dec.{eqb}
 use lib.ListN.{length}
+use Rattle.std.specs.Prelude.{Result, Ok, Err}
 use Rattle.laws.specs.Pick.{pick}
-use Rattle.limits.specs.Limits.{most_records, most_axes, max_regions}
-use Rattle.reader.specs.Store.{bad_store}
-use Rattle.said.specs.Records.{record_bytes}
-use Rattle.said.specs.Refusals.{work_short, first_failed}
-use Rattle.stores.specs.Stores.{Parsed, store_at, parse, parses}
-use Rattle.stores.specs.Coordinates.{once}
-use Rattle.recovering.specs.Recovering.{records_of}
-use Rattle.recoverer.specs.declared.Recovered.{Recovered}
-use Rattle.recoverer.specs.declared.Recovered.TheVariants as recovered
-use Rattle.recoverer.specs.Recover.{regions_equal, regions_or_axes, job_too_long, job_short, recovering_work, recover_no, counts, answer_for, recovered_of, job_left, work_left}
+use Rattle.laws.proofs.Cases.{Which, which}
+use Rattle.laws.proofs.Cases.Which.{holds, fails}
+use Rattle.said.specs.Records.{record_at, first_wrong_byte}
+use Rattle.said.specs.Refusals.{not_zero, byte_of}
+use Rattle.refusals.specs.declared.Refusal.{Refusal}
+use Rattle.refusals.specs.Refusals.{number}
+use Rattle.stores.specs.Stores.{parse}
+use Rattle.recoverer.specs.declared.RecoveredCounts.{RecoveredCounts}
+use Rattle.recoverer.specs.Answers.{Recovered, recovered}
+use Rattle.recoverer.specs.Recover.{recovered_of, job_left, work_left}
+use Rattle.keeping.specs.declared.KeptCounts.{KeptCounts}
+use Rattle.keeping.specs.Answers.{Kept, kept}
+use Rattle.keeping.specs.Answers as keeping
 use Rattle.keeping.specs.Keeping.{keep_of, out_left, places_left}
 use Rattle.keeping.specs.Keeping as keep
-use Rattle.keeping.specs.declared.Kept.{Kept}
-use Rattle.keeping.specs.declared.Kept.TheVariants as kept
 use Rattle.reporting.specs.Answers.{refused_words, filled}
-use Rattle.store_words.specs.StoreWords.{count_words, recover_number, recovered_words, recover_few, kept_number, kept_words}
+use Rattle.reporting.proofs.ReportLaws.{filled-all}
+use Rattle.store_words.specs.StoreWords.{count_words, recover_number, recovered_words, kept_number, kept_words}
 use Rattle.store_words.specs.Told.{RecoverTold, KeepTold}
 
--- ---- a store read back into a job
+module _ (old : List ℕ) (sixteen-long : length old ≡ 16) where
+  few : (l : List ℕ) → length l ≡ 16 → l ≡ filled 0 l old
+  few l e = sym (filled-all l old (sixteen-long ∙ sym e))
 
-tests-few : (a b c d e f : Bool)
-    → first_failed ((a, work_short) ∷ (b, bad_store) ∷ (c, regions_equal) ∷ (d, regions_or_axes) ∷ (e, job_too_long) ∷ (f, job_short) ∷ []) < 4294967296
-unfolding first_failed
-tests-few false b c d e f = omega arith
-tests-few true false c d e f = omega arith
-tests-few true true false d e f = omega arith
-tests-few true true true false e f = omega arith
-tests-few true true true true false f = omega arith
-tests-few true true true true true false = omega arith
-tests-few true true true true true true = omega arith
+  counts-told : (b x y z : ℕ) → count_words b x y z ≡ filled 0 (count_words b x y z) old
+  unfolding count_words
+  counts-told b x y z = few (count_words b x y z) refl
 
-no-few : (s : List ℕ) (work out : ℕ) → recover_no s work out < 4294967296
-unfolding recover_no
-no-few s work out =
-    tests-few (leb (recovering_work (length s)) work) (parses (parse s)) (once (store_at s).regions)
-    (leb (length (store_at s).regions) max_regions && (ltb 0 (store_at s).axes && leb (store_at s).axes most_axes))
-    (leb (records_of (store_at s)) most_records) (leb (record_bytes * records_of (store_at s)) out)
+  refused-told : (n : ℕ) → refused_words n 0 0 ≡ filled 0 (refused_words n 0 0) old
+  unfolding refused_words
+  refused-told n = few (refused_words n 0 0) refl
 
-answer-few : (p : Parsed) (n : ℕ) → n < 4294967296 → recover_few (answer_for p n)
-unfolding answer_for
-answer-few p n h = go (eqb n 0)
-  where
-    go : (b : Bool) → recover_few (pick b (counts p) (recovered.Refused n))
-    go true = tt
-    go false = h
+  -- ---- a store read back into a job
 
-pub recover-few : (s : List ℕ) (work out : ℕ) (r : Recovered) → r ≡ recovered_of s work out → recover_few r
-recover-few s work out r e = subst recover_few (sym e) (answer-few (store_at s) (recover_no s work out) (no-few s work out))
-
-pub refused-number : (r : Recovered) (n : ℕ) → r ≡ recovered.Refused n → recover_few r → n < 4294967296
-refused-number r n e h = subst recover_few e h
-
-module _ (w old : List ℕ) where
-  pub recover-refused : (r : Recovered) (n : ℕ) → r ≡ recovered.Refused n → w ≡ filled 0 (refused_words n 0 0) old
-      → (n ≡ recover_number r) × (w ≡ filled 0 (recovered_words r) old)
+  pub recover-done : (r : Result RecoveredCounts Refusal) (c : RecoveredCounts) → r ≡ Ok c
+      → (0 ≡ recover_number (recovered r)) × (count_words c.bytes c.axes c.regions c.sets ≡ filled 0 (recovered_words (recovered r)) old)
   unfolding recover_number recovered_words
-  recover-refused r n e h = rw e (refl, h)
+  recover-done r c e = rw e (refl, counts-told c.bytes c.axes c.regions c.sets)
 
-  pub recover-done : (r : Recovered) (b a k s : ℕ) → r ≡ recovered.Done b a k s → w ≡ filled 0 (count_words b a k s) old
-      → (0 ≡ recover_number r) × (w ≡ filled 0 (recovered_words r) old)
+  pub recover-refused : (r : Result RecoveredCounts Refusal) (x : Refusal) → r ≡ Err x
+      → (number x ≡ recover_number (recovered r)) × (refused_words (number x) 0 0 ≡ filled 0 (recovered_words (recovered r)) old)
   unfolding recover_number recovered_words
-  recover-done r b a k s e h = rw e (refl, h)
+  recover-refused r x e = rw e (refl, refused-told (number x))
 
   -- ---- a store with only the rows in use
 
-  pub keep-refused : (r : Kept) (n : ℕ) → r ≡ kept.Refused n → w ≡ filled 0 (refused_words n 0 0) old
-      → (n ≡ kept_number r) × (w ≡ filled 0 (kept_words r) old)
+  pub keep-done : (r : Result KeptCounts Refusal) (c : KeptCounts) → r ≡ Ok c
+      → (0 ≡ kept_number (kept r)) × (count_words c.bytes c.tables c.regions c.rows ≡ filled 0 (kept_words (kept r)) old)
   unfolding kept_number kept_words
-  keep-refused r n e h = rw e (refl, h)
+  keep-done r c e = rw e (refl, counts-told c.bytes c.tables c.regions c.rows)
 
-  pub keep-done : (r : Kept) (b t k s : ℕ) → r ≡ kept.Done b t k s → w ≡ filled 0 (count_words b t k s) old
-      → (0 ≡ kept_number r) × (w ≡ filled 0 (kept_words r) old)
+  pub keep-refused : (r : Result KeptCounts Refusal) (x : Refusal) → r ≡ Err x
+      → (number x ≡ kept_number (kept r)) × (refused_words (number x) 0 0 ≡ filled 0 (kept_words (kept r)) old)
   unfolding kept_number kept_words
-  keep-done r b t k s e h = rw e (refl, h)
+  keep-refused r x e = rw e (refl, refused-told (number x))
+
+-- no byte of a call about a store is named: there is no record
+pub no-byte : (x : Refusal) → refused_words (number x) 0 (byte_of (number x) (record_at [] 0)) ≡ refused_words (number x) 0 0
+no-byte x = ap (refused_words (number x) 0) (byte-none (number x))
+  where
+    byte-none : (n : ℕ) → byte_of n (record_at [] 0) ≡ 0
+    unfolding byte_of
+    byte-none n = go (which (eqb n not_zero))
+      where
+        go : Which (eqb n not_zero) → pick (eqb n not_zero) (first_wrong_byte (record_at [] 0)) 0 ≡ 0
+        go (holds e) = rw e refl
+        go (fails e) = rw e refl
 
 -- ---- a call whole: what was answered, left and told
 
@@ -107,6 +100,6 @@ module _ {store work out work' out' report report' : List ℕ} {number : ℕ} wh
     }
 
 -- computed: a store of 31 bytes that is one subtable of one region and one row
-worked : kept_words (kept.Done 31 1 1 1) ≡ 0 ∷ 0 ∷ 31 ∷ 1 ∷ 1 ∷ 1 ∷ 0 ∷ 0 ∷ 0 ∷ 0 ∷ 0 ∷ 0 ∷ 0 ∷ 0 ∷ 0 ∷ 0 ∷ []
+worked : kept_words (keeping.Done 31 1 1 1) ≡ 0 ∷ 0 ∷ 31 ∷ 1 ∷ 1 ∷ 1 ∷ 0 ∷ 0 ∷ 0 ∷ 0 ∷ 0 ∷ 0 ∷ 0 ∷ 0 ∷ 0 ∷ 0 ∷ []
 unfolding kept_words count_words
 worked = refl

@@ -1,9 +1,9 @@
 -- What was made of a store, as the numbers that a host gets (RULES H8, H10). Assumes nothing.
-use Rattle.std.specs.Prelude.{List, [], ◌∷◌, ℕ, ◌<◌}
-use Rattle.recoverer.specs.declared.Recovered.{Recovered}
-use Rattle.recoverer.specs.declared.Recovered.TheVariants as recovered
-use Rattle.keeping.specs.declared.Kept.{Kept}
-use Rattle.keeping.specs.declared.Kept.TheVariants as kept
+use Rattle.std.specs.Prelude.{List, [], ◌∷◌, ℕ}
+use Rattle.recoverer.specs.Answers.{Recovered}
+use Rattle.recoverer.specs.Answers as recovered
+use Rattle.keeping.specs.Answers.{Kept}
+use Rattle.keeping.specs.Answers as kept
 use Rattle.reporting.specs.Answers.{refused_words}
 
 -- a report with four counts: 0 number, 1 place, 2 to 5 the counts, then zeros
@@ -21,11 +21,6 @@ recover_number (recovered.Done b a r s) = 0
 unfoldable pub recovered_words : Recovered → List ℕ
 recovered_words (recovered.Refused n) = refused_words n 0 0
 recovered_words (recovered.Done b a r s) = count_words b a r s
-
--- refusal numbers are words
-abbrev pub recover_few : Recovered → Type 0
-recover_few (recovered.Refused n) = n < 4294967296
-recover_few (recovered.Done b a r s) = Unit
 
 -- ---- a store with only the rows in use
 

@@ -1,27 +1,26 @@
 // A store with only the rows in use (#112), and what came of it told in a report.
 ghost use Rattle.std.specs.Prelude.{◌≡◌};
 ghost use Rattle.reporting.specs.Answers.{filled};
+ghost use Rattle.keeping.specs.Answers.{kept};
 ghost use Rattle.store_words.specs.StoreWords.{kept_number, kept_words};
 ghost use Rattle.store_words.specs.Told.{KeepTold};
 
-use crate::counts::tell_counts;
-use keeping::{Kept, keep};
+use crate::counts::count_words;
+use keeping::{KeptCounts, keep};
+use refusals::{Refusal, Refused};
 use reporting::tell_refused;
 
 // Fills the report; the refusal number, 0 for done.
-fn tell_kept(report: &mut [u64; 16], answer: Kept) -> u32
-    ensures value { result ≡ kept_number answer }
-    ensures report_after { report.new ≡ filled 0 (kept_words answer) report.old }
+fn tell_kept(report: &mut [u64; 16], answer: Result<KeptCounts, Refusal>) -> u32
+    ensures value { result ≡ kept_number (kept answer) }
+    ensures report_after { report.new ≡ filled 0 (kept_words (kept answer)) report.old }
 {
     match answer {
-        Kept::Refused(no) => {
-            tell_refused(report, no as usize, 0, 0);
-            no as u32
-        }
-        Kept::Done(bytes, tables, regions, rows) => {
-            tell_counts(report, bytes, tables, regions, rows);
+        Ok(c) => {
+            *report = count_words(c.bytes, c.tables, c.regions, c.rows);
             0
         }
+        Err(refusal) => tell_refused(report, &[], Refused { refusal, place: 0 }),
     }
 }
 

@@ -1,28 +1,26 @@
 // A store read back into a job (#105), and what came of it told in a report.
 ghost use Rattle.std.specs.Prelude.{◌≡◌};
 ghost use Rattle.reporting.specs.Answers.{filled};
-ghost use Rattle.store_words.specs.StoreWords.{recover_number, recovered_words, recover_few};
+ghost use Rattle.recoverer.specs.Answers.{recovered};
+ghost use Rattle.store_words.specs.StoreWords.{recover_number, recovered_words};
 ghost use Rattle.store_words.specs.Told.{RecoverTold};
 
-use crate::counts::tell_counts;
-use recoverer::{Recovered, recover};
+use crate::counts::count_words;
+use recoverer::{RecoveredCounts, recover};
+use refusals::{Refusal, Refused};
 use reporting::tell_refused;
 
 // Fills the report; the refusal number, 0 for done.
-fn tell_recovered(report: &mut [u64; 16], answer: Recovered) -> u32
-    requires { recover_few answer }
-    ensures value { result ≡ recover_number answer }
-    ensures report_after { report.new ≡ filled 0 (recovered_words answer) report.old }
+fn tell_recovered(report: &mut [u64; 16], answer: Result<RecoveredCounts, Refusal>) -> u32
+    ensures value { result ≡ recover_number (recovered answer) }
+    ensures report_after { report.new ≡ filled 0 (recovered_words (recovered answer)) report.old }
 {
     match answer {
-        Recovered::Refused(no) => {
-            tell_refused(report, no, 0, 0);
-            no as u32
-        }
-        Recovered::Done(bytes, axes, regions, sets) => {
-            tell_counts(report, bytes, axes, regions, sets);
+        Ok(c) => {
+            *report = count_words(c.bytes, c.axes, c.regions, c.sets);
             0
         }
+        Err(refusal) => tell_refused(report, &[], Refused { refusal, place: 0 }),
     }
 }
 

@@ -1,25 +1,13 @@
-use Rattle.store_words.proofs.StoreTells.{refused-number, recover-refused, recover-done}
-use native.Mathlib.Omega.{arith}
-use borrow.Author.Rules.{rules}
+use mathlib.Core.Path.{◌∙◌}
+use Rattle.store_words.proofs.StoreTells.{recover-done, recover-refused, no-byte}
 use Rattle.store_words.proofs.recovered.tell_recovered.Goals as goal
 
-pub enum_known-answer : goal.enum_known-answer
-enum_known-answer c = search rules
+pub returns-in-Ok : goal.returns-in-Ok
+returns-in-Ok c =
+    let p = recover-done c.args.report.now c.told-report c.args.answer c.in-Ok.c c.in-Ok.is in
+    record { value = p.0; report_after = c.count_words.ensures ∙ p.1 }
 
-pub tell_refused-requires : goal.tell_refused-requires
-tell_refused-requires c = search rules
-
-pub overflow_cast-result : goal.overflow_cast-result
-overflow_cast-result c = omega (arith, refused-number _ _ c.in-Refused.is c.requires)
-
-pub enum_known-answer-in-Done-1 : goal.enum_known-answer-in-Done-1
-enum_known-answer-in-Done-1 c = search rules
-
-pub tell_counts-requires : goal.tell_counts-requires
-tell_counts-requires c = search rules
-
-pub returns-in-Refused : goal.returns-in-Refused
-returns-in-Refused c = record { value = (recover-refused _ _ _ _ c.in-Refused.is c.tell_refused.ensures).0; report_after = (recover-refused _ _ _ _ c.in-Refused.is c.tell_refused.ensures).1 }
-
-pub returns-in-Done : goal.returns-in-Done
-returns-in-Done c = record { value = (recover-done _ _ _ _ _ _ _ c.in-Done.is c.tell_counts.ensures).0; report_after = (recover-done _ _ _ _ _ _ _ c.in-Done.is c.tell_counts.ensures).1 }
+pub returns-in-Err : goal.returns-in-Err
+returns-in-Err c =
+    let p = recover-refused c.args.report.now c.told-report c.args.answer c.in-Err.refusal c.in-Err.is in
+    record { value = c.tell_refused.ensures.value ∙ p.0; report_after = c.tell_refused.ensures.report_after ∙ (no-byte c.in-Err.refusal ∙ p.1) }
