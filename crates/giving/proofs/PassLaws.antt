@@ -5,6 +5,7 @@ use mathlib.Core.List.{List, [], ◌∷◌}
 use mathlib.Core.Logic.{⊎_elim}
 use Prim.Native.Nat.{ℕ, zero, suc, ◌+◌, ◌-◌, ◌*◌, ◌%◌, ◌^◌, ◌≤◌, ◌<◌}
 use native.Mathlib.Omega.{arith}
+use Rattle.laws.proofs.BytesLaws.{pow-top}
 use lib.IntN.{pos, negsuc}
 use lib.ListN.{length, get_or, set}
 use lib.Seq.{get_or-set_same, get_or-set_other}
@@ -24,13 +25,16 @@ use Rattle.giving.specs.declared.entries.Aims.{Aims}
 use Rattle.giving.specs.Lent.{column_of, cell_at, ColumnsFit, Nonzero, Passed}
 
 -- as many numbers as k bytes have, by a shift
-pub span-is : (k : ℕ) → k ≤ 4 → (1 * 2 ^ (8 * k)) % 2 ^ 64 ≡ 256 ^ k
-span-is zero h = refl
-span-is (suc zero) h = refl
-span-is (suc (suc zero)) h = refl
-span-is (suc (suc (suc zero))) h = refl
-span-is (suc (suc (suc (suc zero)))) h = refl
-span-is (suc (suc (suc (suc (suc k))))) h = absurd (omega arith)
+pub span_is : (k : ℕ) → k ≤ 4 → (1 * 2 ^ (8 * k)) % 2 ^ 64 ≡ 256 ^ k
+span_is zero h = refl
+span_is (suc zero) h = refl
+span_is (suc (suc zero)) h = refl
+span_is (suc (suc (suc zero))) h = refl
+span_is (suc (suc (suc (suc zero)))) h = refl
+span_is (suc (suc (suc (suc (suc k))))) h = absurd (omega arith)
+
+pub span_low : (k : ℕ) → k ≤ 4 → (1 * 2 ^ (8 * k)) % 2 ^ 64 ≤ 4294967296
+span_low k h = let p : 256 ^ k ≤ 256 ^ 4 = pow-top 4 {i = k} h in omega (arith, span_is k h)
 
 -- ---- one cell
 

@@ -9,6 +9,7 @@ use cells::next_cell;
 use reader::{be, column_at, column_bytes};
 
 // The word of the number that the k bytes from p are as two's complement.
+#[tactic(auto, using(crate::proofs::PassLaws::span_is, crate::proofs::PassLaws::span_low))]
 fn cell(store: &[u8], p: usize, k: usize) -> u32
     requires { (k ≤ 4) × (p + k ≤ length store.now) }
     ensures { value result ≡ signed k (be k store.now p) }

@@ -58,7 +58,7 @@ fn set_gives(store: &[u8], words: &[u32], k: usize, work: &mut [u32], t: Aims) -
     row_gives(store, at, inner, work, start, count, t)
 }
 
-// The first of so many sets whose row does not give it; their number where every row does.
+// The first of so many sets whose row does not give it; their number where every row does, as `FirstFailing` says and judging compares it.
 pub fn first_failing(store: &[u8], words: &[u32], sets: usize, work: &mut [u32], t: Aims) -> usize
     requires { (k : ℕ) → k < sets → SetsFit store.now k work.old t }
     ensures { FirstFailing store.now words.now sets t work.old work.new result }

@@ -15,13 +15,16 @@ use Rattle.recovering.specs.Recovering.{low_byte, high_byte, axis_record, value_
 use Rattle.job_writing.specs.LentWrite.{three_words}
 
 -- as many numbers as k bytes have, by a shift
-pub span-is : (k : ℕ) → k ≤ 4 → (1 * 2 ^ (8 * k)) % 2 ^ 64 ≡ 256 ^ k
-span-is zero h = refl
-span-is (suc zero) h = refl
-span-is (suc (suc zero)) h = refl
-span-is (suc (suc (suc zero))) h = refl
-span-is (suc (suc (suc (suc zero)))) h = refl
-span-is (suc (suc (suc (suc (suc k))))) h = absurd (omega arith)
+pub span_is : (k : ℕ) → k ≤ 4 → (1 * 2 ^ (8 * k)) % 2 ^ 64 ≡ 256 ^ k
+span_is zero h = refl
+span_is (suc zero) h = refl
+span_is (suc (suc zero)) h = refl
+span_is (suc (suc (suc zero))) h = refl
+span_is (suc (suc (suc (suc zero)))) h = refl
+span_is (suc (suc (suc (suc (suc k))))) h = absurd (omega arith)
+
+pub span_low : (k : ℕ) → k ≤ 4 → (1 * 2 ^ (8 * k)) % 2 ^ 64 ≤ 4294967296
+span_low k h = let p : 256 ^ k ≤ 256 ^ 4 = pow-top 4 {i = k} h in omega (arith, span_is k h)
 
 pub three-long : (a b c : ℕ) → length (three_words a b c) ≡ 12
 three-long a b c =

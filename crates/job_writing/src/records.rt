@@ -51,6 +51,7 @@ pub fn put_end(out: &mut [u8], at: usize)
 }
 
 // A number of k bytes, as two's complement, in four.
+#[tactic(auto, using(crate::proofs::RecordLaws::span_is, crate::proofs::RecordLaws::span_low))]
 pub fn in_four(k: usize, x: usize) -> u32
     requires { (k ≤ 4) × (x < 256 ^ k) }
     ensures { result ≡ twos 4 (signed k x) }

@@ -49,14 +49,6 @@ module _ (w : List ℕ) (regions groups n : ℕ) where
 
 -- ---- by the profile
 
-pub wide-plain : (p : Profile) (gs : List Final) → p ≡ Plain → false ≡ is_too_wide p gs
-unfolding is_too_wide
-wide-plain p gs e = rw e
-
-pub wide-panel : (p : Profile) (gs : List Final) → p ≡ Panel → is_some_wide gs ≡ is_too_wide p gs
-unfolding is_too_wide
-wide-panel p gs e = rw e
-
 -- ---- only shapes count
 
 pub wide-shapes : (f : List ℕ → List ℕ) (gs : List Final) → is_some_wide (map (λ (g : Final). record { shape = g.shape; ids = f g.ids }) gs) ≡ is_some_wide gs

@@ -31,6 +31,7 @@ fn some_wide(work: &[u32], t: Finals) -> bool
 }
 
 // Some group has more columns than the profile takes.
+#[tactic(auto, unfolding(crate::specs::Columns::is_too_wide))]
 pub fn too_wide(profile: Profile, work: &[u32], t: Finals) -> bool
     requires regions_le_max_regions { t.regions ≤ max_regions }
     requires count_in_bounds { t.groups + 3 * t.count ≤ length work.now }

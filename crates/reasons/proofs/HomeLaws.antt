@@ -46,9 +46,6 @@ pub record Sought (p : Places) (count : ℕ) (w : List ℕ) (x g : ℕ) : Type 0
   pub most : g ≤ count
   pub so : home_in x (finals_in p count w) ≡ g + home_in x (drop g (finals_in p count w))
 
-pub seek-none : (p : Places) (count : ℕ) (w : List ℕ) (x : ℕ) → Sought p count w x 0
-seek-none p count w x = record { most = omega arith; so = omega arith }
-
 module _ (p : Places) (count : ℕ) (w : List ℕ) where
   pub finals-long : length (finals_in p count w) ≡ count
   unfolding finals_in relabel finals_at

@@ -17,9 +17,9 @@ use Rattle.encoder.specs.declared.places.Places.{Places}
 use Rattle.encoder.specs.declared.encoded.Encoded.{Encoded}
 use Rattle.finding.specs.First.{first_at}
 use Rattle.reasons.specs.declared.reason.Reason.{Reason}
-use Rattle.reasons.specs.declared.reason.Reason.TheVariants.{Same, CutApart, NeverJoined}
+use Rattle.reasons.specs.declared.reason.Reason.TheVariants.{Same, NeverJoined}
 use Rattle.reasons.specs.Why.{home_in, final_no, counted, reason_in_group, apart_of, why_of}
-use Rattle.reasons.specs.LentReasons.{shape_spot, row_count, ids_in, finals_in, GroupsIn, ShapesIn, CostsIn, ReasonFit}
+use Rattle.reasons.specs.LentReasons.{shape_spot, row_count, ids_in, finals_in, GroupsIn, CostsIn, ReasonFit}
 use Rattle.reasons.proofs.RowLaws.{ids-long}
 use Rattle.reasons.proofs.HomeLaws.{final-in}
 
@@ -29,10 +29,6 @@ module _ (ids : List ℕ) (first second x y : ℕ) (e : x ≡ first_at first ids
   pub run-same : x / max_items ≡ y / max_items → Same ≡ reason_in_group ids first second
   unfolding reason_in_group
   run-same h = rw (← e, ← f, eq-eqb (x / max_items) (y / max_items) h) refl
-
-  pub run-cut : (x / max_items ≡ y / max_items → ⊥) → CutApart ≡ reason_in_group ids first second
-  unfolding reason_in_group
-  run-cut h = rw (← e, ← f, ne_eqb (x / max_items) (y / max_items) h) refl
 
 -- ---- two groups
 
@@ -45,15 +41,6 @@ unfolding apart_of
 apart_from g h x y d e = rw (← d, ← e) refl
 
 module _ (p : Places) (count a b : ℕ) (w : List ℕ) (f : CostsIn p count a b w) where
-  pub shapes-in : (g h s t m : ℕ) → g < count → h < count → s ≡ shape_spot p w g → t ≡ shape_spot p w h → m < 4294967296 → ShapesIn s t p.regions m w
-  shapes-in g h s t m k l d e few = rw (d, e) (record {
-    first_to = f.shapes-to g k;
-    second-to = f.shapes-to h l;
-    first-narrow = f.narrow g k;
-    second-narrow = f.narrow h l;
-    few = few;
-  })
-
   counted-in : (g m : ℕ) → g < count → m ≡ row_count p w g → counted (final_no (finals_in p count w) g) ≡ record { shape = seg (shape_spot p w g) p.regions w; sets = m }
   counted-in g m k e = ap counted (final-in p count w g k) ∙ ap (λ (n : ℕ). record { shape = seg (shape_spot p w g) p.regions w; sets = n }) (ids-long p g w (f.groups.each g k) ∙ sym e)
 

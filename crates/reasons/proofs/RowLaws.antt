@@ -36,9 +36,6 @@ pub record Walked (ids rows n : ℕ) (w : List ℕ) (x q : ℕ) : Type 0 where
   pub most : q ≤ n
   pub so : first_at x (ids_at ids rows n w) ≡ q + first_at x (drop q (ids_at ids rows n w))
 
-pub walk_none : (ids rows n : ℕ) (w : List ℕ) (x : ℕ) → Walked ids rows n w x 0
-walk_none ids rows n w x = record { most = omega arith; so = omega arith }
-
 module _ {ids rows n : ℕ} {w : List ℕ} (fit : AmongFit ids rows n w) where
   at_long : length (ids_at ids rows n w) ≡ n
   unfolding ids_at
@@ -74,12 +71,6 @@ module _ (p : Places) (g : ℕ) (w : List ℕ) (fit : RowsIn p g w) where
   unfolding ids_in
   ids-long =
       length-map (seg (rows_spot p w g) (row_count p w g) w) (label p w) ∙ length-seg (rows_spot p w g) (row_count p w g) w fit.rows-to
-
-  pub among-fit : AmongFit p.ids (rows_spot p w g) (row_count p w g) w
-  among-fit = record {
-    rows-to = fit.rows-to;
-    sets-in = all-imp (λ s (h : s < p.sets). omega (arith, fit.ids-to)) (seg (rows_spot p w g) (row_count p w g) w) fit.numbers;
-  }
 
   pub ids-same : ids_at p.ids (rows_spot p w g) (row_count p w g) w ≡ ids_in p w g
   unfolding ids_at ids_in

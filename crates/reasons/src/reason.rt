@@ -22,6 +22,7 @@ pub enum Reason {
 }
 
 // Of two ids of group g: whether the cut at so many rows parts them.
+#[tactic(auto, unfolding(crate::specs::Why::reason_in_group))]
 fn same_group(work: &[u32], p: Places, g: usize, first: u32, second: u32) -> Reason
     requires { RowsIn p g work.now }
     ensures { result ≡ reason_in_group (ids_in p work.now g) first second }

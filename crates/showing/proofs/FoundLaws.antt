@@ -41,10 +41,6 @@ module _ (job store ids map : List ℕ) (id what : ℕ) (p : Span) where
 -- ---- of what a build answered
 
 module _ (b : Built) (job store out ids map : List ℕ) (id what : ℕ) where
-  pub found-refused : (n at : ℕ) → b ≡ built.Refused n at → Refused n at ≡ found_of b job store out ids map id what
-  unfolding found_of
-  found-refused n at e = rw e refl
-
   module _ (r : Report) (e : b ≡ built.Done r) where
     pub fits_out : Fits b out map → r.bytes ≤ length out
     fits_out h = (subst (λ (x : Built). Fits x out map) e h).0
@@ -53,14 +49,6 @@ module _ (b : Built) (job store out ids map : List ℕ) (id what : ℕ) where
     fits-map h = (subst (λ (x : Built). Fits x out map) e h).1
 
     module _ (n : ℕ) (a : n ≡ asked_refusal r.ids r.bytes id id store out) where
-      pub found-asked : (n ≡ 0 → ⊥) → Refused n 0 ≡ found_of b job store out ids map id what
-      unfolding found_of
-      found-asked d = rw (e, ← a, ne_eqb n 0 d) refl
-
-      pub found_part : n ≡ 0 → (s : Shown) → s ≡ asked_part job store ids map id what → s ≡ found_of b job store out ids map id what
-      unfolding found_of
-      found_part z s f = rw (e, ← a, eq-eqb n 0 z) f
-
       pub found-id : Fits b out map → n ≡ 0 → id < length map
       found-id h z = omega (arith, fits-map h, (asked-none r.ids r.bytes id id store out (sym a ∙ z)).0)
 
