@@ -5,12 +5,8 @@ use mathlib.Core.Logic.{⊎_elim}
 use Prim.Native.Nat.{ℕ, ◌+◌, ◌≤◌, ◌<◌}
 use native.Mathlib.Omega.{arith}
 use lib.ListN.{length, get_or, set, take}
-use lib.Dec.{ltb}
 use lib.Seq.{get_or-set_same, get_or-set_other, get_or-take, length-take-le}
-use borrow.Author.Tests.{ltb-true, ltb-false}
-use mathlib.Core.Bool.{true, false}
 use Rattle.std.proofs.lemmas.List.{get_or_default}
-use Rattle.std.specs.List.Sorted.{IsNonDecreasingBy, IsPartitionPoint}
 use Rattle.laws.specs.LentRange.{Only}
 use Rattle.laws.proofs.Cases.{lt-or-ge, Tri, tri}
 use Rattle.laws.proofs.Cases.Tri.{below, same, above}
@@ -30,25 +26,25 @@ module _ {k : ℕ} {w : List ℕ} (r : Rising k w) (room : k ≤ length w) where
   word : (i d : ℕ) → i < k → get_or (take k w) i d ≡ get_or w i 0
   word i d h = get_or-take k w i d h ∙ get_or_default w i d 0 (omega arith)
 
-  pub in-order : IsNonDecreasingBy (λ y. y) (take k w)
-  in-order i j d p q =
+  pub in-order : (i j : ℕ) → i ≤ j → j < length (take k w) → get_or (take k w) i 0 ≤ get_or (take k w) j 0
+  in-order i j p q =
       let l : j < k = omega (arith, length-take-le k w room) in
       ⊎_elim
-      (λ (h : i < j). omega (arith, word i d (omega arith), word j d l, r.up i j h l))
+      (λ (h : i < j). omega (arith, word i 0 (omega arith), word j 0 l, r.up i j h l))
       (λ (h : j ≤ i). let e : i ≡ j = omega arith in rw e (omega arith))
       (lt-or-ge i j)
 
-  -- the first word that is not below x is x
-  pub found : {x i : ℕ} → Within k w x → IsPartitionPoint (λ y. ltb y x ≡ true) (λ y. ltb y x ≡ false) (take k w) i → FoundAt k w x i
-  found {x} {i} a p = go (tri i a.0)
-    where
-      go : Tri i a.0 → FoundAt k w x i
-      go (same e) = rw e (record { in-range = a.1; is = a.2 })
-      go (below l) =
-          let n : i < k = omega (arith, a.1) in
-          let h = ltb-false _ _ (p.1 i 0 (omega arith) (omega (arith, length-take-le k w room))) in
-          absurd (omega (arith, word i 0 n, r.up i a.0 l a.1, a.2))
-      go (above l) = let h = ltb-true _ _ (p.0 a.0 0 (omega arith) l) in absurd (omega (arith, word a.0 0 a.1, a.2))
+  -- what a search finds is x, and it finds it
+  pub found : {x i : ℕ} → (i < length (take k w)) × (get_or (take k w) i 0 ≡ x) → FoundAt k w x i
+  found {x} {i} p =
+      let h : i < k = omega (arith, length-take-le k w room) in
+      record { in-range = h; is = sym (word i 0 h) ∙ p.1 }
+
+  pub not-missed : {x i : ℕ} → Within k w x → (i ≤ length (take k w)) × ((j : ℕ) → j < i → get_or (take k w) j 0 < x) × ((j : ℕ) → i ≤ j → j < length (take k w) → x < get_or (take k w) j 0) → ⊥
+  not-missed {x} {i} a p = ⊎_elim
+      (λ (h : a.0 < i). omega (arith, p.1 a.0 h, word a.0 0 a.1, a.2))
+      (λ (h : i ≤ a.0). omega (arith, p.2 a.0 h (omega (arith, length-take-le k w room)), word a.0 0 a.1, a.2))
+      (lt-or-ge a.0 i)
 
 -- ---- places
 

@@ -7,7 +7,10 @@ fn find(work: &[u32], k: usize, x: u32) -> usize
     requires { (k ≤ length work.now) × Rising k work.now × Within k work.now x }
     ensures { FoundAt k work.now x result }
 {
-    work[..k].partition_point(|&y| y < x)
+    match work[..k].binary_search(&x) {
+        Ok(i) => i,
+        Err(i) => i,
+    }
 }
 
 // Each word's new place, which stands `to` words behind it.

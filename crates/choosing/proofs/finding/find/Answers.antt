@@ -1,11 +1,16 @@
-use Rattle.std.proofs.Common.{ltb, rules, take}
-use Rattle.std.proofs.lemmas.List.Sorted.{IsPartitionPoint-from_clause, IsPartitionedBy-ltb}
-use Rattle.choosing.proofs.FindLaws.{in-order, found}
+use Rattle.std.proofs.Common.{take}
+use Rattle.std.proofs.lemmas.List.Sorted.{searched}
+use Rattle.choosing.proofs.FindLaws.{in-order, found, not-missed}
 use Rattle.choosing.proofs.finding.find.Goals as goal
 
-pub returns : goal.returns
-returns c =
+pub returns-in-Ok : goal.returns-in-Ok
+returns-in-Ok c =
     let words = take c.args.k c.args.work.now in
-    let up = in-order c.requires.1 c.requires.0 in
-    found c.requires.1 c.requires.0 c.requires.2
-    (IsPartitionPoint-from_clause (λ y. ltb y c.args.x) words _ c.partition_point.ensures.partitioned (IsPartitionedBy-ltb (λ y. y) words c.args.x up) (λ a r q k. search rules))
+    let s = searched words c.args.x _ c.binary_search.ensures.position (in-order c.requires.1 c.requires.0) in
+    found c.requires.1 c.requires.0 (rw c.in-Ok.is at s)
+
+pub returns-in-Err : goal.returns-in-Err
+returns-in-Err c =
+    let words = take c.args.k c.args.work.now in
+    let s = searched words c.args.x _ c.binary_search.ensures.position (in-order c.requires.1 c.requires.0) in
+    absurd (not-missed c.requires.1 c.requires.0 c.requires.2 (rw c.in-Err.is at s))
