@@ -4,9 +4,13 @@ use mathlib.Core.List.{List, [], ◌∷◌, map}
 use mathlib.Core.Logic.{⊎_elim}
 use Prim.Native.Nat.{ℕ, ◌+◌, ◌-◌, ◌*◌, ◌≤◌, ◌<◌}
 use native.Mathlib.Omega.{arith}
-use lib.ListN.{length, get_or, take, drop, set, length-set, replicate, length-replicate, get_or-replicate, get_or-eq_default}
-use lib.Seq.{get_or-set_same, get_or-set_other}
+use lib.ListN.{length, get_or, take, drop, replicate, length-replicate, get_or-replicate, get_or-eq_default}
 use borrow.Author.Tests.{ne_eqb}
+use borrow.Rule.Slice.PartMut.{put_mid}
+use Rattle.laws.proofs.RangeLaws.{get_or-seg}
+use lib.ListN.{length-drop}
+use lib.Seq.{length-take-le}
+use Rattle.laws.proofs.PartLaws.{only-mid, seg-mid}
 use Rattle.laws.specs.Bag.{sum}
 use Rattle.laws.specs.Every.{All}
 use Rattle.laws.specs.Bounded.{tabulate, up_to}
@@ -15,14 +19,14 @@ use Rattle.laws.proofs.Cases.{lt-or-ge}
 use Rattle.laws.proofs.ListLaws.{map-self}
 use Rattle.laws.proofs.EveryLaws.{all-imp}
 use Rattle.laws.proofs.Products.{row_fits}
-use Rattle.laws.proofs.RangeLaws.{only-trans, only_set, only-weaken, only-widen, only-seg, seg-none, seg-ext}
+use Rattle.laws.proofs.RangeLaws.{only-trans, only-weaken, only-widen, only-seg, seg-none, seg-ext}
 use Rattle.laws.proofs.UpLaws.{up_at, up-all}
 use Rattle.shapes.specs.Shape.{Shape, join}
 use Rattle.shapes.proofs.ShapeLaws.{join-length}
 use Rattle.shapes.specs.Group.{group_cost}
-use Rattle.shapes.specs.Lent.{Narrow, Measured, Small, cost_of}
+use Rattle.shapes.specs.Lent.{Narrow, Measured, cost_of}
 use Rattle.shapes.proofs.GroupLaws.{cost-measured}
-use Rattle.shapes.proofs.LentLaws.{narrow-small, narrow-join}
+use Rattle.shapes.proofs.LentLaws.{narrow-join}
 use Rattle.sets.specs.Set.{Set}
 use Rattle.sets.specs.Lent.{sets_in, CountedUp}
 use Rattle.sets.proofs.HeldLaws.{Kept, kept-only, kept_trans, held_kept, set_same, sets_same, sets-length, sets-at}
@@ -38,49 +42,33 @@ use Rattle.encoder.specs.declared.places.Places.{Places}
 use Rattle.encoder.specs.Packed.{own, one_cost}
 use Rattle.encoder.specs.LentPlaces.{Laid}
 use Rattle.encoder.specs.Lent.{group_at, Fit, relabel, origins_in, FinalIn, OwnAt}
-use Rattle.encoder.specs.LentOwn.{WordsFit, WordsAt, CostFit, group_cost_at}
+use Rattle.encoder.specs.LentOwn.{WordsFit, WordsAt, group_cost_of}
 use Rattle.encoder.proofs.PlacesLaws.{room-one}
 
 -- ---- the three words of a group
 
-pub words-put : (group shape rows n : ℕ) (w : List ℕ) → WordsFit group shape rows n w
-    → WordsAt group shape rows n w (set (set (set w group shape) (group + 1) rows) (group + 2) n)
-words-put group shape rows n w f =
-    let u = set w group shape in
-    let v = set u (group + 1) rows in
-    let lu : length u ≡ length w = length-set w group shape in
-    let lv : length v ≡ length u = length-set u (group + 1) rows in
-    record {
-      only =
-          only-trans
-          (only-trans
-          (only_set ((group, 3) ∷ []) w group shape (λ o. omega (arith, o.0.apart (omega arith))))
-          (only_set ((group, 3) ∷ []) u (group + 1) rows (λ o. omega (arith, o.0.apart (omega arith)))))
-          (only_set ((group, 3) ∷ []) v (group + 2) n (λ o. omega (arith, o.0.apart (omega arith))));
-      shape_is =
-          get_or-set_other v (group + 2) group n 0 (omega arith)
-          ∙ get_or-set_other u (group + 1) group rows 0 (omega arith)
-          ∙ get_or-set_same w group shape 0 (omega (arith, f.room));
-      rows_is = get_or-set_other v (group + 2) (group + 1) n 0 (omega arith) ∙ get_or-set_same u (group + 1) rows 0 (omega (arith, f.room));
-      n-is = get_or-set_same v (group + 2) n 0 (omega (arith, f.room));
-    }
+module _ (group shape rows n : ℕ) (w s : List ℕ) (room : group + 3 ≤ length w) (is : s ≡ shape ∷ rows ∷ n ∷ []) where
+  fits : length s ≡ group + 3 - group
+  fits = let z : 3 ≡ group + 3 - group = omega arith in ap length is ∙ z
+
+  word : (k : ℕ) → k < 3 → get_or (put_mid group (group + 3 - group) w s) (group + k) 0 ≡ get_or (shape ∷ rows ∷ n ∷ []) k 0
+  word k h = sym (get_or-seg group 3 (put_mid group (group + 3 - group) w s) k h) ∙ ap (λ (x : List ℕ). get_or x k 0) (seg-mid group 3 w s room fits ∙ is)
+
+  pub words-put : WordsAt group shape rows n w (put_mid group (group + 3 - group) w s)
+  words-put =
+      let z : group + 0 ≡ group = omega arith in
+      record {
+        only = only-mid group 3 w s room fits;
+        shape_is = rw z at (word 0 (omega arith));
+        rows_is = word 1 (omega arith);
+        n-is = word 2 (omega arith);
+      }
 
 -- ---- the cost of a shape in lent words
 
-module _ (at regions n : ℕ) (w : List ℕ) (f : CostFit at regions n w) where
-  pub part-narrow : Narrow (take (at + regions - at) (drop at w))
-  part-narrow = rw (part-seg at regions w) f.narrow
-
-  module _ (row cols : ℕ) (m : Measured (take (at + regions - at) (drop at w)) row cols) where
-    measured : Measured (seg at regions w) row cols
-    measured = rw (part-seg at regions w) at m
-
-    pub cost-small : Small row cols
-    cost-small = narrow-small (seg at regions w) row cols f.narrow measured
-
-    pub cost-done : cost_of row cols n ≡ group_cost_at at regions n w
-    unfolding group_cost_at
-    cost-done = sym (cost-measured (seg at regions w) row cols n measured)
+pub cost-done : (s : List ℕ) (n row cols : ℕ) → Measured s row cols → cost_of row cols n ≡ group_cost_of s n
+unfolding group_cost_of
+cost-done s n row cols m = sym (cost-measured s row cols n m)
 
 -- ---- one group of sets
 
@@ -179,11 +167,19 @@ module _ {p : Places} {w : List ℕ} (f : Fit p w) (some : 0 < p.sets) where
           }
 
       module _ {x : List ℕ} (c : CoverAt 0 p.sets p.slots (p.slots + p.regions) p.regions v x) where
-        pub words-fit : WordsFit p.finals p.slots p.rows p.sets x
+        pub words-room : p.finals + 3 ≤ length x
+        words-room = let o = order in omega (arith, o.group-rows, laid.rows-to, line-rows.long, c.only.long)
+
+        pub words-at : {s : List ℕ} → s ≡ p.slots ∷ p.rows ∷ p.sets ∷ [] → WordsAt p.finals p.slots p.rows p.sets x (put_mid p.finals (p.finals + 3 - p.finals) x s)
+        words-at {s} e = words-put p.finals p.slots p.rows p.sets x s words-room e
+
+        pub words-long : length (take (p.finals + 3 - p.finals) (drop p.finals x)) ≡ 3
+        words-long = length-take-le (p.finals + 3 - p.finals) (drop p.finals x) (omega (arith, length-drop p.finals x, words-room)) ∙ omega arith
+
+        pub words-fit : WordsFit p.slots p.rows p.sets
         words-fit =
             let o = order in
             record {
-              room = omega (arith, o.group-rows, laid.rows-to, line-rows.long, c.only.long);
               shape-few = omega (arith, o.slots-group, o.group-rows, laid.few);
               rows_few = omega (arith, laid.few);
               n-few = omega (arith, laid.few);
@@ -239,17 +235,17 @@ module _ {p : Places} {w : List ℕ} (f : Fit p w) (some : 0 < p.sets) where
           narrow-shape : Narrow (seg p.slots p.regions y)
           narrow-shape = rw shape_is (one-narrow p.regions all (omega (arith, laid.regions-few)))
 
-          pub cost-fit : CostFit p.slots p.regions p.sets y
-          cost-fit =
-              let o = order in
-              record {
-                room = omega (arith, o.slots-group, o.group-rows, laid.rows-to, long);
-                narrow = narrow-shape;
-                few = omega (arith, laid.few);
-              }
+          pub cost-room : p.slots + p.regions ≤ length y
+          cost-room = let o = order in omega (arith, o.slots-group, o.group-rows, laid.rows-to, long)
 
-          cost-is : group_cost_at p.slots p.regions p.sets y ≡ one_cost p.regions all
-          unfolding group_cost_at
+          pub cost-narrow : Narrow (take (p.slots + p.regions - p.slots) (drop p.slots y))
+          cost-narrow = rw (part-seg p.slots p.regions y) narrow-shape
+
+          pub cost-few : p.sets < 4294967296
+          cost-few = omega (arith, laid.few)
+
+          cost-is : group_cost_of (seg p.slots p.regions y) p.sets ≡ one_cost p.regions all
+          unfolding group_cost_of
           cost-is = rw shape_is (one-cost p.regions all p.sets all-long some)
 
           only-behind : Only ((p.line, length w) ∷ []) w y
@@ -296,11 +292,12 @@ module _ {p : Places} {w : List ℕ} (f : Fit p w) (some : 0 < p.sets) where
               let n : get_or y (p.finals + 3 * 0 + 2) 0 ≡ p.sets = ap (λ (k : ℕ). get_or y (k + 2) 0) e ∙ g.n-is in
               omega (arith, n)
 
-          pub own-done : (cost : ℕ) → cost ≡ group_cost_at p.slots p.regions p.sets y
+          pub own-done : (cost : ℕ) → cost ≡ group_cost_of (take (p.slots + p.regions - p.slots) (drop p.slots y)) p.sets
               → OwnAt p w y (record { distinct = p.sets; count = 1; groups = 0; merges = 0; weighed = 0; before = cost; after = cost })
           unfolding own words relabel origins_in tabulate
-          own-done cost q =
+          own-done cost e =
               let o = order in
+              let q : cost ≡ group_cost_of (seg p.slots p.regions y) p.sets = e ∙ ap (λ (z : List ℕ). group_cost_of z p.sets) (part-seg p.slots p.regions y) in
               record {
                 only = only-behind;
                 result = record {

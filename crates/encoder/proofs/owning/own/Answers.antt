@@ -1,4 +1,4 @@
-use Rattle.encoder.proofs.OwnLaws.{ids-fit, rows_fit, slots-few, cover-fit, words-fit, cost-fit, own-done}
+use Rattle.encoder.proofs.OwnLaws.{ids-fit, rows_fit, slots-few, cover-fit, words-room, words-at, words-long, words-fit, cost-room, cost-narrow, cost-few, own-done}
 use native.Mathlib.Omega.{arith}
 use Rattle.encoder.proofs.owning.own.Goals as goal
 
@@ -18,11 +18,34 @@ overflow_add-p c = let q = c.requires in omega (arith, slots-few q.fit q.sets_no
 pub cover-requires : goal.cover-requires
 cover-requires c = let q = c.requires in cover-fit q.fit q.sets_nonzero c.own_ids.ensures c.own_ids-2.ensures
 
-pub put_group-requires : goal.put_group-requires
-put_group-requires c = let q = c.requires in words-fit q.fit q.sets_nonzero c.own_ids.ensures c.own_ids-2.ensures c.cover.ensures
+pub slice_bounds-put_group-end : goal.slice_bounds-put_group-end
+slice_bounds-put_group-end c = let q = c.requires in omega (arith, words-room q.fit q.sets_nonzero c.own_ids.ensures c.own_ids-2.ensures c.cover.ensures)
 
-pub cost_at-cost-requires : goal.cost_at-cost-requires
-cost_at-cost-requires c = let q = c.requires in cost-fit q.fit q.sets_nonzero c.own_ids.ensures c.own_ids-2.ensures c.cover.ensures c.put_group.ensures
+pub put_group-requires : goal.put_group-requires
+put_group-requires c =
+    let q = c.requires in
+    record {
+      long = words-long q.fit q.sets_nonzero c.own_ids.ensures c.own_ids-2.ensures c.cover.ensures;
+      few = words-fit q.fit q.sets_nonzero c.own_ids.ensures c.own_ids-2.ensures c.cover.ensures;
+    }
+
+pub slice_bounds-cost_of-end : goal.slice_bounds-cost_of-end
+slice_bounds-cost_of-end c =
+    let q = c.requires in
+    let g = words-at q.fit q.sets_nonzero c.own_ids.ensures c.own_ids-2.ensures c.cover.ensures c.put_group.ensures in
+    omega (arith, cost-room q.fit q.sets_nonzero c.own_ids.ensures c.own_ids-2.ensures c.cover.ensures g)
+
+pub cost_of-cost-requires : goal.cost_of-cost-requires
+cost_of-cost-requires c =
+    let q = c.requires in
+    let g = words-at q.fit q.sets_nonzero c.own_ids.ensures c.own_ids-2.ensures c.cover.ensures c.put_group.ensures in
+    record {
+      narrow = cost-narrow q.fit q.sets_nonzero c.own_ids.ensures c.own_ids-2.ensures c.cover.ensures g;
+      few = cost-few q.fit q.sets_nonzero c.own_ids.ensures c.own_ids-2.ensures c.cover.ensures g;
+    }
 
 pub returns : goal.returns
-returns c = let q = c.requires in own-done q.fit q.sets_nonzero c.own_ids.ensures c.own_ids-2.ensures c.cover.ensures c.put_group.ensures _ c.cost_at-cost.ensures
+returns c =
+    let q = c.requires in
+    own-done q.fit q.sets_nonzero c.own_ids.ensures c.own_ids-2.ensures c.cover.ensures
+    (words-at q.fit q.sets_nonzero c.own_ids.ensures c.own_ids-2.ensures c.cover.ensures c.put_group.ensures) _ c.cost_of-cost.ensures
