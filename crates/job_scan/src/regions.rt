@@ -13,12 +13,10 @@ fn write_region(job: &[u8], p: usize, axes: usize, work: &mut [u32], at: usize)
     requires { (p + region_length axes ≤ length job.now) × (at + 2 * (3 * axes) ≤ length work.old) × (axes ≤ most_axes) }
     ensures { RegionAt at (3 * axes) (coordinates axes (drop p job.now)) work.old work.new }
 {
-    let mut k = 0;
-    while k < 3 * axes {
+    for k in 0..3 * axes {
         let v = coordinate(job, p, k);
         work[at + 2 * k] = k as u32;
         work[at + 2 * k + 1] = v;
-        k += 1;
     }
 }
 
@@ -35,14 +33,12 @@ fn write_regions(
     requires regions_bound { (index + 2 * regions ≤ body) × (body + regions * (6 * axes) ≤ 4294967295) }
     ensures { RegionsAt index body axes regions job.now work.old work.new }
 {
-    let mut r = 0;
     let mut p = 0;
     let mut start = body;
-    while r < regions {
+    for r in 0..regions {
         write_region(job, p, axes, work, start);
         work[index + 2 * r] = start as u32;
         work[index + 2 * r + 1] = (3 * axes) as u32;
-        r += 1;
         p += region_long(axes);
         start += 6 * axes;
     }

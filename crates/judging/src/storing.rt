@@ -24,12 +24,10 @@ pub fn all_first(work: &[u32], first: usize, n: usize) -> bool
     requires { first + n ≤ length work.now }
     ensures { Firsts work.now first n result }
 {
-    let mut q = 0;
-    while q < n {
+    for q in 0..n {
         if wide(work[first + q]) != q {
             return false;
         }
-        q += 1;
     }
     true
 }
@@ -39,11 +37,7 @@ fn fill(work: &mut [u32], at: usize, n: usize)
     requires { at + n ≤ length work.old }
     ensures { Filled at n work.old work.new }
 {
-    let mut i = 0;
-    while i < n {
-        work[at + i] = ZERO;
-        i += 1;
-    }
+    work[at..at + n].fill(ZERO);
 }
 
 // The word of zero for each of n words from `at` on; behind them, for each byte of the store, how many zeros there are from it on.

@@ -10,7 +10,7 @@ use refusals::Refused;
 
 // A refusal: its number and place, the byte within the record, and zeros.
 #[tactic(auto, unfolding(crate::specs::Answers::refused_words))]
-fn refused_words(no: u32, at: usize, byte: usize) -> [u64; 16]
+pub fn refused_words(no: u32, at: usize, byte: usize) -> [u64; 16]
     ensures { result ≡ refused_words no at byte }
 {
     let (no, at, byte) = (no as u64, at as u64, byte as u64);

@@ -1,16 +1,9 @@
 -- What was made of a store, told in numbers. Assumes nothing.
 use mathlib.Core.Path.{◌≡◌, refl, sym, ap, ◌∙◌}
-use mathlib.Core.Bool.{true, false}
 use mathlib.Core.List.{List, [], ◌∷◌}
 use Prim.Native.Nat.{ℕ}
-use lib.Dec.{eqb}
 use lib.ListN.{length}
 use Rattle.std.specs.Prelude.{Result, Ok, Err}
-use Rattle.laws.specs.Pick.{pick}
-use Rattle.laws.proofs.Cases.{Which, which}
-use Rattle.laws.proofs.Cases.Which.{holds, fails}
-use Rattle.said.specs.Records.{record_at, first_wrong_byte}
-use Rattle.said.specs.Refusals.{not_zero, byte_of}
 use Rattle.refusals.specs.declared.Refusal.{Refusal}
 use Rattle.refusals.specs.Refusals.{number}
 use Rattle.stores.specs.Stores.{parse}
@@ -62,18 +55,6 @@ module _ (old : List ℕ) (sixteen-long : length old ≡ 16) where
       → (number x ≡ kept_number (kept r)) × (refused_words (number x) 0 0 ≡ filled 0 (kept_words (kept r)) old)
   unfolding kept_number kept_words
   keep-refused r x e = rw e (refl, refused-told (number x))
-
--- no byte of a call about a store is named: there is no record
-pub no-byte : (x : Refusal) → refused_words (number x) 0 (byte_of (number x) (record_at [] 0)) ≡ refused_words (number x) 0 0
-no-byte x = ap (refused_words (number x) 0) (byte-none (number x))
-  where
-    byte-none : (n : ℕ) → byte_of n (record_at [] 0) ≡ 0
-    unfolding byte_of
-    byte-none n = go (which (eqb n not_zero))
-      where
-        go : Which (eqb n not_zero) → pick (eqb n not_zero) (first_wrong_byte (record_at [] 0)) 0 ≡ 0
-        go (holds e) = rw e refl
-        go (fails e) = rw e refl
 
 -- ---- a call whole: what was answered, left and told
 

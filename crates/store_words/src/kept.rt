@@ -7,8 +7,8 @@ ghost use Rattle.store_words.specs.Told.{KeepTold};
 
 use crate::counts::count_words;
 use keeping::{KeptCounts, keep};
-use refusals::{Refusal, Refused};
-use reporting::tell_refused;
+use refusals::Refusal;
+use reporting::refused_words;
 
 // Fills the report; the refusal number, 0 for done.
 fn tell_kept(report: &mut [u64; 16], answer: Result<KeptCounts, Refusal>) -> u32
@@ -20,7 +20,11 @@ fn tell_kept(report: &mut [u64; 16], answer: Result<KeptCounts, Refusal>) -> u32
             *report = count_words(c.bytes, c.tables, c.regions, c.rows);
             0
         }
-        Err(refusal) => tell_refused(report, &[], Refused { refusal, place: 0 }),
+        Err(refusal) => {
+            let no = u32::from(refusal);
+            *report = refused_words(no, 0, 0);
+            no
+        }
     }
 }
 

@@ -7,8 +7,8 @@ ghost use Rattle.store_words.specs.Told.{RecoverTold};
 
 use crate::counts::count_words;
 use recoverer::{RecoveredCounts, recover};
-use refusals::{Refusal, Refused};
-use reporting::tell_refused;
+use refusals::Refusal;
+use reporting::refused_words;
 
 // Fills the report; the refusal number, 0 for done.
 fn tell_recovered(report: &mut [u64; 16], answer: Result<RecoveredCounts, Refusal>) -> u32
@@ -20,7 +20,11 @@ fn tell_recovered(report: &mut [u64; 16], answer: Result<RecoveredCounts, Refusa
             *report = count_words(c.bytes, c.axes, c.regions, c.sets);
             0
         }
-        Err(refusal) => tell_refused(report, &[], Refused { refusal, place: 0 }),
+        Err(refusal) => {
+            let no = u32::from(refusal);
+            *report = refused_words(no, 0, 0);
+            no
+        }
     }
 }
 

@@ -1,4 +1,4 @@
-use Prim.Native.Nat.{◌-◌, ◌*◌}
+use Prim.Native.Nat.{◌*◌}
 use lib.ListN.{drop}
 use Rattle.said.specs.Sets.{coordinates}
 use Rattle.job_scan.proofs.WriteLaws.{Writing}
@@ -6,6 +6,3 @@ use Rattle.job_scan.proofs.regions.write_region.Given as goal
 
 abbrev pub invariant-loop-k : goal.invariant-loop-k
 invariant-loop-k l = Writing l.at (3 * l.axes) (coordinates l.axes (drop l.p l.job)) l.initial.work l.work l.k
-
-abbrev pub decreases-loop-k : goal.decreases-loop-k
-decreases-loop-k l = 3 * l.axes - l.k

@@ -1,5 +1,7 @@
-use mathlib.Core.Path.{◌∙◌}
-use Rattle.store_words.proofs.StoreTells.{keep-done, keep-refused, no-byte}
+use mathlib.Core.Path.{ap, ◌∙◌}
+use Prim.Native.Nat.{ℕ}
+use Rattle.reporting.specs.Answers.{refused_words}
+use Rattle.store_words.proofs.StoreTells.{keep-done, keep-refused}
 use Rattle.store_words.proofs.kept.tell_kept.Goals as goal
 
 pub returns-in-Ok : goal.returns-in-Ok
@@ -10,4 +12,4 @@ returns-in-Ok c =
 pub returns-in-Err : goal.returns-in-Err
 returns-in-Err c =
     let p = keep-refused c.args.report.now c.told-report c.args.answer c.in-Err.refusal c.in-Err.is in
-    record { value = c.tell_refused.ensures.value ∙ p.0; report_after = c.tell_refused.ensures.report_after ∙ (no-byte c.in-Err.refusal ∙ p.1) }
+    record { value = c.from-no.ensures ∙ p.0; report_after = c.refused_words.ensures ∙ (ap (λ (n : ℕ). refused_words n 0 0) c.from-no.ensures ∙ p.1) }
