@@ -108,6 +108,17 @@ fn finish(store: &[u8], work: &[u32], out: &mut [u8]) -> Result<RecoveredCounts,
     })
 }
 
+// With room for the scratch, which is left as it comes.
+fn recover_in(store: &[u8], work: &mut [u32], out: &mut [u8]) -> Result<RecoveredCounts, Refusal>
+    requires { recovering_work (length store.now) ≤ length work.old }
+    ensures value { recovered result ≡ recovered_of store.now (length work.old) (length out.old) }
+    ensures out_after { out.new ≡ job_left store.now (length work.old) out.old }
+{
+    look(store, work)?;
+    look_ahead(store, work, 0);
+    finish(store, work, out)
+}
+
 // The job of a store, whatever its bytes are. A refusal writes nothing; work is as it was where it is too short, else all zeros.
 pub fn recover(store: &[u8], work: &mut [u32], out: &mut [u8]) -> Result<RecoveredCounts, Refusal>
     ensures value { recovered result ≡ recovered_of store.now (length work.old) (length out.old) }
@@ -117,12 +128,7 @@ pub fn recover(store: &[u8], work: &mut [u32], out: &mut [u8]) -> Result<Recover
     if work.len() < recover_words(store.len()) {
         return Err(Refusal::WorkShort);
     }
-    if let Err(refusal) = look(store, work) {
-        work.fill(0);
-        return Err(refusal);
-    }
-    look_ahead(store, work, 0);
-    let answer = finish(store, work, out);
+    let answer = recover_in(store, work, out);
     work.fill(0);
     answer
 }

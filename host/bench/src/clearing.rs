@@ -1,15 +1,15 @@
 //! How much of a build is the clearing of its work and its pair records.
 //!
 //! Clearing may take most of a small build, so that the rest cannot be told by taking
-//! one time from another. The library clears each by one call of `memset` over all of it;
-//! the linker is told (../build.rs) to bring every such call of this program here, where
-//! the clock is read if it is one of the two.
+//! one time from another. The library clears each by one call of `memset` over all of it,
+//! or over all but its last item; the linker is told (../build.rs) to bring every such call
+//! of this program here, where the clock is read if it is one of the two.
 
 // It calls, and is called by, what is not Rust.
 #![allow(unsafe_code)]
 
 use std::cell::Cell;
-use std::mem::size_of_val;
+use std::mem::{size_of, size_of_val};
 use std::time::Duration;
 
 use ivs::Pair;
@@ -37,8 +37,10 @@ extern "C" {
 /// As for `memset`: `count` bytes from `to` on can be written.
 #[no_mangle]
 unsafe extern "C" fn __wrap_memset(to: *mut u8, byte: i32, count: usize) -> *mut u8 {
-    let place = (to as usize, count);
-    let Some(part) = WATCHED.get().iter().position(|watched| *watched == place) else {
+    let all = |&(at, long): &(usize, usize)| {
+        at == to as usize && count <= long && long <= count + size_of::<Pair>()
+    };
+    let Some(part) = WATCHED.get().iter().position(all) else {
         // SAFETY: the caller's promise is passed on.
         return unsafe { __real_memset(to, byte, count) };
     };
