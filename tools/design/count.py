@@ -36,11 +36,19 @@ def verdict_of(place, lines):
     return ("yes" if place.rule in rules.NEED_NO_READING else "unread"), ""
 
 
-def places_of(source):
-    """All candidates, each with its verdict."""
+def begun_at():
+    """The commit at which the work began: the page's first line."""
+    with open(os.path.join(HERE, "..", "..", "docs", "DESIGN-PASS.md"), encoding="utf-8") as file:
+        return file.readline().strip()
+
+
+def places_of(source, commit):
+    """All candidates, each with its verdict. What is done was a place at the beginning, and is none since."""
     lines = judged()
     found = rules.all_places(source, lines)
-    return [(place, *verdict_of(place, lines)) for place in found]
+    read = [(place, *verdict_of(place, lines)) for place in found]
+    done = "yes" if commit and begun_at().startswith(commit) else "no"
+    return [(place, done if verdict == "done" else verdict, why) for place, verdict, why in read]
 
 
 def by_crate(places):
@@ -118,7 +126,7 @@ def value_of(words, option):
 
 
 def show_all(source, commit, options, only):
-    places = places_of(source)
+    places = places_of(source, commit)
     print(f"design: {'commit ' + commit if commit else 'the checkout as it stands'}")
     for point, title in list(rules.POINTS.items())[:-1]:
         if only in (None, point):
@@ -140,7 +148,7 @@ def main(words):
         return 2
     commit = rest[0] if rest else None
     if since:
-        show_table(places_of(Source(since)), places_of(Source(commit)))
+        show_table(places_of(Source(since), since), places_of(Source(commit), commit))
         proofs.show_row(texts_of(since, "proofs", "specs", "src"), texts_of(commit, "proofs", "specs", "src"))
         return 0
     show_all(Source(commit), commit, options, only)

@@ -1,4 +1,5 @@
 // The entry point of the forecast: what a build would answer, with nothing lent to write to. A host asks, lends exactly, and builds.
+// A function for each C call, with numbers alone in and out, no Option, Result or enum: C calls it by `ivs_c`.
 ghost use Rattle.call.specs.Lending.{lending, no_buffers};
 ghost use Rattle.ivs.specs.Answered.{Forecasted};
 

@@ -1,4 +1,5 @@
 // The library's entry points. They turn answers into numbers, and do nothing else. What a host links (libivs.a) is `ivs_c`, which exports them.
+// A function for each C call, with numbers alone in and out, no Option, Result or enum: C calls it by `ivs_c`.
 #![tactic(auto)]
 
 mod foretelling;

@@ -1,4 +1,5 @@
 // The entry point that tells where two sets of a job part.
+// A function for each C call, with numbers alone in and out, no Option, Result or enum: C calls it by `ivs_c`.
 ghost use Rattle.std.specs.Prelude.{◌≡◌, length};
 ghost use Rattle.limits.specs.Limits.{pair_records};
 ghost use Rattle.job.specs.Check.{work_left};

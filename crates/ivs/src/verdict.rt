@@ -1,4 +1,5 @@
 // The entry points that judge a store which another program built.
+// A function for each C call, with numbers alone in and out, no Option, Result or enum: C calls it by `ivs_c`.
 ghost use Rattle.std.specs.Prelude.{◌≡◌};
 ghost use Rattle.judging.specs.Judge.{judging_work};
 ghost use Rattle.verdict_words.specs.Told.{JudgeTold};

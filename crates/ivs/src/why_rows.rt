@@ -1,4 +1,5 @@
 // The entry point that tells why two ids of a job are where they are: the job is built anew in mode 0, in memory lent for it, and looked at.
+// A function for each C call, with numbers alone in and out, no Option, Result or enum: C calls it by `ivs_c`.
 ghost use Rattle.finishing.specs.Buffers.{buffers};
 ghost use Rattle.call.specs.Lending.{lending, leaves};
 ghost use Rattle.ivs.specs.Asked.{WhyAnswered};

@@ -1,4 +1,5 @@
 // The entry point of the forecast: what a build would answer, with nothing lent to write to. A host asks, lends exactly, and builds.
+// Numbers alone in and out, no Option, Result or enum: C calls these.
 ghost use Rattle.call.specs.Lending.{lending, no_buffers};
 ghost use Rattle.ivs.specs.Answered.{Forecasted};
 

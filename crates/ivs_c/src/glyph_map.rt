@@ -1,4 +1,5 @@
 // The entry points of the glyph map: written whole, and read one glyph at a time.
+// Numbers alone in and out, no Option, Result or enum: C calls these.
 ghost use Rattle.std.specs.Prelude.{◌≡◌, length};
 ghost use Rattle.glyphs.specs.Answers.{glyphs_of, glyphs_left};
 ghost use Rattle.glyphs.specs.Reading.{read_map};

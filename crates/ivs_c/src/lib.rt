@@ -1,4 +1,5 @@
 // The entry points of `ivs` under their C names: what a host links (libivs.a). Each calls the function of `ivs` that has its name.
+// Numbers alone in and out, no Option, Result or enum: C calls these.
 #![tactic(auto)]
 
 mod foretelling;

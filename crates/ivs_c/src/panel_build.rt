@@ -1,4 +1,5 @@
 // The entry point that builds for the panel's reader.
+// Numbers alone in and out, no Option, Result or enum: C calls these.
 ghost use Rattle.finishing.specs.Buffers.{buffers};
 ghost use Rattle.call.specs.Lending.{lending, leaves};
 ghost use Rattle.ivs.specs.Answered.{PanelAnswered};

@@ -1,4 +1,5 @@
 // The entry points that read a store back into a job.
+// Numbers alone in and out, no Option, Result or enum: C calls these.
 ghost use Rattle.std.specs.Prelude.{◌≡◌};
 ghost use Rattle.recoverer.specs.Recover.{recovering_work};
 ghost use Rattle.store_words.specs.Told.{RecoverTold};

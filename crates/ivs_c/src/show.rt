@@ -1,5 +1,6 @@
 // The entry point that tells where the bytes lie that show an id: the job is built anew in mode 0, in memory lent for it. What is told is the part of job
 // or store that `shown` hands back: its length is the part's own, and it starts there by `shown`'s contract.
+// Numbers alone in and out, no Option, Result or enum: C calls these.
 ghost use Rattle.finishing.specs.Buffers.{buffers};
 ghost use Rattle.call.specs.Lending.{lending, leaves};
 ghost use Rattle.ivs.specs.Asked.{ShowAnswered};

@@ -1,4 +1,5 @@
 // The entry points that drop the rows of a store which nobody uses.
+// Numbers alone in and out, no Option, Result or enum: C calls these.
 ghost use Rattle.std.specs.Prelude.{◌≡◌};
 ghost use Rattle.keeping.specs.Keeping.{keeping_work};
 ghost use Rattle.store_words.specs.Told.{KeepTold};

@@ -1,4 +1,5 @@
 // The entry points of the width table (HVAR): written whole, and read one glyph and region at a time.
+// Numbers alone in and out, no Option, Result or enum: C calls these.
 ghost use Rattle.std.specs.Prelude.{◌≡◌, length};
 ghost use Rattle.widths.specs.Answers.{widths_of, widths_left};
 ghost use Rattle.widths.specs.Reading.{width_reading};

@@ -41,7 +41,7 @@ fn words_of(standing: Standing) -> [u64; 16]
     }
 }
 
-// Fills the report; the refusal number, 0 where the sets were compared.
+// Fills the report; the refusal number, 0 where the sets were compared, as C gets it.
 pub fn tell_parted(report: &mut [u64; 16], job: &[u8], answer: Result<Standing, Refused>) -> u32
     requires { part_within job.now (parted answer) }
     ensures value { result ≡ part_number (parted answer) }

@@ -54,7 +54,7 @@ pub fn tell_refused(report: &mut [u64; 16], job: &[u8], refused: Refused) -> u32
     no
 }
 
-// Fills the report; the refusal number, 0 for done.
+// Fills the report; the refusal number, 0 for done, as C gets it.
 pub fn tell(report: &mut [u64; 16], job: &[u8], answer: Result<Report, Refused>) -> u32
     requires { byte_within job.now (built answer) }
     ensures value { result ≡ number_of (built answer) }

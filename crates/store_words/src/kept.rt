@@ -10,7 +10,7 @@ use keeping::{KeptCounts, keep};
 use refusals::Refusal;
 use reporting::refused_words;
 
-// Fills the report; the refusal number, 0 for done.
+// Fills the report; the refusal number, 0 for done, as C gets it.
 fn tell_kept(report: &mut [u64; 16], answer: Result<KeptCounts, Refusal>) -> u32
     ensures value { result ≡ kept_number (kept answer) }
     ensures report_after { report.new ≡ filled 0 (kept_words (kept answer)) report.old }
@@ -28,7 +28,7 @@ fn tell_kept(report: &mut [u64; 16], answer: Result<KeptCounts, Refusal>) -> u32
     }
 }
 
-// The store with only the rows of a list, and each entry's new place: the refusal number, 0 for done; the report has all numbers of the answer.
+// The store with only the rows of a list, and each entry's new place: the refusal number, 0 for done; the report has all that C gets.
 pub fn keep_told(
     store: &[u8],
     rows: &[u32],

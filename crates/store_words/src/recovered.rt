@@ -10,7 +10,7 @@ use recoverer::{RecoveredCounts, recover};
 use refusals::Refusal;
 use reporting::refused_words;
 
-// Fills the report; the refusal number, 0 for done.
+// Fills the report; the refusal number, 0 for done, as C gets it.
 fn tell_recovered(report: &mut [u64; 16], answer: Result<RecoveredCounts, Refusal>) -> u32
     ensures value { result ≡ recover_number (recovered answer) }
     ensures report_after { report.new ≡ filled 0 (recovered_words (recovered answer)) report.old }
@@ -28,7 +28,7 @@ fn tell_recovered(report: &mut [u64; 16], answer: Result<RecoveredCounts, Refusa
     }
 }
 
-// The job of a store, whatever its bytes are: the refusal number, 0 for done; the report has all numbers of the answer.
+// The job of a store, whatever its bytes are: the refusal number, 0 for done; the report has all that C gets.
 pub fn recover_told(store: &[u8], work: &mut [u32], out: &mut [u8], report: &mut [u64; 16]) -> u32
     ensures { RecoverTold store.now work.old out.old result work.new out.new report.old report.new }
 {

@@ -4,7 +4,7 @@ ghost use Rattle.verdict_words.specs.Told.{JudgeTold};
 use crate::verdict::tell_judged;
 use judging::judge;
 
-// Looks at every job, store and list of words: the refusal number, 0 where the store was judged; the report has all numbers of the answer.
+// Looks at every job, store and list of words: the refusal number, 0 where the store was judged; the report has all that C gets.
 pub fn judge_told(
     axes: u32,
     job: &[u8],

@@ -28,7 +28,7 @@ fn words_of(verdict: Verdict) -> [u64; 16]
     }
 }
 
-// Fills the report; the refusal number, 0 where the store was judged.
+// Fills the report; the refusal number, 0 where the store was judged, as C gets it.
 pub fn tell_judged(report: &mut [u64; 16], job: &[u8], answer: Result<Verdict, Refused>) -> u32
     requires { judge_within job.now (judged answer) }
     ensures value { result ≡ judge_number (judged answer) }

@@ -18,7 +18,7 @@ fn span_words(at: usize, long: usize) -> [u64; 16]
     [0, 0, at, long, 0, 0, 0, 0, 0, 0, 0, 0, 0, 0, 0, 0]
 }
 
-// Fills the report; the refusal number, 0 where a part was found. The part's own length is told.
+// Fills the report; the refusal number, 0 where a part was found, as C gets it. The part's own length is told.
 pub fn tell_shown<'a>(
     report: &mut [u64; 16],
     job: &'a [u8],

@@ -44,7 +44,7 @@ fn words_of(reason: Explained) -> [u64; 16]
     }
 }
 
-// Fills the report; the refusal number, 0 where there is a reason.
+// Fills the report; the refusal number, 0 where there is a reason, as C gets it.
 pub fn tell_why(report: &mut [u64; 16], job: &[u8], answer: Result<Explained, Refused>) -> u32
     requires { why_at job.now (why_of answer) }
     ensures value { result ≡ why_number (why_of answer) }
