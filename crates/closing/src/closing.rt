@@ -47,7 +47,7 @@ fn finish_none(
 }
 
 // Packs the sets of a job that was opened by a profile, looks whether it takes the columns, and finishes.
-pub fn close(
+pub fn close_stage(
     profile: Profile,
     job: &[u8],
     work: &mut [u32],

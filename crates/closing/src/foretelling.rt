@@ -37,7 +37,7 @@ fn tell_size(done: Report) -> Result<Report, Refused>
 }
 
 // Packs the sets of a job that was opened by their mode, and measures.
-pub fn foresee(work: &mut [u32], s: Stage, m: Merged) -> Result<Report, Refused>
+pub fn foresee_stage(work: &mut [u32], s: Stage, m: Merged) -> Result<Report, Refused>
     requires { ForetellFit s m work.old }
     ensures { (axes mode : ℕ) (job : List ℕ) (o : Outcome) (mid : List ℕ) → Read axes mode job o (Ok s) mid → Joined s m mid work.old → built result ≡ foretold_from axes mode o }
 {

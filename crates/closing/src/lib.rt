@@ -4,5 +4,5 @@
 mod closing;
 mod foretelling;
 
-pub use closing::close;
-pub use foretelling::foresee;
+pub use closing::close_stage;
+pub use foretelling::foresee_stage;

@@ -12,7 +12,7 @@ use opening::Stage;
 use reasons::{Reason, reason_of};
 
 // Arranges the groups of a job that was opened in mode 0, and looks where both ids are.
-pub fn look_close(work: &mut [u32], s: Stage, m: Merged, first: u32, second: u32) -> Reason
+pub fn look_stage(work: &mut [u32], s: Stage, m: Merged, first: u32, second: u32) -> Reason
     requires { LookFit s m work.old }
     ensures { (axes : ℕ) (job : List ℕ) (o : Outcome) (mid : List ℕ) → Read axes 0 job o (Ok s) mid → Joined s m mid work.old → result ≡ why_from o first second }
 {

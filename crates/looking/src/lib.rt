@@ -3,4 +3,4 @@
 
 mod closing;
 
-pub use crate::closing::look_close;
+pub use crate::closing::look_stage;

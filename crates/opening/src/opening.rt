@@ -67,7 +67,7 @@ fn place_starts(work: &mut [u32], at: usize, n: usize, axes: usize)
 }
 
 // Reads the records of a job that was not refused before its first record, by a profile, and groups its sets in mode 0.
-pub fn open(
+pub fn open_records(
     profile: Profile,
     axes: usize,
     mode: u32,

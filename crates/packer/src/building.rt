@@ -10,12 +10,12 @@ ghost use Rattle.call.specs.Lending.{lending, leaves};
 ghost use Rattle.closing.specs.LentClosed.{RecordsBuilt};
 ghost use Rattle.packer.specs.Promised.{ObeysBy};
 
-use closing::close;
+use closing::close_stage;
 use encoder::tables;
 use finishing::Report;
 use job::check_early;
 use merging::optimize;
-use opening::open;
+use opening::open_records;
 use pairs::{Pair, clear_pairs};
 use panel::Profile;
 use records::records_in;
@@ -39,9 +39,9 @@ fn build_records(
     ensures { RecordsBuilt profile axes mode (panelled profile job.now (records_from axes mode job.now job.now (record_count job.now) 0 in_axes)) (built result) (buffers out.old ids.old map.old log.old origins.old) (buffers out.new ids.new map.new log.new origins.new) }
 {
     let records = records_in(job.len());
-    let stage = open(profile, axes as usize, mode, job, records, work)?;
+    let stage = open_records(profile, axes as usize, mode, job, records, work)?;
     let merged = optimize(pairs, work, tables(stage.places, stage.groups));
-    close(
+    close_stage(
         profile, job, work, stage, merged, out, ids, map, log, origins,
     )
 }

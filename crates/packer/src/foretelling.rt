@@ -8,12 +8,12 @@ ghost use Rattle.call.specs.Foretold.{foretold_from};
 ghost use Rattle.call.specs.Lending.{lending, no_buffers};
 ghost use Rattle.packer.specs.Promised.{Foretells};
 
-use closing::foresee;
+use closing::foresee_stage;
 use encoder::tables;
 use finishing::Report;
 use job::check_early;
 use merging::optimize;
-use opening::open;
+use opening::open_records;
 use pairs::{Pair, clear_pairs};
 use panel::Profile;
 use records::records_in;
@@ -31,9 +31,9 @@ fn foretell_records(
     ensures { built result ≡ foretold_from axes mode (records_from axes mode job.now job.now (record_count job.now) 0 in_axes) }
 {
     let records = records_in(job.len());
-    let stage = open(Profile::Plain, axes as usize, mode, job, records, work)?;
+    let stage = open_records(Profile::Plain, axes as usize, mode, job, records, work)?;
     let merged = optimize(pairs, work, tables(stage.places, stage.groups));
-    foresee(work, stage, merged)
+    foresee_stage(work, stage, merged)
 }
 
 // Takes every job, sound or not. Refusals 1 to 4 leave all as it was; after any other answer work and pair records are zeros.

@@ -6,7 +6,7 @@ ghost use Rattle.part_words.specs.PartWords.{value_of_64_bits, standing_words, p
 
 use parting::Standing;
 use refusals::Refused;
-use reporting::tell_refused;
+use reporting::tell_refusal;
 
 // The value of a word of work, as two's complement of 64 bits.
 fn long_value(w: u32) -> u64
@@ -52,6 +52,6 @@ pub fn tell_parted(report: &mut [u64; 16], job: &[u8], answer: Result<Standing, 
             *report = words_of(standing);
             0
         }
-        Err(refused) => tell_refused(report, job, refused),
+        Err(refused) => tell_refusal(report, job, refused),
     }
 }

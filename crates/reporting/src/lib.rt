@@ -3,4 +3,4 @@
 
 mod report;
 
-pub use report::{refused_words, tell, tell_refused};
+pub use report::{refused_words, tell, tell_refusal};

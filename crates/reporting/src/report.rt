@@ -43,7 +43,7 @@ fn done_words(d: Report) -> [u64; 16]
 }
 
 // Fills the report with a refusal, and the byte that it names; its number.
-pub fn tell_refused(report: &mut [u64; 16], job: &[u8], refused: Refused) -> u32
+pub fn tell_refusal(report: &mut [u64; 16], job: &[u8], refused: Refused) -> u32
     requires { AtRecord job.now refused }
     ensures value { result ≡ number refused.refusal }
     ensures report_after { report.new ≡ words_of job.now refused }
@@ -65,6 +65,6 @@ pub fn tell(report: &mut [u64; 16], job: &[u8], answer: Result<Report, Refused>)
             *report = done_words(done);
             0
         }
-        Err(refused) => tell_refused(report, job, refused),
+        Err(refused) => tell_refusal(report, job, refused),
     }
 }

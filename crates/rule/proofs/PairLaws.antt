@@ -1,14 +1,13 @@
 -- What is true of each pair of a list of living groups, and of the pair that is chosen. Assumes nothing.
 use mathlib.Core.Path.{◌≡◌, refl, ap, subst, sym}
-use mathlib.Core.Logic.{◌⊎◌, inl, inr, ⊎_elim}
+use mathlib.Core.Logic.{◌⊎◌, inl, inr}
 use mathlib.Core.Option.{Option, none, some}
 use mathlib.Core.List.{List, [], ◌∷◌, ◌++◌, map}
 use Prim.Native.Nat.{ℕ, zero, suc, ◌+◌, ◌<◌}
 use lib.ListN.{length}
 use native.Mathlib.Omega.{arith}
 use Rattle.laws.specs.Bag.{weigh}
-use Rattle.laws.specs.Pick.{pick}
-use Rattle.laws.specs.Order.{compared, then_by, is_most}
+use Rattle.laws.specs.Order.{then_by, is_most}
 use Rattle.laws.specs.Every.{All, EachTwo}
 use Rattle.laws.proofs.Cases.{Tri, tri}
 use Rattle.laws.proofs.Cases.Tri.{below, same, above}

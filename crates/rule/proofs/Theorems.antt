@@ -11,7 +11,7 @@ use Rattle.laws.specs.Bag.{weigh}
 use Rattle.laws.specs.Every.{All, EachTwo}
 use Rattle.laws.proofs.Cases.{same_or_not}
 use Rattle.laws.proofs.EveryLaws.{all-imp, all-and, all_append, two-imp, two-end}
-use Rattle.shapes.specs.Group.{Group, group_cost, gain}
+use Rattle.shapes.specs.Group.{Group, group_cost}
 use Rattle.shapes.specs.Shape.{join}
 use Rattle.shapes.proofs.ShapeLaws.{join-length}
 use Rattle.shapes.proofs.GroupLaws.{joined-shape, joined-sets, gain-comm, gain-falls, clash}

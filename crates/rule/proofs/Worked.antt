@@ -2,7 +2,6 @@
 -- into `shapes`.
 use mathlib.Core.Path.{◌≡◌, refl}
 use mathlib.Core.List.{List, [], ◌∷◌, map}
-use Rattle.laws.specs.Pick.{pick}
 use Prim.Native.Nat.{ℕ}
 use Rattle.laws.specs.Order.{compared, then_by, is_most}
 use Rattle.laws.specs.Bag.{weigh}

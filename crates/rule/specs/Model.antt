@@ -1,6 +1,6 @@
 -- Merging (RULES M1 to M9), on lists: numbers, living groups, the best pair, the next unused number. It computes. What
 -- a group costs, what two gain and what they become is `shapes`' own; nothing here looks into it. Assumes nothing.
-use Rattle.std.specs.Prelude.{◌≡◌, List, [], ◌∷◌, ◌++◌, map, ℕ, zero, suc, ◌+◌, ◌≤◌, ◌<◌, length}
+use Rattle.std.specs.Prelude.{◌≡◌, List, [], ◌∷◌, ◌++◌, map, ℕ, zero, suc, ◌+◌, ◌≤◌, length}
 use Rattle.std.proofs.Math.Option.{Option, none, some}
 use Rattle.laws.specs.Pick.{pick}
 use Rattle.laws.specs.Order.{compared, then_by, is_most}

@@ -1,14 +1,11 @@
 -- Sets that are held below a word: they stay while only words behind it change. Assumes nothing.
-use mathlib.Core.Path.{◌≡◌, refl, sym, ap, ap₂, ◌∙◌}
-use mathlib.Core.Bool.{Bool, true, false}
+use mathlib.Core.Path.{◌≡◌, refl, ap, ◌∙◌}
 use mathlib.Core.List.{List, [], ◌∷◌}
-use Prim.Native.Nat.{ℕ, zero, suc, ◌+◌, ◌-◌, ◌*◌, ◌≤◌, ◌<◌}
+use Prim.Native.Nat.{ℕ, zero, suc, ◌+◌, ◌*◌, ◌≤◌, ◌<◌}
 use native.Mathlib.Omega.{arith}
 use lib.ListN.{length, get_or}
 use Rattle.laws.specs.LentRange.{Outside, Only}
 use Rattle.laws.proofs.BoundedLaws.{length-tabulate, get_or-tabulate, tabulate-same}
-use Rattle.sets.specs.Set.{Set, Ascending, Proper}
-use Rattle.sets.specs.Order.{order}
 use Rattle.sets.specs.Lent.{entries, entries_at, count_of, set_of, Stored, Held, sets_in, is_first_of_like, Behind, at_most}
 
 pub behind-outside : {end : ℕ} (rs : List (ℕ × ℕ)) (k : ℕ) → Behind end rs → k < end → Outside rs k

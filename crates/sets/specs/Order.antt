@@ -1,6 +1,6 @@
 -- The order of sets, and where two of them part (RULES F1): by their values from region 0 up, zero where a set has none.
 -- Words are ordered as the values are (`word-order` of laws).
-use Rattle.std.specs.Prelude.{◌≡◌, List, [], ◌∷◌, ℕ, ◌≤◌, ◌<◌, ltb}
+use Rattle.std.specs.Prelude.{◌≡◌, [], ◌∷◌, ℕ, ◌≤◌, ◌<◌, ltb}
 use Rattle.std.specs.declared.cmp.Ordering.{Ordering}
 use Rattle.std.specs.declared.cmp.Ordering.TheVariants.{Less, Equal, Greater}
 use Rattle.laws.specs.Pick.{pick}

@@ -2,11 +2,12 @@
 use mathlib.Core.Path.{◌≡◌, sym, ap, ◌∙◌}
 use mathlib.Core.List.{List}
 use mathlib.Core.Logic.{⊎_elim}
-use Prim.Native.Nat.{ℕ, ◌<◌}
+use Prim.Native.Nat.{ℕ, ◌+◌, ◌<◌}
 use native.Mathlib.Omega.{arith}
 use lib.ListN.{length, get_or}
 use lib.Seq.{ext_get_or}
 use Rattle.laws.proofs.Cases.{lt-or-ge, same_or_not}
+use Rattle.laws.proofs.OnceLaws.{only-both, only_same, only_none}
 use Rattle.std.specs.declared.cmp.Ordering.{Ordering}
 use Rattle.std.specs.declared.cmp.Ordering.TheVariants.{Less, Equal, Greater}
 use Rattle.shapes.specs.Shape.{Shape}
@@ -15,10 +16,10 @@ use Rattle.shapes.proofs.OrderLaws.{order-self}
 use Rattle.table.specs.declared.Shapes.{Shapes}
 use Rattle.std.specs.Prelude.{Ok, Err}
 use Rattle.std.specs.declared.result.Result.{Result}
-use Rattle.table.specs.LentTable.{Searchable, FoundAt, FoundGap, FoundIn, InsertedIn}
+use Rattle.table.specs.LentTable.{Searchable, FoundAt, FoundGap, FoundIn, InsertedIn, InsertedAt}
 
-pub inserted-once : {i w : ℕ} {old u v : List ℕ} → length u ≡ length v → InsertedIn i w old u → InsertedIn i w old v → u ≡ v
-inserted-once {i} {w} {old} {u} {v} e p q = ext_get_or 0 u v e same
+pub inserted_in-once : {i w : ℕ} {old u v : List ℕ} → length u ≡ length v → InsertedIn i w old u → InsertedIn i w old v → u ≡ v
+inserted_in-once {i} {w} {old} {u} {v} e p q = ext_get_or 0 u v e same
   where
     same : (k : ℕ) → k < length u → get_or u k 0 ≡ get_or v k 0
     same k l = ⊎_elim
@@ -26,6 +27,19 @@ inserted-once {i} {w} {old} {u} {v} e p q = ext_get_or 0 u v e same
         (λ b. ⊎_elim
         (λ (e : k ≡ i). rw e (p.here ∙ sym q.here))
         (λ d. p.back k (omega arith) l ∙ sym (q.back k (omega arith) (omega arith)))
+        (same_or_not k i))
+        (lt-or-ge k i)
+
+-- of a part of the words
+pub inserted-once : {at n i w : ℕ} {old u v : List ℕ} → InsertedAt at n i w old u → InsertedAt at n i w old v → u ≡ v
+inserted-once {at} {n} {i} {w} {old} {u} {v} p q = only_none (only_same (only-both p.only q.only) same)
+  where
+    same : (k : ℕ) → k < n + 1 → get_or v (at + k) 0 ≡ get_or u (at + k) 0
+    same k l = ⊎_elim
+        (λ (b : k < i). q.front k b ∙ sym (p.front k b))
+        (λ b. ⊎_elim
+        (λ (e : k ≡ i). rw e (q.here ∙ sym p.here))
+        (λ d. q.back k (omega arith) (omega arith) ∙ sym (p.back k (omega arith) (omega arith)))
         (same_or_not k i))
         (lt-or-ge k i)
 

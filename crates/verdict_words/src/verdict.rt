@@ -6,7 +6,7 @@ ghost use Rattle.verdict_words.specs.VerdictWords.{verdict_report, judge_number,
 
 use judging::Verdict;
 use refusals::Refused;
-use reporting::tell_refused;
+use reporting::tell_refusal;
 
 // A verdict: 1 yes, 2 no by a set, 3 no by the store itself; and the set.
 #[tactic(auto, unfolding(crate::specs::VerdictWords::verdict_report))]
@@ -39,6 +39,6 @@ pub fn tell_judged(report: &mut [u64; 16], job: &[u8], answer: Result<Verdict, R
             *report = words_of(verdict);
             0
         }
-        Err(refused) => tell_refused(report, job, refused),
+        Err(refused) => tell_refusal(report, job, refused),
     }
 }

@@ -11,9 +11,9 @@ ghost use Rattle.why.specs.Promised.{Looks};
 
 use encoder::tables;
 use job::check_early;
-use looking::look_close;
+use looking::look_stage;
 use merging::optimize;
-use opening::open;
+use opening::open_records;
 use pairs::{Pair, clear_pairs};
 use panel::Profile;
 use reasons::Reason;
@@ -32,11 +32,11 @@ fn look_records(
     ensures { result ≡ why_from (records_from axes 0 job.now job.now (record_count job.now) 0 in_axes) first second }
 {
     let records = records_in(job.len());
-    let Ok(stage) = open(Profile::Plain, axes as usize, 0, job, records, work) else {
+    let Ok(stage) = open_records(Profile::Plain, axes as usize, 0, job, records, work) else {
         return Reason::None;
     };
     let merged = optimize(pairs, work, tables(stage.places, stage.groups));
-    look_close(work, stage, merged, first, second)
+    look_stage(work, stage, merged, first, second)
 }
 
 // Takes every job, sound or not. Refusals 1 to 4 leave all as it was; after any other answer work and pair records are zeros.

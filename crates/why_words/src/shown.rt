@@ -6,7 +6,7 @@ ghost use Rattle.showing.specs.LentParts.{Within};
 ghost use Rattle.why_words.specs.ShownWords.{span_words, shown_number, shown_words, shown_at};
 
 use refusals::Refused;
-use reporting::tell_refused;
+use reporting::tell_refusal;
 use showing::{Part, shown};
 
 // Where a part starts, and how long it is.
@@ -38,6 +38,6 @@ pub fn tell_shown<'a>(
             };
             0
         }
-        Err(refused) => tell_refused(report, job, refused),
+        Err(refused) => tell_refusal(report, job, refused),
     }
 }

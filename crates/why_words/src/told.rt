@@ -6,7 +6,7 @@ ghost use Rattle.why_words.specs.WhyWords.{gain_as_word, reason_words, why_numbe
 
 use crate::explained::Explained;
 use refusals::Refused;
-use reporting::tell_refused;
+use reporting::tell_refusal;
 
 // What joining would gain, as two's complement of 64 bits; 0 of costs that no group has.
 fn gain_word(a: u64, b: u64, joined: u64) -> u64
@@ -55,6 +55,6 @@ pub fn tell_why(report: &mut [u64; 16], job: &[u8], answer: Result<Explained, Re
             *report = words_of(reason);
             0
         }
-        Err(refused) => tell_refused(report, job, refused),
+        Err(refused) => tell_refusal(report, job, refused),
     }
 }

@@ -18,13 +18,13 @@ returns-in_default c =
 pub optimize-merged-requires-clause-groups_in_bounds : goal.optimize-merged-requires-clause-groups_in_bounds
 optimize-merged-requires-clause-groups_in_bounds c = pairs-enough c.requires c.tables.result (ready_at c.tables.result c.in-Ok.stage c.tables.ensures c.in-Ok.ensures.ready)
 
-pub look_close-requires : goal.look_close-requires
-look_close-requires c =
+pub look_stage-requires : goal.look_stage-requires
+look_stage-requires c =
     let a = c.args in
     look-fit a.axes a.job.now _ c.in-Ok.ensures.is (joined_at c.tables.result c.in-Ok.stage c.tables.ensures c.optimize-merged.ensures.optimized)
 
 pub returns : goal.returns
 returns c =
     let a = c.args in
-    c.look_close.ensures a.axes a.job.now _ _ (rw c.records_in-records.ensures at c.in-Ok.ensures.is) (joined_at c.tables.result c.in-Ok.stage c.tables.ensures c.optimize-merged.ensures.optimized)
+    c.look_stage.ensures a.axes a.job.now _ _ (rw c.records_in-records.ensures at c.in-Ok.ensures.is) (joined_at c.tables.result c.in-Ok.stage c.tables.ensures c.optimize-merged.ensures.optimized)
     ∙ ap (λ (o : Outcome). why_from o a.first a.second) (panelled-plain a.job.now (records_from a.axes 0 a.job.now a.job.now (record_count a.job.now) 0 in_axes))

@@ -22,5 +22,5 @@ optimize-merged-requires-clause-groups_in_bounds c = pairs-enough c.requires c.t
 pub returns : goal.returns
 returns c =
     let a = c.args in
-    c.foresee.ensures a.axes a.mode a.job.now _ _ (rw c.records_in-records.ensures at c.in_ok-stage.ensures.is) (joined_at c.tables.result c.in_ok-stage.stage c.tables.ensures c.optimize-merged.ensures.optimized)
+    c.foresee_stage.ensures a.axes a.mode a.job.now _ _ (rw c.records_in-records.ensures at c.in_ok-stage.ensures.is) (joined_at c.tables.result c.in_ok-stage.stage c.tables.ensures c.optimize-merged.ensures.optimized)
     ∙ ap (foretold_from a.axes a.mode) (panelled-plain a.job.now (records_from a.axes a.mode a.job.now a.job.now (record_count a.job.now) 0 in_axes))

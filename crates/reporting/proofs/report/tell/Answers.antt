@@ -9,7 +9,7 @@ pub returns-in-Ok-clause-report_after : goal.returns-in-Ok-clause-report_after
 returns-in-Ok-clause-report_after c = let a = c.args in c.done_words.ensures ∙ done-told a.job.now a.answer a.report.now c.told-report c.in-Ok.done c.in-Ok.is
 
 pub returns-in-Err-clause-value : goal.returns-in-Err-clause-value
-returns-in-Err-clause-value c = let a = c.args in c.tell_refused.ensures.value ∙ refused-number a.job.now a.answer a.report.now c.told-report c.in-Err.refused c.in-Err.is
+returns-in-Err-clause-value c = let a = c.args in c.tell_refusal.ensures.value ∙ refused-number a.job.now a.answer a.report.now c.told-report c.in-Err.refused c.in-Err.is
 
 pub returns-in-Err-clause-report_after : goal.returns-in-Err-clause-report_after
-returns-in-Err-clause-report_after c = let a = c.args in c.tell_refused.ensures.report_after ∙ refused-told a.job.now a.answer a.report.now c.told-report c.in-Err.refused c.in-Err.is
+returns-in-Err-clause-report_after c = let a = c.args in c.tell_refusal.ensures.report_after ∙ refused-told a.job.now a.answer a.report.now c.told-report c.in-Err.refused c.in-Err.is

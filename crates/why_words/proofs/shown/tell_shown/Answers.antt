@@ -28,6 +28,6 @@ returns-in-Err c =
     let a = c.args in
     let e = ap shown_of c.in-Err.is in
     record {
-      value = c.tell_refused.ensures.value ∙ refused-number a.job.now a.store.now (shown_of a.answer) a.report.now c.told-report _ _ e;
-      report_after = c.tell_refused.ensures.report_after ∙ told-refused a.job.now a.store.now (shown_of a.answer) a.report.now c.told-report c.in-Err.refused e;
+      value = c.tell_refusal.ensures.value ∙ refused-number a.job.now a.store.now (shown_of a.answer) a.report.now c.told-report _ _ e;
+      report_after = c.tell_refusal.ensures.report_after ∙ told-refused a.job.now a.store.now (shown_of a.answer) a.report.now c.told-report c.in-Err.refused e;
     }

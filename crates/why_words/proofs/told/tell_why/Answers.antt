@@ -14,6 +14,6 @@ pub returns-in-Err : goal.returns-in-Err
 returns-in-Err c =
     let a = c.args in
     record {
-      value = c.tell_refused.ensures.value ∙ refused-number a.job.now a.answer a.report.now c.told-report c.in-Err.refused c.in-Err.is;
-      report_after = c.tell_refused.ensures.report_after ∙ told-refused a.job.now a.answer a.report.now c.told-report c.in-Err.refused c.in-Err.is;
+      value = c.tell_refusal.ensures.value ∙ refused-number a.job.now a.answer a.report.now c.told-report c.in-Err.refused c.in-Err.is;
+      report_after = c.tell_refusal.ensures.report_after ∙ told-refused a.job.now a.answer a.report.now c.told-report c.in-Err.refused c.in-Err.is;
     }

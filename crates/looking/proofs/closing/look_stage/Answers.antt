@@ -2,7 +2,7 @@ use Rattle.looking.proofs.LookLaws.{look-read, look-arrange, look-first, look-se
 use Rattle.looking.proofs.SeenLaws.{reason-fit}
 use native.Mathlib.Omega.{arith}
 use borrow.Author.Rules.{rules}
-use Rattle.looking.proofs.closing.look_close.Goals as goal
+use Rattle.looking.proofs.closing.look_stage.Goals as goal
 
 pub arrange-k-requires : goal.arrange-k-requires
 arrange-k-requires c = look-arrange c.requires

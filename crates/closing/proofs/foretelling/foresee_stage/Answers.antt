@@ -1,7 +1,7 @@
 use Rattle.finishing.proofs.FinishLaws.{words-fit}
 use Rattle.closing.proofs.CloseLaws.{none_told, arranged-few, arranged-told}
 use Rattle.arranging.proofs.StageLaws.{stage-few}
-use Rattle.closing.proofs.foretelling.foresee.Goals as goal
+use Rattle.closing.proofs.foretelling.foresee_stage.Goals as goal
 
 pub foretell_none-requires : goal.foretell_none-requires
 foretell_none-requires c =

@@ -2,7 +2,7 @@ use mathlib.Core.Path.{sym, ◌∙◌}
 use Rattle.closing.proofs.CloseLaws.{none-built, arranged-built, arranged-wide}
 use Rattle.closing.proofs.WideLaws.{wide-fit}
 use Rattle.arranging.proofs.StageLaws.{stage-few}
-use Rattle.closing.proofs.closing.close.Goals as goal
+use Rattle.closing.proofs.closing.close_stage.Goals as goal
 
 pub finish_none-requires : goal.finish_none-requires
 finish_none-requires c =

@@ -4,7 +4,7 @@ use mathlib.Core.Path.{◌∙◌}
 use Rattle.refusals.proofs.Passing.{passed}
 use Rattle.opening.proofs.OpenLaws.{read-refused, read-alone, read-full, read-groups}
 use Rattle.opening.proofs.RecordsLaws.{starts-room, starts-low, uses-few, sets-few, base-few, collected}
-use Rattle.opening.proofs.opening.open.Goals as goal
+use Rattle.opening.proofs.opening.open_records.Goals as goal
 
 pub take_job-requires : goal.take_job-requires
 take_job-requires c =
