@@ -8,5 +8,7 @@ pub fn count_words(bytes: usize, second: usize, third: usize, fourth: usize) -> 
     ensures { result ≡ count_words bytes second third fourth }
 {
     let (bytes, second, third, fourth) = (bytes as u64, second as u64, third as u64, fourth as u64);
-    [0, 0, bytes, second, third, fourth, 0, 0, 0, 0, 0, 0, 0, 0, 0, 0]
+    [
+        0, 0, bytes, second, third, fourth, 0, 0, 0, 0, 0, 0, 0, 0, 0, 0,
+    ]
 }

@@ -29,9 +29,10 @@ returns-then-work-first c = naming-here c.loop-i.invariant (omega arith) refl (i
 
 pub loop-i-preserved : goal.loop-i-preserved
 loop-i-preserved c =
-    elim c.if-is_kind.branch
-    [ then-is_kind+else-work-first w ↦ naming-past c.loop-i.invariant (omega arith) refl (is_by (kind (record_at c.args.job.now c.loop-i.i)) value_kind w.if-is_kind.ensures) w.region_at-p.ensures w.if-work-first.false
-    | else-is_kind w ↦ naming-other c.loop-i.invariant (omega arith) refl (not_by (kind (record_at c.args.job.now c.loop-i.i)) value_kind w.if-is_kind.ensures) ]
+    elim c.if-is_kind.branch [
+      | then-is_kind+else-work-first w ↦ naming-past c.loop-i.invariant (omega arith) refl (is_by (kind (record_at c.args.job.now c.loop-i.i)) value_kind w.if-is_kind.ensures) w.region_at-p.ensures w.if-work-first.false
+      | else-is_kind w ↦ naming-other c.loop-i.invariant (omega arith) refl (not_by (kind (record_at c.args.job.now c.loop-i.i)) value_kind w.if-is_kind.ensures)
+    ]
 
 pub returns : goal.returns
 returns c = naming-none c.loop-i.invariant (omega arith)
