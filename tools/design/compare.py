@@ -19,7 +19,9 @@ sys.dont_write_bytecode = True
 from antt import statements_in
 from source import TOP, Source, squeezed, texts_of
 
-CONTRACTS = "/opt/rattle/port/contracts.py"
+# Beside the page that `rt doc` names.
+KIT = os.path.dirname(subprocess.run(["rt", "doc"], capture_output=True, text=True, check=True).stdout.split()[0])
+CONTRACTS = os.path.join(KIT, "port", "contracts.py")
 
 
 def unpacked(commit, folder):
