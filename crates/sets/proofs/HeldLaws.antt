@@ -4,9 +4,9 @@ use mathlib.Core.List.{List, [], ◌∷◌}
 use Prim.Native.Nat.{ℕ, zero, suc, ◌+◌, ◌*◌, ◌≤◌, ◌<◌}
 use native.Mathlib.Omega.{arith}
 use lib.ListN.{length, get_or}
-use Rattle.laws.specs.LentRange.{Outside, Only}
+use Rattle.laws.specs.LentRange.{Apart, Outside, Only}
 use Rattle.laws.proofs.BoundedLaws.{length-tabulate, get_or-tabulate, tabulate-same}
-use Rattle.sets.specs.Lent.{entries, entries_at, count_of, set_of, Stored, Held, sets_in, is_first_of_like, Behind, at_most}
+use Rattle.sets.specs.Lent.{entries, entries_at, count_of, set_of, Stored, Clear, Ready, Held, sets_in, is_first_of_like, Behind, at_most}
 
 pub behind-outside : {end : ℕ} (rs : List (ℕ × ℕ)) (k : ℕ) → Behind end rs → k < end → Outside rs k
 behind-outside [] k b h = tt
@@ -88,11 +88,30 @@ sets-at index n w x h =
     let e : 0 + x ≡ x = omega arith in
     get_or-tabulate 0 n (λ x. set_of index x w) [] x h ∙ ap (λ (y : ℕ). set_of index y w) e
 
--- what the comparison asks of a set
+-- what the comparison and the sort ask of a set
 module _ {w : List ℕ} {index n regions end : ℕ} (h : Held w index n regions end) where
   pub held-stored : (x : ℕ) → x < n → Stored w index x
   held-stored x l = record {
     row = omega (arith, h.rows, h.room);
     to = omega (arith, h.body x l, h.room);
     ascending = h.ascending x l;
+  }
+
+  held-clear : (at m x : ℕ) → end ≤ at → x < n → Clear w index x at m
+  held-clear at m x p l = record {
+    row = record { apart = λ q. absurd (omega (arith, h.rows)) };
+    body = record { apart = λ q. absurd (omega (arith, h.body x l)) };
+  }
+
+  pub held-ready : (at tmp m : ℕ) → end ≤ at → end ≤ tmp → at + m ≤ length w → tmp + m ≤ length w → Apart tmp m at m
+      → ((k : ℕ) → at ≤ k → k < at + m → get_or w k 0 < n) → Ready w index at m tmp
+  held-ready at tmp m p q r s a i = record {
+    room = r;
+    room-tmp = s;
+    apart = a;
+    item = λ k x y. let l = i k x y in record {
+      stored = held-stored (get_or w k 0) l;
+      clear = held-clear at m (get_or w k 0) p l;
+      clear-tmp = held-clear tmp m (get_or w k 0) q l;
+    };
   }
