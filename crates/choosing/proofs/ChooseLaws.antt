@@ -3,9 +3,10 @@ use Rattle.std.proofs.Common.{◌≡◌, ℕ, ◌+◌, ◌-◌, ◌*◌, ◌<◌
 use Rattle.std.specs.List.Sorted.{IsNonDecreasingBy}
 use Rattle.std.proofs.lemmas.List.Sorted.{length_permutation, IsPermutation-sym, Contains-permutation}
 use lib.ListN.{length-append, length-drop, get_or-append}
-use lib.Seq.{get_or-append-add, get_or-drop}
+use lib.Seq.{get_or-append-add, get_or-drop, take_at}
 use Rattle.std.proofs.lemmas.List.{get_or_default}
 use Rattle.laws.proofs.RangeLaws.{only-trans, only-weaken}
+use Rattle.choosing.proofs.AlikeLaws.{sorted-is}
 use Rattle.choosing.specs.Lent.{TakenIn, Rising, Low, Within, Once, Grouped, ChosenAt}
 
 -- ---- the list is put in, and sorted where it stands
@@ -26,6 +27,7 @@ module _ (rows old s : List ℕ) (room : length rows ≤ length old) (p : IsPerm
           rw e at (get_or-append-add s (drop (length rows) old) (k - length s) 0) ∙ get_or-drop (length rows) old (k - length s) 0
           ∙ ap (λ (i : ℕ). get_or old i 0) (omega (arith, long, o.0.apart));
     };
+    is = take_at s (drop (length rows) old) (length rows) long ∙ sorted-is rows s p up;
     order = record { at_most = λ i j q r. omega (arith, word i (omega arith), word j r, up i j 0 (omega arith) (omega (arith, long))) };
     from = λ a h.
         let c = Contains-permutation s rows (get_or s a 0) (IsPermutation-sym rows s p) (a, omega (arith, long), get_or_default s a (get_or s a 0) 0 (omega (arith, long))) in

@@ -35,10 +35,10 @@ module _ {k : ℕ} {w : List ℕ} (r : Rising k w) (room : k ≤ length w) where
       (lt-or-ge i j)
 
   -- what a search finds is x, and it finds it
-  pub found : {x i : ℕ} → (i < length (take k w)) × (get_or (take k w) i 0 ≡ x) → FoundAt k w x i
-  found {x} {i} p =
+  pub found : {x i : ℕ} → (i < length (take k w)) × (get_or (take k w) i 0 ≡ x) → (r : ℕ) → r ≡ i → FoundAt k w x r
+  found {x} {i} p r e =
       let h : i < k = omega (arith, length-take-le k w room) in
-      record { in-range = h; is = sym (word i 0 h) ∙ p.1 }
+      rw e (record { in-range = h; is = sym (word i 0 h) ∙ p.1 })
 
   pub not-missed : {x i : ℕ} → Within k w x → (i ≤ length (take k w)) × ((j : ℕ) → j < i → get_or (take k w) j 0 < x) × ((j : ℕ) → i ≤ j → j < length (take k w) → x < get_or (take k w) j 0) → ⊥
   not-missed {x} {i} a p = ⊎_elim

@@ -1,4 +1,5 @@
 pub mod OnceLaws
 pub mod GroupLaws
 pub mod FindLaws
+pub mod AlikeLaws
 pub mod ChooseLaws

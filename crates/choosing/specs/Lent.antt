@@ -1,6 +1,7 @@
 -- What lent words hold of the rows that are still used: each word once, in order, grouped by its subtable. Assumes nothing.
-use Rattle.std.specs.Prelude.{◌≡◌, Bool, not, ◌||◌, List, [], ◌∷◌, ℕ, ◌+◌, ◌-◌, ◌*◌, ◌/◌, ◌%◌, ◌≤◌, ◌<◌, length, get_or, eqb}
+use Rattle.std.specs.Prelude.{◌≡◌, Bool, not, ◌||◌, List, [], ◌∷◌, ℕ, ◌+◌, ◌-◌, ◌*◌, ◌/◌, ◌%◌, ◌≤◌, ◌<◌, length, take, get_or, eqb, leb}
 use Rattle.laws.specs.LentRange.{Only}
+use Rattle.laws.specs.Sorting.{sorted}
 
 -- the first n words are in order
 pub record InOrder (n : ℕ) (w : List ℕ) : Type 0 where
@@ -21,6 +22,8 @@ Within k w x = (a : ℕ) × (a < k) × (get_or w a 0 ≡ x)
 -- the list stands at the front, in order, and all else is as it was
 pub record TakenIn (rows old new : List ℕ) : Type 0 where
   pub only : Only ((0, length rows) ∷ []) old new
+  -- all that is to be said of the words: each is there as often as it came. The other fields say what it means.
+  pub is : take (length rows) new ≡ sorted leb rows
   pub order : InOrder (length rows) new
   pub from : (a : ℕ) → a < length rows → Within (length rows) rows (get_or new a 0)
   pub into : (j : ℕ) → j < length rows → Within (length rows) new (get_or rows j 0)
