@@ -4,9 +4,9 @@ use mathlib.Core.Bool.{Bool, true, false}
 use Rattle.std.specs.Prelude.{Option, None, Some, IfSome}
 use mathlib.Core.List.{List, [], ◌∷◌, ◌++◌, append-nil}
 use mathlib.Core.Logic.{⊎_elim}
-use Prim.Native.Nat.{ℕ, ◌+◌, ◌-◌, ◌%◌, ◌≤◌, ◌<◌}
+use Prim.Native.Nat.{ℕ, zero, suc, ◌+◌, ◌-◌, ◌*◌, ◌/◌, ◌%◌, ◌≤◌, ◌<◌}
 use native.Mathlib.Omega.{arith}
-use native.Mathlib.Nat.{zero-mod}
+use native.Mathlib.Nat.{zero-mod, zero-mul, add-mul, mod-lt, mod-eq_of_lt, mul-le-mul_right, div-mul-le_self, lt-div-mul-add, mul-add-mod_self_right}
 use lib.ListN.{length, get_or, set, length-set}
 use lib.Seq.{get_or-set_same, get_or-set_other}
 use lib.Dec.{eqb}
@@ -27,6 +27,28 @@ use Rattle.sets.proofs.HeldLaws.{Kept, kept-only, set_same, held_kept, held-stor
 use Rattle.buckets.specs.LentBuckets.{is_kept}
 use Rattle.ids.specs.LentScreened.{Screened}
 use Rattle.ids.proofs.FirstLaws.{order_same}
+
+-- ---- a word of the table: a number up to n, and a tag
+
+-- n is a word, so there is at least one tag
+pub tags-some : (n : ℕ) → n < 4294967296 → 0 < 4294967296 / (n + 1)
+tags-some n few = some (4294967296 / (n + 1)) (lt-div-mul-add {a = 4294967296} {b = n + 1} (omega arith))
+  where
+    some : (q : ℕ) → 4294967296 < q * (n + 1) + (n + 1) → 0 < q
+    some zero h = absurd (omega (arith, zero-mul (n + 1)))
+    some (suc q) h = omega arith
+
+-- a tag, and a number up to n behind it, have room in a word
+pub tag-room : (h n : ℕ) → n < 4294967296 → h % (4294967296 / (n + 1)) * (n + 1) + n < 4294967296
+tag-room h n few =
+    let t = h % (4294967296 / (n + 1)) in
+    let less : t < 4294967296 / (n + 1) = mod-lt h (tags-some n few) in
+    let most : (t + 1) * (n + 1) ≤ 4294967296 / (n + 1) * (n + 1) = mul-le-mul_right (n + 1) (omega arith) in
+    omega (arith, most, add-mul t 1 (n + 1), div-mul-le_self 4294967296 (n + 1))
+
+-- the number is what the word has beside its tag
+pub word_number : (t n x : ℕ) → x < n → (t * (n + 1) + (x + 1)) % (n + 1) ≡ x + 1
+word_number t n x h = mul-add-mod_self_right t (n + 1) (x + 1) ∙ mod-eq_of_lt (omega arith)
 
 -- ---- keeping what is marked, one more
 
