@@ -28,7 +28,7 @@ pub fn find_homes(from: &[u32], into: &[u32], place: &[u32], spot: &[u32], home:
 // The first word of each final group: where its shape stands.
 pub fn heads(order: &[u32], slots: usize, regions: usize, finals: &mut [u32])
     requires { HeadsFit slots regions order.now (length finals.old) }
-    ensures { HeadsAt slots regions order.now finals.new }
+    ensures { HeadsAt slots regions order.now finals.old finals.new }
 {
     for (p, s) in order.iter().enumerate() {
         finals[3 * p] = (slots + *s as usize * regions) as u32;

@@ -239,9 +239,9 @@ module _ {p : Places} {groups count : ℕ} {w : List ℕ} (f : SharedFit p group
         ∙ keep_same (goes_to t q) (goes p w q) (seg p.line p.sets w)
         (all-seg _ p.sets p.line w (omega (arith, f.laid)) (λ j x y. goes_same q (get_or w j 0) (number_at j x y)))
 
-    module _ {between behind' heads finals rows : List ℕ} (b : Around (p.rows - (p.finals + 3 * count)) (p.rows - (p.finals + 3 * count) + p.sets) behind between behind')
+    module _ {between behind' blank heads finals free rows : List ℕ} (b : Around (p.rows - (p.finals + 3 * count)) (p.rows - (p.finals + 3 * count) + p.sets) behind between behind')
         (finals-long : length finals ≡ 3 * count) (rows-long : length rows ≡ p.sets)
-        (h : HeadsAt p.slots p.regions order heads) (d : Dealt t p.rows heads finals rows) where
+        (h : HeadsAt p.slots p.regions order blank heads) (d : Dealt t p.rows heads finals free rows) where
       abbrev new : List ℕ
       new = front ++ (finals ++ (between ++ (rows ++ behind')))
 
@@ -299,7 +299,7 @@ module _ {p : Places} {groups count : ℕ} {w : List ℕ} (f : SharedFit p group
       pub shared-out : SharedOut p count w new
       shared-out = record {
         only = only-all;
-        shape = λ q l. final-at (3 * q) (omega arith) ∙ d.shape q ∙ h q (omega (arith, order-is-long)) ∙ ap (λ (z : ℕ). p.slots + z * p.regions) (order_is q l);
+        shape = λ q l. final-at (3 * q) (omega arith) ∙ d.shape q ∙ h.at q (omega (arith, order-is-long)) ∙ ap (λ (z : ℕ). p.slots + z * p.regions) (order_is q l);
         rows_in = λ q l. rw (start-at q l, count-at q l) (room-in q l);
         rows_few = omega (
           arith,

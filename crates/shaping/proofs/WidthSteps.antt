@@ -18,7 +18,7 @@ use Rattle.sets.specs.Set.{Set, word_of}
 use Rattle.groups.specs.Groups.{shape_of}
 use Rattle.groups.proofs.PartLaws.{Around, front-part, front-length, between-at, only-between}
 use Rattle.sets.specs.Lent.{entries, entries_at, count_of, set_of}
-use Rattle.shaping.specs.Lent.{ShapedAt}
+use Rattle.shaping.specs.Lent.{ShapedAt, ShapedFrom}
 use Rattle.sets.proofs.SetLaws.{entries-cons, entries_none, word-head, word-tail}
 
 -- the cost of the width of region k's value
@@ -76,7 +76,7 @@ width-done w shape m n l s =
     let z : i ≡ 0 + i = omega arith in
     rw e at (s i p) ∙ ap (width_in (entries 0 m w)) z ∙ sym (get_or-tabulate 0 n (width_in (entries 0 m w)) 0 i (omega arith)))
 
--- ---- the set of a number
+-- ---- into the words from a place on
 
 -- entries that stand in a part of the words
 entries-part : (n a b : ℕ) (u w : List ℕ) → ((k : ℕ) → k < 2 * n → get_or u (a + k) 0 ≡ get_or w (b + k) 0) → entries a n u ≡ entries b n w
@@ -93,16 +93,14 @@ entries-part (suc n) a b u w h =
           rw (x, y) at (h (2 + k) (omega arith))),
     ) refl
 
--- the entries of set x, among the words that stand before
-abbrev pub part : ℕ → ℕ → List ℕ → List ℕ → List ℕ
-part index x w front = take (entries_at index x w + 2 * count_of index x w - entries_at index x w) (drop (entries_at index x w) front)
+-- m entries from `from` on, among the words that stand before
+abbrev pub part : ℕ → ℕ → List ℕ → List ℕ
+part from m front = take (from + 2 * m - from) (drop from front)
 
-module _ {w front behind : List ℕ} {index x at regions : ℕ} (r : Around at (at + regions) w front behind)
-    (before : entries_at index x w + 2 * count_of index x w ≤ at) (shape : List ℕ) (long : length shape ≡ regions) where
-  pub set-shaped : shape ≡ shape_of regions (entries 0 (length (part index x w front) / 2) (part index x w front)) → ShapedAt index x at regions w (front ++ (shape ++ behind))
-  unfolding set_of
-  set-shaped s =
-      let m : length (part index x w front) / 2 ≡ count_of index x w = omega (arith, front-length r (entries_at index x w) (entries_at index x w + 2 * count_of index x w) before) in
+module _ {w front behind : List ℕ} {from m at regions : ℕ} (r : Around at (at + regions) w front behind) (before : from + 2 * m ≤ at) (shape : List ℕ) (long : length shape ≡ regions) where
+  pub from-shaped : shape ≡ shape_of regions (entries 0 (length (part from m front) / 2) (part from m front)) → ShapedFrom from m at regions w (front ++ (shape ++ behind))
+  from-shaped s =
+      let half : length (part from m front) / 2 ≡ m = omega (arith, front-length r from (from + 2 * m) before) in
       let to : at + length shape ≡ at + regions = omega arith in
       let o : Only ((at, regions) ∷ []) w (front ++ (shape ++ behind)) = rw long at (only-between r shape to) in
       record {
@@ -111,7 +109,13 @@ module _ {w front behind : List ℕ} {index x at regions : ℕ} (r : Around at (
             (λ k h.
             let b : k < regions = omega (arith, length-seg at regions (front ++ (shape ++ behind)) (omega (arith, o.long, r.behind-long))) in
             get_or-seg at regions (front ++ (shape ++ behind)) k b ∙ between-at r shape behind to k (omega arith))
-            ∙ s ∙ rw m (ap (shape_of regions) (entries-part (count_of index x w) 0 (entries_at index x w) (part index x w front) w (λ k l.
+            ∙ s ∙ rw half (ap (shape_of regions) (entries-part m 0 from (part from m front) w (λ k l.
             let z : 0 + k ≡ k = omega arith in
-            rw z (front-part r (entries_at index x w) (entries_at index x w + 2 * count_of index x w) k (omega arith) before))));
+            rw z (front-part r from (from + 2 * m) k (omega arith) before))));
       }
+
+-- ---- the set of a number
+
+pub set-shaped : {old new : List ℕ} {index x at regions from m : ℕ} → from ≡ entries_at index x old → m ≡ count_of index x old → ShapedFrom from m at regions old new → ShapedAt index x at regions old new
+unfolding set_of
+set-shaped f g s = record { only = s.only; is = s.is ∙ rw (f, g) }

@@ -3,8 +3,8 @@ use mathlib.Core.Path.{◌≡◌, sym, ap, ◌∙◌}
 use mathlib.Core.List.{List}
 use Prim.Native.Nat.{ℕ, ◌+◌, ◌-◌, ◌*◌, ◌≤◌, ◌<◌}
 use native.Mathlib.Omega.{arith}
-use lib.ListN.{length, get_or, take, drop}
-use lib.Seq.{get_or-take, get_or-drop}
+use lib.ListN.{length, get_or, take, drop, set, length-set}
+use lib.Seq.{get_or-take, get_or-drop, get_or-set_same, get_or-set_other}
 use Rattle.std.specs.declared.cmp.Ordering.TheVariants.{Less, Equal, Greater}
 use borrow.Rule.Slice.PartMut.{put_mid}
 use Rattle.laws.proofs.PartLaws.{only-mid, seg-mid}
@@ -91,7 +91,22 @@ module _ {t : Shapes} {n s : ℕ} {w : List ℕ} (r : Searchable t n s w) where
   pub search-done : {lo hi : ℕ} → Searching t n s w lo hi → hi ≤ lo → FoundGap t n s w lo
   search-done {lo} {hi} i h = record { most = omega (arith, i.within, i.most); behind = i.behind; ahead = λ k p q. i.ahead k (omega arith) q }
 
--- ---- inserting into a part that is lent
+-- ---- inserting
+
+-- from the k-th on the words have moved up
+pub record MovedUp (k : ℕ) (old new : List ℕ) : Type 0 where
+  pub front : (j : ℕ) → j ≤ k → get_or new j 0 ≡ get_or old j 0
+  pub back : (j : ℕ) → k < j → j < length new → get_or new j 0 ≡ get_or old (j - 1) 0
+
+pub insert-done : {k i v : ℕ} {old new : List ℕ} → k ≡ i → i < length old → length new ≡ length old → MovedUp k old new → InsertedIn i v old (set new i v)
+insert-done {k} {i} {v} {old} {new} e h l m = record {
+  long = length-set new i v ∙ l;
+  front = λ j b. get_or-set_other new i j v 0 (omega arith) ∙ m.front j (omega arith);
+  here = get_or-set_same new i v 0 (omega arith);
+  back = λ j b t. get_or-set_other new i j v 0 (omega arith) ∙ m.back j (omega arith) (omega (arith, length-set new i v, t));
+}
+
+-- into a part that is lent
 
 module _ (at n i v : ℕ) (old s : List ℕ) (most : i ≤ n) (room : at + (n + 1) ≤ length old) (fits : length s ≡ at + (n + 1) - at)
     (d : InsertedIn i v (take (at + (n + 1) - at) (drop at old)) s) where

@@ -18,15 +18,15 @@ use Rattle.std.specs.Prelude.{Ok, Err}
 use Rattle.std.specs.declared.result.Result.{Result}
 use Rattle.table.specs.LentTable.{Searchable, FoundAt, FoundGap, FoundIn, InsertedIn, InsertedAt}
 
-pub inserted_in-once : {i w : ℕ} {old u v : List ℕ} → length u ≡ length v → InsertedIn i w old u → InsertedIn i w old v → u ≡ v
-inserted_in-once {i} {w} {old} {u} {v} e p q = ext_get_or 0 u v e same
+pub inserted_in-once : {i w : ℕ} {old u v : List ℕ} → InsertedIn i w old u → InsertedIn i w old v → u ≡ v
+inserted_in-once {i} {w} {old} {u} {v} p q = ext_get_or 0 u v (p.long ∙ sym q.long) same
   where
     same : (k : ℕ) → k < length u → get_or u k 0 ≡ get_or v k 0
     same k l = ⊎_elim
         (λ (b : k < i). p.front k b ∙ sym (q.front k b))
         (λ b. ⊎_elim
         (λ (e : k ≡ i). rw e (p.here ∙ sym q.here))
-        (λ d. p.back k (omega arith) l ∙ sym (q.back k (omega arith) (omega arith)))
+        (λ d. p.back k (omega arith) l ∙ sym (q.back k (omega arith) (omega (arith, p.long, q.long))))
         (same_or_not k i))
         (lt-or-ge k i)
 

@@ -58,6 +58,7 @@ FoundIn t n s w r = MatchResult r (FoundAt t n s w) (FoundGap t n s w)
 
 -- v is the i-th word, and those behind it moved up
 pub record InsertedIn (i v : ℕ) (old new : List ℕ) : Type 0 where
+  pub long : length new ≡ length old
   pub front : (k : ℕ) → k < i → get_or new k 0 ≡ get_or old k 0
   pub here : get_or new i 0 ≡ v
   pub back : (k : ℕ) → i < k → k < length new → get_or new k 0 ≡ get_or old (k - 1) 0

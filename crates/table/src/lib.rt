@@ -101,12 +101,15 @@ pub fn find_shape(work: &[u32], t: Shapes, n: usize, s: usize) -> Result<usize, 
     search(work, t, n, s, cost)
 }
 
-// Makes v the i-th of the words, moving the later ones up by one; the last one is dropped.
+// Makes v the i-th of the words, moving the later ones up by one; the last one is dropped. (`copy_within` is a call of C's `memmove`, which
+// who links the archive without a C library would have to bring.)
 pub fn insert_at(words: &mut [u32], i: usize, v: u32)
     requires { i < length words.old }
     ensures { InsertedIn i v words.old words.new }
 {
     let last = words.len() - 1;
-    words.copy_within(i..last, i + 1);
+    for k in (i..last).rev() {
+        words[k + 1] = words[k];
+    }
     words[i] = v;
 }
