@@ -1,15 +1,16 @@
 //! How much of a build is the clearing of its work and its pair records.
 //!
 //! Clearing may take most of a small build, so that the rest cannot be told by taking
-//! one time from another. The library clears each by one call of `memset` over all of it,
-//! or over all but its last item; the linker is told (../build.rs) to bring every such call
-//! of this program here, where the clock is read if it is one of the two.
+//! one time from another. The library clears each by one call of `memset`, work over all
+//! words or all but the last one (`fill` writes that apart), pairs over all of them; the
+//! linker is told (../build.rs) to bring every such call of this program here, where the
+//! clock is read if it is one of the two.
 
 // It calls, and is called by, what is not Rust.
 #![allow(unsafe_code)]
 
 use std::cell::Cell;
-use std::mem::{size_of, size_of_val};
+use std::mem::size_of_val;
 use std::time::Duration;
 
 use ivs::Pair;
@@ -19,9 +20,23 @@ use crate::clock::cpu_time;
 /// When something began and when it ended.
 type Span = (Duration, Duration);
 
+/// Where something lies, its bytes, and how many of them at its end may be written apart.
+#[derive(Clone, Copy)]
+struct Watched {
+    at: usize,
+    long: usize,
+    apart: usize,
+}
+
+const NOTHING: Watched = Watched {
+    at: 0,
+    long: 0,
+    apart: 0,
+};
+
 thread_local! {
-    /// What is watched, work and pairs: the address of each, and its length in bytes.
-    static WATCHED: Cell<[(usize, usize); 2]> = const { Cell::new([(0, 0); 2]) };
+    /// What is watched, work and pairs.
+    static WATCHED: Cell<[Watched; 2]> = const { Cell::new([NOTHING; 2]) };
     /// When each was cleared.
     static CLEARED: Cell<[Option<Span>; 2]> = const { Cell::new([None; 2]) };
 }
@@ -37,9 +52,8 @@ extern "C" {
 /// As for `memset`: `count` bytes from `to` on can be written.
 #[no_mangle]
 unsafe extern "C" fn __wrap_memset(to: *mut u8, byte: i32, count: usize) -> *mut u8 {
-    let all = |&(at, long): &(usize, usize)| {
-        at == to as usize && count <= long && long <= count + size_of::<Pair>()
-    };
+    let all =
+        |it: &Watched| it.at == to as usize && (count == it.long || count + it.apart == it.long);
     let Some(part) = WATCHED.get().iter().position(all) else {
         // SAFETY: the caller's promise is passed on.
         return unsafe { __real_memset(to, byte, count) };
@@ -72,14 +86,22 @@ pub fn split(
     call: impl FnOnce(&mut [u32], &mut [Pair]),
 ) -> Split {
     WATCHED.set([
-        (work.as_ptr() as usize, size_of_val(work)),
-        (pairs.as_ptr() as usize, size_of_val(pairs)),
+        Watched {
+            at: work.as_ptr() as usize,
+            long: size_of_val(work),
+            apart: work.last().map_or(0, size_of_val),
+        },
+        Watched {
+            at: pairs.as_ptr() as usize,
+            long: size_of_val(pairs),
+            apart: 0,
+        },
     ]);
     CLEARED.set([None; 2]);
     let began = cpu_time();
     call(work, pairs);
     let ended = cpu_time();
-    WATCHED.set([(0, 0); 2]);
+    WATCHED.set([NOTHING; 2]);
     let cleared = |part: usize| CLEARED.get()[part].expect("each is cleared by one memset");
     let (one, other) = (cleared(0), cleared(1));
     let (first, last) = if one < other {
