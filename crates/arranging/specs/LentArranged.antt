@@ -1,5 +1,6 @@
 -- Where a build stands after merging, and what is left of its groups, arranged. Assumes nothing.
-use Rattle.std.specs.Prelude.{◌≡◌, Bool, true, false, List, ℕ, ◌+◌, ◌*◌, ◌≤◌, ◌<◌, length, Ok}
+use Rattle.std.specs.Prelude.{◌≡◌, Bool, true, false, List, ℕ, ◌+◌, ◌*◌, ◌≤◌, ◌<◌, length, Result, Ok, Err, MatchResult}
+use Rattle.refusals.specs.declared.Refused.{Refused}
 use Rattle.merging.specs.declared.optimizing.Merged.{Merged}
 use Rattle.merging.specs.LentOptimized.{Optimized}
 use Rattle.said.specs.Job.{Said, Outcome, fine}
@@ -17,6 +18,20 @@ use Rattle.opening.specs.LentOpened.{Read, no_places}
 -- a build was opened and its groups joined
 abbrev pub Joined : Stage → Merged → List ℕ → List ℕ → Type 0
 Joined s m mid w = Optimized (tables_of s.places s.groups) m.merges m.weighed m.before m.after mid w
+
+-- and where what was opened may be refused: nothing was joined then
+abbrev pub JoinedOrRefused : Result Stage Refused → Merged → List ℕ → List ℕ → Type 0
+JoinedOrRefused (Ok s) m mid w = Joined s m mid w
+JoinedOrRefused (Err x) m mid w = w ≡ mid
+
+-- or be refused before its first record
+abbrev pub JoinedBy : Result (Result Stage Refused) Refused → Merged → List ℕ → List ℕ → Type 0
+JoinedBy (Ok r) m mid w = JoinedOrRefused r m mid w
+JoinedBy (Err x) m mid w = w ≡ mid
+
+-- how many pair records are to be cleared: none where nothing was written yet
+abbrev pub PairsUsed : Result (Result Stage Refused) Refused → ℕ → ℕ → Type 0
+PairsUsed opened pairs n = MatchResult opened (λ r. n ≡ pairs) (λ x. n ≡ 0)
 
 -- whether it is mode 1 without sets
 abbrev pub NullStage : Stage → Bool → Type 0

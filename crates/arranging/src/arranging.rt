@@ -2,12 +2,13 @@
 ghost use Rattle.std.specs.Prelude.{◌≡◌, List, ℕ, Ok};
 ghost use Rattle.said.specs.Job.{Outcome};
 ghost use Rattle.opening.specs.LentOpened.{Read};
-ghost use Rattle.arranging.specs.LentArranged.{Joined, NullStage, packing_of_null, ArrangeFit, ArrangedAs};
+ghost use Rattle.arranging.specs.LentArranged.{PairsUsed, Joined, NullStage, packing_of_null, ArrangeFit, ArrangedAs};
 
 use encoder::{Encoded, own, regroup};
 use finishing::Packing;
 use merging::Merged;
 use opening::{Stage, nowhere};
+use refusals::Refused;
 
 // Mode 1 without sets: its one group has no rows, and is a null subtable.
 pub fn is_null(s: Stage) -> bool
@@ -64,5 +65,15 @@ pub fn arrange(work: &mut [u32], s: Stage, m: Merged) -> Packing
         starts: s.starts,
         places,
         encoded,
+    }
+}
+
+// How many of so many pair records are to be cleared once a build was opened: all, unless nothing was written yet.
+pub fn pairs_used(opened: Result<Result<Stage, Refused>, Refused>, pairs: usize) -> usize
+    ensures { PairsUsed opened pairs result }
+{
+    match opened {
+        Ok(_) => pairs,
+        Err(_) => 0,
     }
 }

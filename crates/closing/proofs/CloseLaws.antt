@@ -6,24 +6,22 @@ use Prim.Native.Nat.{ℕ, ◌≤◌, ◌<◌}
 use native.Mathlib.Omega.{arith}
 use lib.ListN.{length, replicate}
 use Rattle.merging.specs.declared.optimizing.Merged.{Merged}
-use Rattle.said.specs.Job.{Said, Outcome, refused, fine, in_axes, records_from, outcome, outcome_from}
+use Rattle.said.specs.Job.{Said, Outcome, refused, fine, in_axes, records_from, outcome}
 use Rattle.said.specs.Records.{record_count}
-use Rattle.said.specs.Refusals.{most_bytes, shapes_full, store_too_big, wide_subtable, early_refusal}
+use Rattle.said.specs.Refusals.{shapes_full, wide_subtable, early_refusal}
 use Rattle.panel.specs.declared.Profile.{Profile}
 use Rattle.panel.specs.declared.Profile.TheVariants.{Plain}
 use Rattle.panel.specs.Panelled.{panelled}
 use Rattle.panel.proofs.PanelledLaws.{panelled-plain, panelled-early}
 use Rattle.narrow.specs.Columns.{is_too_wide}
-use Rattle.job.specs.Check.{work_left}
-use Rattle.job.proofs.CheckLaws.{left-early, left-zeros, early-first, none-early}
+use Rattle.job.proofs.CheckLaws.{refused-early, left-early, left-zeros, outcome-walk}
 use Rattle.groups.specs.Groups.{groups_of, max_shapes}
-use borrow.Author.Tests.{eq-eqb, le-leb, lt-leb}
+use borrow.Author.Tests.{eq-eqb}
 use Rattle.encoder.specs.Packed.{Packed, shared, own}
 use Rattle.encoder.specs.Lent.{PackedAt}
-use Rattle.encoder.proofs.ReadyLaws.{idle}
 use Rattle.store.specs.Lent as store
 use Rattle.finishing.specs.Answers.{Built}
-use Rattle.finishing.specs.Answers.{Refused, Done}
+use Rattle.finishing.specs.Answers.{Refused}
 use Rattle.finishing.specs.declared.answers.Report.{Report}
 use Rattle.finishing.specs.declared.measuring.Packing.{Packing}
 use Rattle.finishing.specs.Late.{report_of, size_told}
@@ -34,12 +32,13 @@ use Rattle.call.specs.Profiled.{is_wide, wide_of, answer_with, left_with}
 use Rattle.closing.proofs.WideLaws.{full-narrow, none-narrow, packed-wide}
 use Rattle.finishing.specs.Buffers.{Buffers}
 use Rattle.finishing.specs.Lent.{FinishFit, Finished}
-use Rattle.closing.specs.LentClosed.{RecordsBuilt}
-use Rattle.std.specs.Prelude.{Ok, Err}
+use Rattle.closing.specs.LentClosed.{RecordsBuilt, ForetellFit, CloseFit, ForeseeFit, Closed, Foreseen}
+use Rattle.std.specs.Prelude.{Result, Ok, Err, IfOk}
+use Rattle.refusals.specs.declared.Refusal.{Refusal}
 use Rattle.refusals.specs.declared.Refused as refusals
 use Rattle.refusals.specs.Refusals.{number}
-use Rattle.opening.specs.LentOpened.{Read}
-use Rattle.arranging.specs.LentArranged.{Joined, ArrangedAs, PackFit}
+use Rattle.opening.specs.LentOpened.{Read, RefusedAtOnce, OpenedAfter, OpenedBy}
+use Rattle.arranging.specs.LentArranged.{Joined, JoinedOrRefused, JoinedBy, ArrangedAs, PackFit}
 use Rattle.limits.specs.Limits.{most_axes}
 use Rattle.call.proofs.AnswerLaws.{pack-full, told-refused, told-sized, told-full}
 use Rattle.arranging.proofs.StageLaws.{SaidBy, said-by, none-packed}
@@ -131,3 +130,92 @@ module _ {axes mode : ℕ} {job : List ℕ} {o : Outcome} {k : Packing} {w : Lis
       t
       ∙ ap size_told (f job x a.fit a.packed ∙ ap₂ (λ (n : ℕ) (l : List (List ℕ)). report_of n l x) a.axes-is a.coords-are)
       ∙ told-sized axes mode o a.said a.said-is (omega (arith, a.packed.groups-is, a.packed.groups-few))
+
+-- ---- refused before the first record, or after it
+
+module _ (axes mode : ℕ) (job work : List ℕ) (pairs : ℕ) where
+  module _ (x : Refusal) (e : number x ≡ early_refusal axes mode job (length work) pairs) where
+    pub closed-early : (h : Profile) (lent : Buffers) → Closed h axes mode job work pairs (Refused (number x) 0) lent lent work
+    closed-early h lent = record {
+      built = records-refused h axes mode (panelled h job (outcome axes mode job (length work) pairs)) (number x) 0 lent
+          (panelled-early h job (outcome axes mode job (length work) pairs) (number x) 0 (refused-early axes mode job work pairs x e) refl);
+      work-is = left-early axes mode job work pairs x e;
+    }
+
+    pub foreseen-early : Foreseen axes mode job work pairs (Refused (number x) 0) work
+    foreseen-early = record {
+      answer = told-refused axes mode (outcome axes mode job (length work) pairs) (number x) 0 (refused-early axes mode job work pairs x e);
+      work-is = left-early axes mode job work pairs x e;
+    }
+
+  module _ (e : 0 ≡ early_refusal axes mode job (length work) pairs) (work' : List ℕ) (z : work' ≡ replicate (length work) 0) where
+    pub closed-late : (h : Profile) (r : Built) (old new : Buffers)
+        → RecordsBuilt h axes mode (panelled h job (records_from axes mode job job (record_count job) 0 in_axes)) r old new → Closed h axes mode job work pairs r old new work'
+    closed-late h r old new b = record {
+      built = subst (λ (o : Outcome). RecordsBuilt h axes mode (panelled h job o) r old new) (sym (outcome-walk axes mode job work pairs e)) b;
+      work-is = left-zeros axes mode job work pairs e work' z;
+    }
+
+    pub foreseen-late : (r : Built) → r ≡ foretold_from axes mode (records_from axes mode job job (record_count job) 0 in_axes) → Foreseen axes mode job work pairs r work'
+    foreseen-late r a = record {
+      answer = a ∙ ap (foretold_from axes mode) (sym (outcome-walk axes mode job work pairs e));
+      work-is = left-zeros axes mode job work pairs e work' z;
+    }
+
+-- ---- the whole, of every job: what was opened is closed
+
+joined-long : (m : Merged) (mid w : List ℕ) (r : Result Stage refusals.Refused) → JoinedOrRefused r m mid w → length w ≡ length mid
+joined-long m mid w (Ok s) j = j.only.long
+joined-long m mid w (Err x) j = ap length j
+
+-- what the last part asks of a stage that was read
+pub close-settle : {job w : List ℕ} {m : Merged} (o : Result (Result Stage refusals.Refused) refusals.Refused) (r : Result Stage refusals.Refused) → o ≡ Ok r → CloseFit job o m w
+    → IfOk r (λ s. PackFit job s m w)
+close-settle {job} {w} {m} o (Ok s) e f =
+    let p : OpenedBy f.profile f.axes f.mode job f.old f.pairs f.mid (Ok (Ok s)) = rw e at f.opened in
+    let j : JoinedBy (Ok (Ok s)) m f.mid w = rw e at f.joined in
+    record { axes = f.axes; mode = f.mode; outcome = panelled f.profile job (records_from f.axes f.mode job job (record_count job) 0 in_axes); mid = f.mid; read = p.is.opened.is; joined = j }
+close-settle o (Err x) e f = tt
+
+pub foresee-settle : {w : List ℕ} {m : Merged} (o : Result (Result Stage refusals.Refused) refusals.Refused) (r : Result Stage refusals.Refused) → o ≡ Ok r → ForeseeFit o m w
+    → IfOk r (λ s. ForetellFit s m w)
+foresee-settle o (Ok s) e f = record { job = f.job; fits = close-settle o (Ok s) e f.fits }
+foresee-settle o (Err x) e f = tt
+
+module _ {h : Profile} {axes mode : ℕ} {job : List ℕ} {o : Result (Result Stage refusals.Refused) refusals.Refused} (w : List ℕ) (m : Merged) (old : List ℕ) (pairs : ℕ) (mid : List ℕ)
+    (p : OpenedBy h axes mode job old pairs mid o) (j : JoinedBy o m mid w) where
+  module _ (x : refusals.Refused) (e : o ≡ Err x) where
+    at_once : RefusedAtOnce axes mode job old pairs mid x
+    at_once = (subst (λ (y : Result (Result Stage refusals.Refused) refusals.Refused). OpenedBy h axes mode job old pairs mid y) e p).is
+
+    kept : w ≡ old
+    kept = subst (λ (y : Result (Result Stage refusals.Refused) refusals.Refused). JoinedBy y m mid w) e j ∙ at_once.kept
+
+    pub close-early : (lent : Buffers) → Closed h axes mode job old pairs (Refused (number x.refusal) x.place) lent lent w
+    close-early lent = rw (kept, at_once.place-is) (closed-early axes mode job old pairs x.refusal at_once.number_is h lent)
+
+    pub foresee-early : Foreseen axes mode job old pairs (Refused (number x.refusal) x.place) w
+    foresee-early = rw (kept, at_once.place-is) (foreseen-early axes mode job old pairs x.refusal at_once.number_is)
+
+  module _ (r : Result Stage refusals.Refused) (e : o ≡ Ok r) where
+    after : OpenedAfter h axes mode job old pairs mid r
+    after = (subst (λ (y : Result (Result Stage refusals.Refused) refusals.Refused). OpenedBy h axes mode job old pairs mid y) e p).is
+
+    joined : JoinedOrRefused r m mid w
+    joined = subst (λ (y : Result (Result Stage refusals.Refused) refusals.Refused). JoinedBy y m mid w) e j
+
+    cleared : (w' : List ℕ) → w' ≡ replicate (length w) 0 → w' ≡ replicate (length old) 0
+    cleared w' z = z ∙ ap (λ (n : ℕ). replicate n 0) (joined-long m mid w r joined ∙ after.opened.long)
+
+    pub close-late : (b : Built) (was new : Buffers) → ((o : Outcome) → Read axes mode job o r mid → JoinedOrRefused r m mid w → RecordsBuilt h axes mode o b was new)
+        → (w' : List ℕ) → w' ≡ replicate (length w) 0 → Closed h axes mode job old pairs b was new w'
+    close-late b was new f w' z = closed-late axes mode job old pairs (sym after.not-early) w' (cleared w' z) h b was new (f _ after.opened.is joined)
+
+module _ {axes mode : ℕ} {job : List ℕ} {o : Result (Result Stage refusals.Refused) refusals.Refused} (w : List ℕ) (m : Merged) (old : List ℕ) (pairs : ℕ) (mid : List ℕ)
+    (p : OpenedBy Plain axes mode job old pairs mid o) (j : JoinedBy o m mid w) (r : Result Stage refusals.Refused) (e : o ≡ Ok r) where
+  pub foresee-late : (b : Built) → ((o : Outcome) → Read axes mode job o r mid → JoinedOrRefused r m mid w → b ≡ foretold_from axes mode o)
+      → (w' : List ℕ) → w' ≡ replicate (length w) 0 → Foreseen axes mode job old pairs b w'
+  foresee-late b f w' z =
+      let q = after w m old pairs mid p j r e in
+      foreseen-late axes mode job old pairs (sym q.not-early) w' (cleared w m old pairs mid p j r e w' z) b
+      (f _ q.opened.is (joined w m old pairs mid p j r e) ∙ ap (foretold_from axes mode) (panelled-plain job (records_from axes mode job job (record_count job) 0 in_axes)))

@@ -4,5 +4,5 @@
 mod closing;
 mod foretelling;
 
-pub use closing::close_stage;
-pub use foretelling::foresee_stage;
+pub use closing::{close, close_stage};
+pub use foretelling::{foresee, foresee_stage};

@@ -1,2 +1,3 @@
 pub mod SeenLaws
 pub mod LookLaws
+pub mod Unique

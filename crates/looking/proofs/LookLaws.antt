@@ -1,6 +1,5 @@
 -- A look, from where a build stands after merging to its reason. Assumes nothing.
 use mathlib.Core.Path.{◌≡◌, refl, sym, ap, subst, ◌∙◌}
-use mathlib.Core.Bool.{true, false}
 use mathlib.Core.List.{List}
 use Prim.Native.Nat.{ℕ, ◌≤◌, ◌<◌}
 use native.Mathlib.Omega.{arith}
@@ -8,31 +7,30 @@ use lib.ListN.{length, replicate}
 use borrow.Author.Tests.{le-leb, lt-leb, lt-ltb, le-ltb}
 use Rattle.groups.specs.Groups.{groups_of, max_shapes}
 use Rattle.merging.specs.declared.optimizing.Merged.{Merged}
-use Rattle.said.specs.Job.{Said, Outcome, refused, fine, in_axes, records_from, outcome, outcome_from}
+use Rattle.said.specs.Job.{Said, Outcome, refused, fine, in_axes, records_from, outcome}
 use Rattle.said.specs.Records.{record_count}
 use Rattle.said.specs.Refusals.{early_refusal}
 use Rattle.panel.specs.declared.Profile.TheVariants.{Plain}
 use Rattle.panel.specs.Panelled.{panelled}
 use Rattle.panel.proofs.PanelledLaws.{panelled-plain}
-use Rattle.std.specs.Prelude.{Ok, Err}
+use Rattle.std.specs.Prelude.{Result, Ok, Err, IfOk}
 use Rattle.refusals.specs.declared.Refusal.{Refusal}
 use Rattle.refusals.specs.declared.Refused.{Refused}
 use Rattle.refusals.specs.Refusals.{number}
 use Rattle.job.proofs.CheckLaws.{refused-early, left-early, left-zeros, outcome-walk}
 use Rattle.encoder.specs.Packed.{Packed, shared}
 use Rattle.encoder.specs.Lent.{PackedAt}
-use Rattle.encoder.proofs.ReadyLaws.{idle}
 use Rattle.finishing.specs.declared.measuring.Packing.{Packing}
 use Rattle.call.specs.Build.{packed_of}
 use Rattle.opening.specs.declared.opening.Stage.{Stage}
-use Rattle.opening.specs.LentOpened.{Read}
-use Rattle.arranging.specs.LentArranged.{Joined, ArrangeFit, ArrangedAs}
+use Rattle.opening.specs.LentOpened.{Read, OpenedBy}
+use Rattle.arranging.specs.LentArranged.{JoinedOrRefused, JoinedBy, ArrangeFit, ArrangedAs}
 use Rattle.arranging.proofs.StageLaws.{said-by}
 use Rattle.reasons.specs.declared.reason.Reason.{Reason}
 use Rattle.reasons.specs.declared.reason.Reason.TheVariants.{None}
 use Rattle.reasons.specs.Why.{why_of}
 use Rattle.looking.specs.Look.{why_packed, why_from}
-use Rattle.looking.specs.LentLook.{LookFit, Looked}
+use Rattle.looking.specs.LentLook.{LookFit, CloseLookFit, Looked}
 
 -- ---- what is packed
 
@@ -119,3 +117,36 @@ module _ (axes : ℕ) (job work : List ℕ) (pairs a b : ℕ) where
     answer = t ∙ ap (λ (o : Outcome). why_from o a b) (sym (outcome-walk axes 0 job work pairs e));
     work-is = left-zeros axes 0 job work pairs e work' z;
   }
+
+-- ---- what was opened is closed
+
+joined-long : (m : Merged) (mid w : List ℕ) (r : Result Stage Refused) → JoinedOrRefused r m mid w → length w ≡ length mid
+joined-long m mid w (Ok s) j = j.only.long
+joined-long m mid w (Err x) j = ap length j
+
+pub look-settle : {w : List ℕ} {m : Merged} (o : Result (Result Stage Refused) Refused) (r : Result Stage Refused) → o ≡ Ok r → CloseLookFit o m w → IfOk r (λ s. LookFit s m w)
+look-settle {w} {m} o (Ok s) e f =
+    let p : OpenedBy Plain f.axes 0 f.job f.old f.pairs f.mid (Ok (Ok s)) = rw e at f.opened in
+    let j : JoinedBy (Ok (Ok s)) m f.mid w = rw e at f.joined in
+    record {
+      job = f.job;
+      fits = record { axes = f.axes; mode = 0; outcome = panelled Plain f.job (records_from f.axes 0 f.job f.job (record_count f.job) 0 in_axes); mid = f.mid; read = p.is.opened.is; joined = j };
+      shared = refl;
+    }
+look-settle o (Err x) e f = tt
+
+module _ {axes : ℕ} {job : List ℕ} {o : Result (Result Stage Refused) Refused} (w : List ℕ) (m : Merged) (old : List ℕ) (pairs : ℕ) (mid : List ℕ) (p : OpenedBy Plain axes 0 job old pairs mid o) (j : JoinedBy o m mid w) (a b : ℕ) where
+  pub look-early : (x : Refused) → o ≡ Err x → Looked axes job old pairs a b None w
+  look-early x e =
+      let q : OpenedBy Plain axes 0 job old pairs mid (Err x) = rw e at p in
+      let k : JoinedBy (Err x) m mid w = rw e at j in
+      rw (k ∙ q.is.kept) (looked-early axes job old pairs a b x.refusal q.is.number_is)
+
+  pub look-late : (r : Result Stage Refused) → o ≡ Ok r → (v : Reason) → ((o : Outcome) → Read axes 0 job o r mid → JoinedOrRefused r m mid w → v ≡ why_from o a b)
+      → (w' : List ℕ) → w' ≡ replicate (length w) 0 → Looked axes job old pairs a b v w'
+  look-late r e v f w' z =
+      let q : OpenedBy Plain axes 0 job old pairs mid (Ok r) = rw e at p in
+      let k : JoinedBy (Ok r) m mid w = rw e at j in
+      looked-late axes job old pairs a b (sym q.is.not-early) v
+      (f _ q.is.opened.is k ∙ ap (λ (x : Outcome). why_from x a b) (panelled-plain job (records_from axes 0 job job (record_count job) 0 in_axes)))
+      w' (z ∙ ap (λ (n : ℕ). replicate n 0) (joined-long m mid w r k ∙ q.is.opened.long))

@@ -3,4 +3,4 @@
 
 mod closing;
 
-pub use crate::closing::look_stage;
+pub use crate::closing::{look_close, look_stage};

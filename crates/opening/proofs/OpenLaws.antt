@@ -1,23 +1,28 @@
 -- The first part of a build leaves what merging and the last part ask for. Assumes nothing.
-use mathlib.Core.Path.{◌≡◌, refl, subst, ◌∙◌}
+use mathlib.Core.Path.{◌≡◌, refl, sym, subst, ◌∙◌}
 use mathlib.Core.List.{List}
 use Prim.Native.Nat.{ℕ, ◌<◌}
 use native.Mathlib.Omega.{arith}
 use lib.ListN.{length}
 use Rattle.groups.specs.Groups.{groups_of, max_shapes}
-use Rattle.said.specs.Job.{Said, Outcome, refused, fine}
+use Rattle.said.specs.Job.{Said, Outcome, refused, fine, in_axes, records_from}
+use Rattle.said.specs.Records.{record_count}
+use Rattle.said.specs.Refusals.{early_refusal}
 use Rattle.encoder.specs.declared.places.Places.{Places}
 use Rattle.std.specs.declared.option.Option.{Option}
 use Rattle.encoder.specs.declared.encoded.Gathered.{Gathered}
 use Rattle.encoder.specs.LentArranged.{Gathers, GatheredAt}
 use Rattle.encoder.proofs.ReadyLaws.{tables-laid, ready-none, ready}
 use Rattle.panel.specs.declared.Profile.{Profile}
-use Rattle.std.specs.Prelude.{Some, None, Ok, Err}
+use Rattle.panel.specs.Panelled.{panelled}
+use Rattle.std.specs.Prelude.{Some, None, Result, Ok, Err}
 use Rattle.refusals.specs.declared.Refused.{Refused}
+use Rattle.refusals.specs.declared.Refusal.{Refusal}
 use Rattle.refusals.specs.declared.Refusal.TheVariants.{ShapesFull}
-use Rattle.refusals.specs.Refusals.{number}
+use Rattle.refusals.specs.Refusals.{number, of_job}
 use Rattle.opening.specs.LentCollected.{Collected}
-use Rattle.opening.specs.LentOpened.{OpenedAt}
+use Rattle.opening.specs.declared.opening.Stage.{Stage}
+use Rattle.opening.specs.LentOpened.{OpenedAt, OpenedBy}
 use Rattle.opening.proofs.KeptLaws.{collected-kept}
 
 -- ---- the records
@@ -51,3 +56,19 @@ module _ {axes mode starts : ℕ} {job w : List ℕ} {p : Places} {x : Said} (c 
       is = rw e (record { axes-is = refl; mode-is = refl; collected = collected-kept c g.only; joins = λ v. result (Some (record { groups = groups; distinct = ids })) q; alone = λ f. absurd (f z) });
       ready = ready (result (Some (record { groups = groups; distinct = ids })) q);
     }
+
+-- ---- the whole of it
+
+module _ (h : Profile) (axes mode : ℕ) (job w : List ℕ) (pairs : ℕ) where
+  pub opened-early : (x : Refusal) → number x ≡ early_refusal axes mode job (length w) pairs → OpenedBy h axes mode job w pairs w (Err (of_job x))
+  opened-early x e = record { long = refl; is = record { kept = refl; number_is = e; place-is = refl } }
+
+  pub opened-late : 0 ≡ early_refusal axes mode job (length w) pairs → (records : ℕ) → records ≡ record_count job → {w' : List ℕ} {r : Result Stage Refused}
+      → OpenedAt h axes mode job (panelled h job (records_from axes mode job job records 0 in_axes)) w w' r → OpenedBy h axes mode job w pairs w' (Ok r)
+  opened-late e records n {w'} {r} o = record {
+    long = o.long;
+    is = record {
+      not-early = sym e;
+      opened = subst (λ (k : ℕ). OpenedAt h axes mode job (panelled h job (records_from axes mode job job k 0 in_axes)) w w' r) n o;
+    };
+  }

@@ -42,3 +42,8 @@ module _ {axes mode : ℕ} {job : List ℕ} {records : ℕ} {old new : List ℕ}
 
     pub none-among : none_odd ≡ odd_of p job records → JobTaken p axes mode job records old new (Ok c)
     none-among e = record { is = record { held = j.is; taken = laws.odd-passes p job (records_from axes mode job job records 0 in_axes) records to_end none_odd e refl ∙ j.is.is }; only = j.only }
+
+-- where all were taken it is as without the profile
+abbrev pub as_read : {p : Profile} {axes mode : ℕ} {job : List ℕ} {records : ℕ} {old new : List ℕ} {c : JobCounts}
+    → JobTaken p axes mode job records old new (Ok c) → JobRead axes mode job records old new (Ok c)
+as_read t = record { is = t.is.held; only = t.only }

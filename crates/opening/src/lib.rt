@@ -4,4 +4,4 @@
 mod opening;
 mod taking;
 
-pub use opening::{Stage, nowhere, open_records};
+pub use opening::{Stage, nowhere, open, open_records};

@@ -6,12 +6,13 @@ ghost use Rattle.said.specs.Job.{records_from, in_axes};
 ghost use Rattle.panel.specs.Panelled.{panelled};
 ghost use Rattle.limits.specs.Limits.{most_records, most_axes, max_regions};
 ghost use Rattle.opening.specs.LentCollected.{StartsAt};
-ghost use Rattle.opening.specs.LentOpened.{no_places, OpenedAt};
+ghost use Rattle.opening.specs.LentOpened.{no_places, OpenedAt, OpenedBy};
 
 use crate::taking::take_job;
 use encoder::{Gathered, Places, gather, lay_out};
+use job::check_early;
 use panel::Profile;
-use records::coords_start;
+use records::{coords_start, records_in};
 use refusals::{Refusal, Refused};
 
 // Where a build stands before merging: its sets held in work, for so many axes and by a mode, in so many groups of so many distinct sets.
@@ -107,4 +108,27 @@ pub fn open_records(
         groups,
         distinct,
     })
+}
+
+// Takes every job, sound or not, with so many pair records lent. The outer error is one of refusals 1 to 4, which leave work as it was; the inner
+// one is of a job whose records were read.
+pub fn open(
+    profile: Profile,
+    axes: u32,
+    mode: u32,
+    job: &[u8],
+    work: &mut [u32],
+    pairs: usize,
+) -> Result<Result<Stage, Refused>, Refused>
+    ensures { OpenedBy profile axes mode job.now work.old pairs work.new result }
+{
+    check_early(axes, mode, job, work.len(), pairs)?;
+    Ok(open_records(
+        profile,
+        axes as usize,
+        mode,
+        job,
+        records_in(job.len()),
+        work,
+    ))
 }

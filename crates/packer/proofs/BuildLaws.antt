@@ -1,36 +1,26 @@
 -- A build and a forecast from their parts: with the pair records, the promise of the call. Assumes nothing.
-use mathlib.Core.Path.{◌≡◌, refl, sym, ap, subst, ◌∙◌}
+use mathlib.Core.Path.{◌≡◌, sym, subst, ◌∙◌}
 use mathlib.Core.List.{List}
 use Prim.Native.Nat.{ℕ}
-use lib.ListN.{length, replicate}
-use Rattle.refusals.specs.declared.Refusal.{Refusal}
-use Rattle.refusals.specs.Refusals.{number}
+use lib.ListN.{length}
 use Rattle.merging.specs.declared.optimizing.Merged.{Merged}
 use Rattle.slots.specs.declared.tables.MergeTables.{MergeTables}
 use Rattle.merging.specs.LentOptimized.{Ready, Optimized}
 use Rattle.encoder.specs.LentArranged.{tables_of}
-use Rattle.finishing.specs.Answers.{Built, Refused}
-use Rattle.said.specs.Records.{record_count}
-use Rattle.said.specs.Refusals.{early_refusal}
-use Rattle.said.specs.Job.{Outcome, in_axes, records_from, outcome}
-use Rattle.job.proofs.CheckLaws.{refused-early, left-early, left-zeros, outcome-walk}
+use Rattle.finishing.specs.Answers.{Built}
 use Rattle.opening.specs.declared.opening.Stage.{Stage}
 use Rattle.pairs.specs.declared.Pair.{Pair}
 use Rattle.call.specs.Lending.{Lending, Left, lending, leaves, no_buffers}
-use Rattle.call.specs.Foretold.{foretold_from, foretold}
+use Rattle.call.specs.Foretold.{foretold}
 use Rattle.packer.specs.Promised.{Foretells, ObeysBy, Obeys}
 use Rattle.call.specs.Build.{pairs_left}
 use Rattle.call.specs.Profiled.{answer_by}
 use Rattle.call.proofs.PlainLaws.{answer-plain, after-plain}
-use Rattle.call.proofs.AnswerLaws.{told-refused}
 use Rattle.panel.specs.declared.Profile.{Profile}
 use Rattle.panel.specs.declared.Profile.TheVariants.{Plain}
-use Rattle.panel.specs.Panelled.{panelled}
-use Rattle.panel.proofs.PanelledLaws.{panelled-early}
 use Rattle.finishing.specs.Buffers.{Buffers}
 use Rattle.arranging.specs.LentArranged.{Joined}
-use Rattle.closing.specs.LentClosed.{RecordsBuilt, Closed, Foreseen}
-use Rattle.closing.proofs.CloseLaws.{records-refused}
+use Rattle.closing.specs.LentClosed.{Closed, Foreseen}
 
 -- ---- merging, by the tables that it was given
 
@@ -39,37 +29,6 @@ ready_at t s {w} e r = subst (λ (x : MergeTables). Ready x w) (sym e) r
 
 pub joined_at : (t : MergeTables) (s : Stage) {m : Merged} {w w' : List ℕ} → t ≡ tables_of s.places s.groups → Optimized t m.merges m.weighed m.before m.after w w' → Joined s m w w'
 joined_at t s {m} {w} {w'} e o = subst (λ (x : MergeTables). Optimized x m.merges m.weighed m.before m.after w w') e o
-
--- ---- refused before the first record, or after it
-
-module _ (axes mode : ℕ) (job work : List ℕ) (pairs : ℕ) where
-  module _ (x : Refusal) (e : number x ≡ early_refusal axes mode job (length work) pairs) where
-    pub closed-early : (h : Profile) (lent : Buffers) → Closed h axes mode job work pairs (Refused (number x) 0) lent lent work
-    closed-early h lent = record {
-      built = records-refused h axes mode (panelled h job (outcome axes mode job (length work) pairs)) (number x) 0 lent
-          (panelled-early h job (outcome axes mode job (length work) pairs) (number x) 0 (refused-early axes mode job work pairs x e) refl);
-      work-is = left-early axes mode job work pairs x e;
-    }
-
-    pub foreseen-early : Foreseen axes mode job work pairs (Refused (number x) 0) work
-    foreseen-early = record {
-      answer = told-refused axes mode (outcome axes mode job (length work) pairs) (number x) 0 (refused-early axes mode job work pairs x e);
-      work-is = left-early axes mode job work pairs x e;
-    }
-
-  module _ (e : 0 ≡ early_refusal axes mode job (length work) pairs) (work' : List ℕ) (z : work' ≡ replicate (length work) 0) where
-    pub closed-late : (h : Profile) (r : Built) (old new : Buffers)
-        → RecordsBuilt h axes mode (panelled h job (records_from axes mode job job (record_count job) 0 in_axes)) r old new → Closed h axes mode job work pairs r old new work'
-    closed-late h r old new b = record {
-      built = subst (λ (o : Outcome). RecordsBuilt h axes mode (panelled h job o) r old new) (sym (outcome-walk axes mode job work pairs e)) b;
-      work-is = left-zeros axes mode job work pairs e work' z;
-    }
-
-    pub foreseen-late : (r : Built) → r ≡ foretold_from axes mode (records_from axes mode job job (record_count job) 0 in_axes) → Foreseen axes mode job work pairs r work'
-    foreseen-late r a = record {
-      answer = a ∙ ap (foretold_from axes mode) (sym (outcome-walk axes mode job work pairs e));
-      work-is = left-zeros axes mode job work pairs e work' z;
-    }
 
 -- ---- the promise
 

@@ -1,5 +1,4 @@
 use Rattle.arranging.proofs.StageLaws.{regroup-fit, arranged-shared, alone-fit, arranged-own}
-use borrow.Author.Rules.{rules}
 use Rattle.arranging.proofs.arranging.arrange.Goals as goal
 
 pub regroup-encoded-requires : goal.regroup-encoded-requires

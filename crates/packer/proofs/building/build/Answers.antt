@@ -3,7 +3,8 @@ use native.Mathlib.Omega.{arith}
 use borrow.Author.Rules.{rules}
 use lib.ListN.{length, replicate}
 use Rattle.refusals.proofs.Passing.{passed}
-use Rattle.packer.proofs.BuildLaws.{closed-early, closed-late, obeys}
+use Rattle.closing.proofs.CloseLaws.{closed-early, closed-late}
+use Rattle.packer.proofs.BuildLaws.{obeys}
 use Rattle.packer.proofs.PairLaws.{pairs-early, pairs-late}
 use Rattle.packer.proofs.building.build.Goals as goal
 

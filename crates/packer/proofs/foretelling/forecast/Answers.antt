@@ -3,7 +3,8 @@ use native.Mathlib.Omega.{arith}
 use borrow.Author.Rules.{rules}
 use lib.ListN.{length, replicate}
 use Rattle.refusals.proofs.Passing.{passed}
-use Rattle.packer.proofs.BuildLaws.{foreseen-early, foreseen-late, foretells}
+use Rattle.closing.proofs.CloseLaws.{foreseen-early, foreseen-late}
+use Rattle.packer.proofs.BuildLaws.{foretells}
 use Rattle.packer.proofs.PairLaws.{pairs-early, pairs-late}
 use Rattle.packer.proofs.foretelling.forecast.Goals as goal
 
