@@ -2,8 +2,8 @@ use mathlib.Core.Path.{sym, ap}
 use native.Mathlib.Omega.{arith}
 use Rattle.std.proofs.Common.{rules}
 use Rattle.refusals.proofs.Passing.{passed}
-use Rattle.job.specs.Check.{checked, checked_of}
-use Rattle.job.proofs.CheckLaws.{room, refused-early, left-early, left-zeros, checked_as}
+use Rattle.job.specs.Check.{checked, checked_of, uses_in, uses_of}
+use Rattle.job.proofs.CheckLaws.{room, refused-early, left-early, left-zeros, checked_as, uses_as}
 use Rattle.job.proofs.checking.check.Goals as goal
 
 pub returns-in_err-check_early-clause-value : goal.returns-in_err-check_early-clause-value
@@ -12,6 +12,13 @@ returns-in_err-check_early-clause-value c =
     let a = c.args in
     rw (passed c.from_residual.result c.from_residual.ensures.1)
     (sym (ap checked_of (refused-early a.axes a.mode a.job.now a.work.now a.pairs c.in_err-check_early.field-0.0 c.in_err-check_early.ensures.value)))
+
+pub returns-in_err-check_early-clause-uses : goal.returns-in_err-check_early-clause-uses
+unfolding uses_in uses_of
+returns-in_err-check_early-clause-uses c =
+    let a = c.args in
+    rw (passed c.from_residual.result c.from_residual.ensures.1)
+    (sym (ap uses_of (refused-early a.axes a.mode a.job.now a.work.now a.pairs c.in_err-check_early.field-0.0 c.in_err-check_early.ensures.value)))
 
 pub returns-in_err-check_early-clause-work_after : goal.returns-in_err-check_early-clause-work_after
 returns-in_err-check_early-clause-work_after c =
@@ -27,6 +34,11 @@ pub returns-clause-value : goal.returns-clause-value
 returns-clause-value c =
     let a = c.args in
     checked_as a.axes a.mode a.job.now a.work.now a.pairs c.in_ok-check_early.ensures.value c.read_job-answer.result c.records_in.ensures c.read_job-answer.ensures
+
+pub returns-clause-uses : goal.returns-clause-uses
+returns-clause-uses c =
+    let a = c.args in
+    uses_as a.axes a.mode a.job.now a.work.now a.pairs c.in_ok-check_early.ensures.value c.read_job-answer.result c.records_in.ensures c.read_job-answer.ensures
 
 pub returns-clause-work_after : goal.returns-clause-work_after
 returns-clause-work_after c =
