@@ -23,5 +23,8 @@ pub fn check(
     check_early(axes, mode, job, work.len(), pairs)?;
     let answer = read_job(job, axes as usize, mode, records_in(job.len()), work);
     work.fill(0);
-    answer
+    match answer {
+        Ok(counts) => Ok(counts),
+        Err(refused) => Err(refused),
+    }
 }

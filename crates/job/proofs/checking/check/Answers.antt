@@ -1,4 +1,4 @@
-use mathlib.Core.Path.{sym, ap}
+use mathlib.Core.Path.{sym, ap, ◌∙◌}
 use native.Mathlib.Omega.{arith}
 use Rattle.std.proofs.Common.{rules}
 use Rattle.refusals.proofs.Passing.{passed}
@@ -30,17 +30,36 @@ read_job-answer-requires c =
     let o = c.in_ok-check_early.ensures.fact in
     omega (arith, o.some, o.most, o.few, o.whole, room _ _ _ _ _ o, c.records_in.ensures)
 
-pub returns-clause-value : goal.returns-clause-value
-returns-clause-value c =
+pub returns-in-Ok-clause-value : goal.returns-in-Ok-clause-value
+returns-in-Ok-clause-value c =
     let a = c.args in
-    checked_as a.axes a.mode a.job.now a.work.now a.pairs c.in_ok-check_early.ensures.value c.read_job-answer.result c.records_in.ensures c.read_job-answer.ensures
+    sym (ap checked c.in-Ok.is)
+    ∙ checked_as a.axes a.mode a.job.now a.work.now a.pairs c.in_ok-check_early.ensures.value c.read_job-answer.result c.records_in.ensures c.read_job-answer.ensures
 
-pub returns-clause-uses : goal.returns-clause-uses
-returns-clause-uses c =
+pub returns-in-Ok-clause-uses : goal.returns-in-Ok-clause-uses
+returns-in-Ok-clause-uses c =
     let a = c.args in
-    uses_as a.axes a.mode a.job.now a.work.now a.pairs c.in_ok-check_early.ensures.value c.read_job-answer.result c.records_in.ensures c.read_job-answer.ensures
+    sym (ap uses_in c.in-Ok.is)
+    ∙ uses_as a.axes a.mode a.job.now a.work.now a.pairs c.in_ok-check_early.ensures.value c.read_job-answer.result c.records_in.ensures c.read_job-answer.ensures
 
-pub returns-clause-work_after : goal.returns-clause-work_after
-returns-clause-work_after c =
+pub returns-in-Ok-clause-work_after : goal.returns-in-Ok-clause-work_after
+returns-in-Ok-clause-work_after c =
+    let a = c.args in
+    left-zeros a.axes a.mode a.job.now a.work.now a.pairs c.in_ok-check_early.ensures.value _ (search (rules, c.read_job-answer.ensures.only.long))
+
+pub returns-in-Err-clause-value : goal.returns-in-Err-clause-value
+returns-in-Err-clause-value c =
+    let a = c.args in
+    sym (ap checked c.in-Err.is)
+    ∙ checked_as a.axes a.mode a.job.now a.work.now a.pairs c.in_ok-check_early.ensures.value c.read_job-answer.result c.records_in.ensures c.read_job-answer.ensures
+
+pub returns-in-Err-clause-uses : goal.returns-in-Err-clause-uses
+returns-in-Err-clause-uses c =
+    let a = c.args in
+    sym (ap uses_in c.in-Err.is)
+    ∙ uses_as a.axes a.mode a.job.now a.work.now a.pairs c.in_ok-check_early.ensures.value c.read_job-answer.result c.records_in.ensures c.read_job-answer.ensures
+
+pub returns-in-Err-clause-work_after : goal.returns-in-Err-clause-work_after
+returns-in-Err-clause-work_after c =
     let a = c.args in
     left-zeros a.axes a.mode a.job.now a.work.now a.pairs c.in_ok-check_early.ensures.value _ (search (rules, c.read_job-answer.ensures.only.long))
