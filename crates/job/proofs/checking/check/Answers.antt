@@ -31,12 +31,14 @@ read_job-answer-requires c =
     omega (arith, o.some, o.most, o.few, o.whole, room _ _ _ _ _ o, c.records_in.ensures)
 
 pub returns-in-Ok-clause-value : goal.returns-in-Ok-clause-value
+unfolding checked
 returns-in-Ok-clause-value c =
     let a = c.args in
     sym (ap checked c.in-Ok.is)
     ∙ checked_as a.axes a.mode a.job.now a.work.now a.pairs c.in_ok-check_early.ensures.value c.read_job-answer.result c.records_in.ensures c.read_job-answer.ensures
 
 pub returns-in-Ok-clause-uses : goal.returns-in-Ok-clause-uses
+unfolding uses_in
 returns-in-Ok-clause-uses c =
     let a = c.args in
     sym (ap uses_in c.in-Ok.is)
@@ -48,12 +50,14 @@ returns-in-Ok-clause-work_after c =
     left-zeros a.axes a.mode a.job.now a.work.now a.pairs c.in_ok-check_early.ensures.value _ (search (rules, c.read_job-answer.ensures.only.long))
 
 pub returns-in-Err-clause-value : goal.returns-in-Err-clause-value
+unfolding checked
 returns-in-Err-clause-value c =
     let a = c.args in
     sym (ap checked c.in-Err.is)
     ∙ checked_as a.axes a.mode a.job.now a.work.now a.pairs c.in_ok-check_early.ensures.value c.read_job-answer.result c.records_in.ensures c.read_job-answer.ensures
 
 pub returns-in-Err-clause-uses : goal.returns-in-Err-clause-uses
+unfolding uses_in
 returns-in-Err-clause-uses c =
     let a = c.args in
     sym (ap uses_in c.in-Err.is)
