@@ -4,3 +4,4 @@ pub mod WordsLaws
 pub mod FrontLaws
 pub mod FinishLaws
 pub mod DoneLaws
+pub mod Same

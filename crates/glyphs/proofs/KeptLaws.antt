@@ -99,3 +99,7 @@ module _ (ws : List ℕ) where
   pub count_same : (g : ℕ) → g < length ws → count_of ws ≤ g → get_or ws g 0 ≡ get_or ws (count_of ws - 1) 0
   unfolding count_of
   count_same g h k = kept_same ws (length ws) g h k
+
+  -- an answer that is such a number
+  pub kept-told : (i : ℕ) → i ≡ count_of ws → {r : ℕ} → r ≡ i → r ≡ count_of ws
+  kept-told i k e = e ∙ k

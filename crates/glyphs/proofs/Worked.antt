@@ -6,6 +6,9 @@ use lib.Count.{count_leading_zeros}
 use Rattle.std.specs.Prelude.{Result, Ok, Err}
 use Rattle.reader.specs.declared.reader.ReadError.TheVariants.{BadGlyphMap}
 use Rattle.reader.specs.declared.reader.ReadError.{ReadError}
+use Rattle.reader.specs.Store.{read_number}
+use Rattle.glyphs.specs.declared.write.WriteError.TheVariants.{TooManyGlyphs, GlyphMapShort}
+use Rattle.glyphs.specs.Answers.{write_number}
 use Rattle.laws.specs.Bytes.{be, bytes_of}
 use Rattle.glyphs.specs.Packing.{ored, inner_bit_count, entry_of, bytes_for_entry, map_bits, map_size, entry_format, kept_of, count_of, head_for, entries_of, map_bytes}
 use Rattle.glyphs.specs.Reading.{entries_from, count_in, is_map_ok, entry_of_glyph, place_of, word_of, read_map}
@@ -46,3 +49,16 @@ reads =
 pub reads-worked : reads ≡ Ok 5 ∷ Ok 7 ∷ Ok 7 ∷ Ok 0x0040_0100 ∷ Err BadGlyphMap ∷ Err BadGlyphMap ∷ Err BadGlyphMap ∷ Err BadGlyphMap ∷ Ok 1 ∷ []
 unfolding read_map is_map_ok entries_from count_in entry_of_glyph place_of word_of be
 reads-worked = refl
+
+-- the refusals' numbers (R42), 0 where a word is read
+abbrev refusal_of : Result ℕ ReadError → ℕ
+refusal_of (Ok w) = 0
+refusal_of (Err e) = read_number e
+
+pub refusals-worked : map refusal_of reads ≡ 0 ∷ 0 ∷ 0 ∷ 0 ∷ 42 ∷ 42 ∷ 42 ∷ 42 ∷ 0 ∷ []
+unfolding read_map is_map_ok entries_from count_in entry_of_glyph place_of word_of be
+refusals-worked = refl
+
+-- each error's number (R40, R41)
+pub numbers-worked : map write_number (TooManyGlyphs ∷ GlyphMapShort ∷ []) ≡ 40 ∷ 41 ∷ []
+numbers-worked = refl

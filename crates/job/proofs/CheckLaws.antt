@@ -14,7 +14,7 @@ use Rattle.said.specs.Job.{Outcome, in_axes, records_from, outcome_from, outcome
 use Rattle.said.specs.Job.{refused}
 use Rattle.job.specs.Lent.{JobHeld, JobRead}
 use Rattle.said.specs.LentOpen.{Open}
-use Rattle.job.specs.Check.{checked, checked_of, work_left}
+use Rattle.job.specs.Check.{checked, checked_of, uses_in, uses_of, work_left}
 use Rattle.std.specs.Prelude.{Result, Ok, Err}
 use Rattle.refusals.specs.declared.Refusal.{Refusal}
 use Rattle.refusals.specs.declared.Refused.{Refused}
@@ -66,3 +66,13 @@ module _ (axes mode : ℕ) (job w : List ℕ) (pairs : ℕ) where
         let g = subst (λ k. JobHeld axes mode job k w' c) q read.is in
         let l : length g.said.sets ≡ c.sets = ap length (sym g.sets-are) ∙ sets-length 0 c.sets w' in
         sym (ap checked_of (outcome-walk ∙ g.is) ∙ rw (g.regions-are, l, g.values-are) refl)
+
+    pub uses_as : {w' : List ℕ} (r : Result JobCounts Refused) {records : ℕ} → records ≡ record_count job → JobRead axes mode job records w w' r
+        → uses_in r ≡ uses_of (outcome axes mode job (length w) pairs)
+    unfolding uses_in uses_of
+    uses_as (Err x) q read =
+        let walk = subst (λ k. records_from axes mode job job k 0 in_axes ≡ refused (number x.refusal) x.place) q read.is in
+        sym (ap uses_of (outcome-walk ∙ walk))
+    uses_as {w'} (Ok c) {records} q read =
+        let g = subst (λ k. JobHeld axes mode job k w' c) q read.is in
+        sym (ap uses_of (outcome-walk ∙ g.is) ∙ g.uses-are)

@@ -2,3 +2,4 @@ pub mod WholeLaws
 pub mod CheckLaws
 pub mod HeadLaws
 pub mod EarlyLaws
+pub mod Same

@@ -10,3 +10,4 @@ pub mod SideFacts
 pub mod StageLaws
 pub mod CallLaws
 pub mod Verdicts
+pub mod Same

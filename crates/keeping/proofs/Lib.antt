@@ -6,3 +6,4 @@ pub mod RegionLaws
 pub mod KeepLaws
 pub mod CallLaws
 pub mod Told
+pub mod Same

@@ -3,3 +3,4 @@ pub mod UserLaws
 pub mod AnswerLaws
 pub mod Bytes
 pub mod Worked
+pub mod Same

@@ -6,8 +6,8 @@ use lib.IntN.{pos, negsuc}
 use lib.ListN.{take}
 use Rattle.laws.specs.Bytes.{be}
 use Rattle.laws.specs.Signed.{signed}
-use Rattle.reader.specs.declared.reader.ReadError.TheVariants.{BadStore, NoRow, NoRegion}
-use Rattle.reader.specs.Store.{Reading, Written, NoColumn, Refused, read_store, subtable_reading, is_header_ok, is_subtable_ok, words, find, are_columns_ok, column_start, column_width, cell}
+use Rattle.reader.specs.declared.reader.ReadError.TheVariants.{BadStore, NoRow, NoRegion, BadGlyphMap, BadWidths}
+use Rattle.reader.specs.Store.{Reading, Written, NoColumn, Refused, read_number, refusal_of, read_store, subtable_reading, is_header_ok, is_subtable_ok, words, find, are_columns_ok, column_start, column_width, cell}
 
 -- header, offset, a list of two regions, and a subtable
 abbrev with : List ℕ → List ℕ
@@ -66,6 +66,15 @@ cases =
 pub reads : map (λ (c : Case). read_store c.store c.outer c.inner c.region) cases ≡ map (λ (c : Case). c.answer) cases
 unfolding read_store subtable_reading is_header_ok is_subtable_ok be words find are_columns_ok column_start column_width cell signed
 reads = refl
+
+-- the refusals' numbers (R20 to R22), 0 where nothing is refused
+pub refusals-worked : map (λ (c : Case). refusal_of (read_store c.store c.outer c.inner c.region)) cases ≡ 0 ∷ 0 ∷ 22 ∷ 21 ∷ 21 ∷ 0 ∷ 0 ∷ 0 ∷ 0 ∷ 20 ∷ 20 ∷ 20 ∷ 20 ∷ []
+unfolding refusal_of read_store subtable_reading is_header_ok is_subtable_ok be words find are_columns_ok column_start column_width cell signed
+refusals-worked = refl
+
+-- each error's number (R20 to R22, R42, R43)
+pub numbers-worked : map read_number (BadStore ∷ NoRow ∷ NoRegion ∷ BadGlyphMap ∷ BadWidths ∷ []) ≡ 20 ∷ 21 ∷ 22 ∷ 42 ∷ 43 ∷ []
+numbers-worked = refl
 
 -- two answers that meet the reader's contract are equal
 pub read-once : (s : List ℕ) (outer inner region : ℕ) (a b : Reading) → a ≡ read_store s outer inner region → b ≡ read_store s outer inner region → a ≡ b

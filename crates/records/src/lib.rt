@@ -12,7 +12,8 @@ ghost use Rattle.said.specs.Records.{record_bytes, region_number, value_as_word}
 
 pub use crate::kinds::Kind;
 pub use crate::nth::{
-    byte_at, check_record, end_at, is_kind, peak_at, region_at, start_at, word_at,
+    byte_at, check_record, end_at, is_kind, kind_at, peak_at, refused_byte, region_at, start_at,
+    word_at,
 };
 pub use crate::places::{
     COORDS_LONG, are_records, axis_coords, coordinate, coords_start, records_in, region_long,

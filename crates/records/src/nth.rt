@@ -13,12 +13,20 @@ use refusals::Refusal;
 // The bytes of a record.
 pub const BYTES: usize = 12;
 
+// The byte that says of which kind record i is, whichever it is.
+pub fn kind_at(job: &[u8], i: usize) -> u8
+    requires { record_start (i + 1) ≤ length job.now }
+    ensures { result ≡ kind (record_at job.now i) }
+{
+    job[BYTES * i]
+}
+
 // Record i is of that kind.
 pub fn is_kind(job: &[u8], i: usize, wanted: Kind) -> bool
     requires { record_start (i + 1) ≤ length job.now }
     ensures { result ≡ eqb (kind (record_at job.now i)) (code_of wanted) }
 {
-    job[BYTES * i] == wanted as u8
+    kind_at(job, i) == wanted as u8
 }
 
 // Refusals 30 to 34, of a record behind so many axis records; `late` where a value or an end stands before it.
@@ -35,17 +43,26 @@ pub fn check_record(
     check_form(&job[BYTES * i..], axes, before, late)
 }
 
-// The byte that a refusal names within record `at`.
+// The byte that refusal `no` names within record `at`; 0 of any other number.
 #[tactic(auto, unfolding(said::specs::Refusals::byte_of))]
-pub fn byte_at(job: &[u8], refusal: Refusal, at: usize) -> usize
+pub fn byte_at(job: &[u8], no: usize, at: usize) -> usize
+    requires { no ≡ not_zero → record_start (at + 1) ≤ length job.now }
+    ensures { result ≡ byte_of no (record_at job.now at) }
+{
+    if no != Refusal::NotZero as usize {
+        return 0;
+    }
+    wrong_byte(&job[BYTES * at..])
+}
+
+// The same of a refusal as the code has it.
+pub fn refused_byte(job: &[u8], refusal: Refusal, at: usize) -> usize
     requires { number refusal ≡ not_zero → record_start (at + 1) ≤ length job.now }
     ensures { result ≡ byte_of (number refusal) (record_at job.now at) }
 {
-    match refusal {
-        Refusal::NotZero => wrong_byte(&job[BYTES * at..]),
-        _ => 0,
-    }
+    byte_at(job, u32::from(refusal) as usize, at)
 }
+
 // The region that a value record names.
 pub fn region_at(job: &[u8], i: usize) -> usize
     requires { record_start (i + 1) ≤ length job.now }

@@ -4,13 +4,14 @@ use mathlib.Core.Path.{ap, sym, ◌∙◌}
 use native.Mathlib.Omega.{arith}
 use Rattle.refusals.specs.declared.Refusal.{Refusal}
 use Rattle.refusals.specs.declared.Refusal.TheVariants.{BadAxes, BadMode, BadJobLength, WorkShort, UnknownRegion, RegionTwice, Unfinished, SetsFull, ShapesFull, IdsShort, MapShort, LogShort, OutShort, BadStore, NoRow, UnknownKind, NotZero, AxisOutOfTurn, AxisTooLate, RegionUnfinished, RegionsEqual, RegionsOrAxes, JobTooLong, JobShort, StoreTooBig, OriginsShort, NoId, OtherStore, NoSet, LongValue, BadRegion, WideSubtable, PlacesShort, KeptShort}
+use Rattle.refusals.specs.declared.Refused.{Refused}
 use Rattle.refusals.specs.Refusals.{number, number_in}
 
 choose : Bool → Refusal → Refusal → Refusal
 choose true r s = r
 choose false r s = s
 
-refusal_of : ℕ → Refusal
+pub refusal_of : ℕ → Refusal
 refusal_of n =
     choose (eqb n 1) BadAxes (
     choose (eqb n 2) BadMode (
@@ -46,7 +47,7 @@ refusal_of n =
     choose (eqb n 72) WideSubtable (
     choose (eqb n 73) PlacesShort (KeptShort)))))))))))))))))))))))))))))))))
 
-back : (r : Refusal) → refusal_of (number r) ≡ r
+pub back : (r : Refusal) → refusal_of (number r) ≡ r
 unfolding refusal_of choose
 back BadAxes = refl
 back BadMode = refl
@@ -128,3 +129,14 @@ tested_same (Ok _) (Ok _) e = refl
 tested_same (Ok _) (Err s) e = absurd (some_number s (sym e))
 tested_same (Err r) (Ok _) e = absurd (some_number r e)
 tested_same (Err r) (Err s) e = ap Err (number_same r s e)
+
+-- ---- with a place
+
+abbrev pub refused_of : ℕ → ℕ → Refused
+refused_of n at = record { refusal = refusal_of n; place = at }
+
+pub refused_back : (x : Refused) → refused_of (number x.refusal) x.place ≡ x
+refused_back x = let e = back x.refusal in λ i. record { refusal = e i; place = x.place }
+
+pub refused_same : (x y : Refused) → number x.refusal ≡ number y.refusal → x.place ≡ y.place → x ≡ y
+refused_same x y n p = let e = number_same x.refusal y.refusal n in λ i. record { refusal = e i; place = p i }

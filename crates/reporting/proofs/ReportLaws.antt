@@ -28,6 +28,11 @@ filled-end k (x ∷ l) old e =
 pub filled-all : (l old : List ℕ) → length old ≡ length l → filled 0 l old ≡ l
 filled-all l old e = filled-end 0 l old (omega (arith, e))
 
+-- a refusal's words, of any number
+pub refused-filled : (n at byte : ℕ) (old : List ℕ) → length old ≡ 16 → filled 0 (refused_words n at byte) old ≡ refused_words n at byte
+unfolding refused_words
+refused-filled n at byte old e = filled-all (n ∷ at ∷ 0 ∷ 0 ∷ 0 ∷ 0 ∷ 0 ∷ 0 ∷ 0 ∷ 0 ∷ 0 ∷ 0 ∷ byte ∷ 0 ∷ 0 ∷ 0 ∷ []) old e
+
 words-sixteen : (job : List ℕ) (b : Built) → length (report_words job b) ≡ 16
 unfolding report_words refused_words done_words
 words-sixteen job (built.Refused n at) = refl

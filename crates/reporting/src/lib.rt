@@ -3,4 +3,4 @@
 
 mod report;
 
-pub use report::{refused_words, tell, tell_refusal};
+pub use report::{refused_words, tell, tell_refusal, tell_refused};

@@ -5,16 +5,30 @@ ghost use Rattle.finishing.specs.Answers.{built};
 ghost use Rattle.reporting.specs.Answers.{number_of, report_words, refused_words, done_words, filled, byte_within, AtRecord, words_of};
 
 use finishing::Report;
-use records::byte_at;
+use records::refused_byte;
 use refusals::Refused;
 
-// A refusal: its number and place, the byte within the record, and zeros.
+// A refusal of any number: it and the place, the byte within the record, and zeros.
 #[tactic(auto, unfolding(crate::specs::Answers::refused_words))]
-pub fn refused_words(no: u32, at: usize, byte: usize) -> [u64; 16]
+fn numbered_words(no: usize, at: usize, byte: usize) -> [u64; 16]
     ensures { result ≡ refused_words no at byte }
 {
     let (no, at, byte) = (no as u64, at as u64, byte as u64);
     [no, at, 0, 0, 0, 0, 0, 0, 0, 0, 0, 0, byte, 0, 0, 0]
+}
+
+// A refusal: its number and place, the byte within the record, and zeros.
+pub fn refused_words(no: u32, at: usize, byte: usize) -> [u64; 16]
+    ensures { result ≡ refused_words no at byte }
+{
+    numbered_words(no as usize, at, byte)
+}
+
+// Fills the report with a refusal, by its number.
+pub fn tell_refused(report: &mut [u64; 16], no: usize, at: usize, byte: usize)
+    ensures { report.new ≡ filled 0 (refused_words no at byte) report.old }
+{
+    *report = numbered_words(no, at, byte);
 }
 
 // Done: what was built, in numbers.
@@ -49,7 +63,7 @@ pub fn tell_refusal(report: &mut [u64; 16], job: &[u8], refused: Refused) -> u32
     ensures report_after { report.new ≡ words_of job.now refused }
 {
     let no = u32::from(refused.refusal);
-    let byte = byte_at(job, refused.refusal, refused.place);
+    let byte = refused_byte(job, refused.refusal, refused.place);
     *report = refused_words(no, refused.place, byte);
     no
 }

@@ -20,5 +20,6 @@ pub fn run_items(count: usize, k: usize) -> usize
     requires count_bound { count < 4294967296 }
     ensures { result ≡ min max_items (count - max_items * k) }
 {
-    Encoding::MAX_ITEMS.min(count - Encoding::MAX_ITEMS * k)
+    let left = count - Encoding::MAX_ITEMS * k;
+    Encoding::MAX_ITEMS.min(left)
 }

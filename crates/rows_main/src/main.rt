@@ -4,7 +4,7 @@
 
 mod lines;
 
-use crate::lines::bytes_of;
+use crate::lines::Case;
 use std::io::{self, Read};
 
 // So much of the input is read.
@@ -29,15 +29,13 @@ fn answer<R: Print>(rt: &R, case: &[u8]) -> io::Result<()> {
 
 // Up to where a read fails. A line that does not end is no case.
 fn main(rt: HostRuntime) -> io::Result<()> {
-    let alloc = rt.alloc();
-    let mut line = Vec::new(alloc);
+    let mut case = Case::new();
     for byte in rt.reader().take(MOST_INPUT).bytes().map_while(Result::ok) {
         if byte == b'\n' {
-            let case = bytes_of(alloc, &line)?;
-            answer(&rt, &case)?;
-            line.clear();
+            answer(&rt, case.bytes())?;
+            case.clear();
         } else {
-            line.push(byte)?;
+            case.push(byte);
         }
     }
     Ok(())

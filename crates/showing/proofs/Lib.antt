@@ -1,3 +1,4 @@
 pub mod EndLaws
 pub mod PartLaws
 pub mod FoundLaws
+pub mod Same

@@ -1,2 +1,3 @@
 pub mod ShownTells
 pub mod WhyTells
+pub mod Same
