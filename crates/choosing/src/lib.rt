@@ -13,6 +13,7 @@ ghost use Rattle.choosing.specs.Lent.{TakenIn, Low, ChosenAt};
 pub use crate::finding::write_places;
 use crate::grouping::group;
 use crate::once::distinct;
+use laws::copy_slice;
 
 // How many rows are used, and of how many subtables.
 #[derive(Clone, Copy)]
@@ -27,7 +28,7 @@ fn take_in(rows: &[u32], work: &mut [u32])
     ensures { TakenIn rows.now work.old work.new }
 {
     let words = &mut work[..rows.len()];
-    words.copy_from_slice(rows);
+    copy_slice(words, rows);
     words.sort_unstable();
 }
 

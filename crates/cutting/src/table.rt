@@ -6,7 +6,7 @@ ghost use Rattle.rows.specs.Lent.{Put, head_bytes};
 ghost use Rattle.cutting.specs.LentCut.{TableFit, NamesFit, TableNamed, columns_put, rows_put, cut_bytes};
 
 use crate::cut::cut_of;
-use laws::wide;
+use laws::{copy_slice, wide};
 use reader::{be, column_at};
 use rows::put;
 
@@ -15,7 +15,7 @@ pub fn copy(out: &mut [u8], at: usize, src: &[u8], from: usize, n: usize) -> usi
     requires { (at + n ≤ length out.old) × (from + n ≤ length src.now) }
     ensures { Put at (seg from n src.now) out.old out.new result }
 {
-    out[at..at + n].copy_from_slice(&src[from..from + n]);
+    copy_slice(&mut out[at..at + n], &src[from..from + n]);
     at + n
 }
 

@@ -15,6 +15,7 @@ ghost use Rattle.limits.specs.Limits.{max_shapes};
 use crate::answers::Report;
 use crate::measuring::{Packing, measure};
 use encoder::{Encoded, Places, log_words};
+use laws::copy_slice;
 use planning::Plan;
 use refusals::{Refusal, Refused, ensure};
 use said::STORE_BYTES;
@@ -41,7 +42,7 @@ fn copy_words(work: &[u32], from: usize, n: usize, to: &mut [u32])
     requires n_in_bounds_2 { n ≤ length to.old }
     ensures { to.new ≡ over to.old 0 n (seg from n work.now) }
 {
-    to[..n].copy_from_slice(&work[from..from + n]);
+    copy_slice(&mut to[..n], &work[from..from + n]);
 }
 
 // Of each of so many starting groups its number and the place of its final group: two words, in starting order.

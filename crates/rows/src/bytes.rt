@@ -3,6 +3,8 @@ ghost use Rattle.std.specs.Prelude.{◌+◌, ◌≤◌, ◌%◌, ◌≡◌, leng
 ghost use Rattle.laws.specs.Bytes.{bytes_of, over};
 ghost use Rattle.rows.specs.Lent.{Put};
 
+use laws::copy_slice;
+
 // Writes the k low bytes of x from at on.
 pub fn put(out: &mut [u8], at: usize, k: usize, x: u32)
     requires { at + k ≤ length out.old }
@@ -21,6 +23,6 @@ pub fn copy(out: &mut [u8], at: usize, bytes: &[u8]) -> usize
     ensures { Put at bytes.now out.old out.new result }
 {
     let end = at + bytes.len();
-    out[at..end].copy_from_slice(bytes);
+    copy_slice(&mut out[at..end], bytes);
     end
 }

@@ -83,7 +83,7 @@ fn no_memory_of_its_own() {
     assert!(
         called
             .iter()
-            .all(|name| ["memcpy", "memmove", "memset"].contains(name)),
+            .all(|name| ["memcpy", "memset"].contains(name)),
         "{called:?}"
     );
 }

@@ -1,6 +1,6 @@
 /* The library's calls, answered over a pipe (emulated.rs asks): the archive for Arm answers so
- * under an emulator, and that for x86-64 as it is. No C library: three system calls, memset,
- * memcpy and memmove.
+ * under an emulator, and that for x86-64 as it is. No C library: three system calls, memset and
+ * memcpy.
  *
  * A question is 13 words of 64 bits (what is asked, three numbers, the lengths of job,
  * work, pairs, out, ids, map, log and origins, and whether the pairs hold anything), then what is
@@ -96,17 +96,6 @@ void *memcpy(void *to, const void *from, u64 count) {
     u8 *p = to;
     const u8 *q = from;
     for (; count > 0; count--) *p++ = *q++;
-    return to;
-}
-
-void *memmove(void *to, const void *from, u64 count) {
-    u8 *p = to;
-    const u8 *q = from;
-    if (p <= q) return memcpy(to, from, count);
-    while (count > 0) {
-        count--;
-        p[count] = q[count];
-    }
     return to;
 }
 

@@ -10,4 +10,4 @@ pub returns : goal.returns
 returns c =
     let a = c.args in
     let z : 0 + a.n ≡ a.n = omega arith in
-    rw z (ap (λ (x : List ℕ). x ++ drop a.n a.to.now) (c.copy_from_slice.ensures.after ∙ part-seg a.from a.n a.work.now))
+    rw z (ap (λ (x : List ℕ). x ++ drop a.n a.to.now) (c.copy_slice.ensures ∙ part-seg a.from a.n a.work.now))
