@@ -3,3 +3,4 @@ pub mod CheckLaws
 pub mod HeadLaws
 pub mod EarlyLaws
 pub mod Same
+pub mod FillLaws

@@ -1,6 +1,5 @@
-use mathlib.Core.Path.{◌≡◌}
 use borrow.Author.Rules.{rules}
-use lib.ListN.{length, replicate}
+use Rattle.job.proofs.FillLaws.{filled-part}
 use Rattle.refusals.proofs.Passing.{passed}
 use Rattle.closing.proofs.CloseLaws.{close-settle, close-early, close-late}
 use Rattle.closing.proofs.closing.close.Goals as goal
@@ -15,5 +14,4 @@ close_read-answer-requires c = close-settle c.args.opened c.in_ok-read.read c.in
 
 pub returns : goal.returns
 returns c =
-    let z : c.fill.new.self ≡ replicate (length c.args.work.now) 0 = search rules in
-    λ axes mode old pairs mid p j. close-late c.args.work.now c.args.m old pairs mid p j c.in_ok-read.read c.in_ok-read.was _ _ _ (λ o. c.close_read-answer.ensures axes mode o mid) _ z
+    λ axes mode old pairs mid p j. close-late c.args.work.now c.args.m old pairs mid p j c.in_ok-read.read c.in_ok-read.was _ _ _ (λ o. c.close_read-answer.ensures axes mode o mid) _ (search (rules, filled-part))

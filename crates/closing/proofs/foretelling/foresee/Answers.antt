@@ -1,6 +1,5 @@
-use mathlib.Core.Path.{◌≡◌}
 use borrow.Author.Rules.{rules}
-use lib.ListN.{length, replicate}
+use Rattle.job.proofs.FillLaws.{filled-part}
 use Rattle.refusals.proofs.Passing.{passed}
 use Rattle.closing.proofs.CloseLaws.{foresee-settle, foresee-early, foresee-late}
 use Rattle.closing.proofs.foretelling.foresee.Goals as goal
@@ -15,5 +14,4 @@ foresee_read-answer-requires c = foresee-settle c.args.opened c.in_ok-read.read 
 
 pub returns : goal.returns
 returns c =
-    let z : c.fill.new.self ≡ replicate (length c.args.work.now) 0 = search rules in
-    λ axes mode job old pairs mid p j. foresee-late c.args.work.now c.args.m old pairs mid p j c.in_ok-read.read c.in_ok-read.was _ (λ o. c.foresee_read-answer.ensures axes mode job o mid) _ z
+    λ axes mode job old pairs mid p j. foresee-late c.args.work.now c.args.m old pairs mid p j c.in_ok-read.read c.in_ok-read.was _ (λ o. c.foresee_read-answer.ensures axes mode job o mid) _ (search (rules, filled-part))

@@ -1,6 +1,7 @@
 use mathlib.Core.Path.{sym, ap, ◌∙◌}
 use native.Mathlib.Omega.{arith}
 use Rattle.std.proofs.Common.{rules}
+use Rattle.job.proofs.FillLaws.{filled-part}
 use Rattle.refusals.proofs.Passing.{passed}
 use Rattle.job.specs.Check.{checked, checked_of, uses_in, uses_of}
 use Rattle.job.proofs.CheckLaws.{room, refused-early, left-early, left-zeros, checked_as, uses_as}
@@ -47,7 +48,7 @@ returns-in-Ok-clause-uses c =
 pub returns-in-Ok-clause-work_after : goal.returns-in-Ok-clause-work_after
 returns-in-Ok-clause-work_after c =
     let a = c.args in
-    left-zeros a.axes a.mode a.job.now a.work.now a.pairs c.in_ok-check_early.ensures.value _ (search (rules, c.read_job-answer.ensures.only.long))
+    left-zeros a.axes a.mode a.job.now a.work.now a.pairs c.in_ok-check_early.ensures.value _ (search (rules, filled-part, c.read_job-answer.ensures.only.long))
 
 pub returns-in-Err-clause-value : goal.returns-in-Err-clause-value
 unfolding checked
@@ -66,4 +67,4 @@ returns-in-Err-clause-uses c =
 pub returns-in-Err-clause-work_after : goal.returns-in-Err-clause-work_after
 returns-in-Err-clause-work_after c =
     let a = c.args in
-    left-zeros a.axes a.mode a.job.now a.work.now a.pairs c.in_ok-check_early.ensures.value _ (search (rules, c.read_job-answer.ensures.only.long))
+    left-zeros a.axes a.mode a.job.now a.work.now a.pairs c.in_ok-check_early.ensures.value _ (search (rules, filled-part, c.read_job-answer.ensures.only.long))

@@ -1,6 +1,5 @@
-use mathlib.Core.Path.{◌≡◌}
 use borrow.Author.Rules.{rules}
-use lib.ListN.{length, replicate}
+use Rattle.job.proofs.FillLaws.{filled-part}
 use Rattle.looking.proofs.LookLaws.{look-settle, look-early, look-late}
 use Rattle.looking.proofs.closing.look_close.Goals as goal
 
@@ -12,5 +11,4 @@ look_read-reason-requires c = look-settle c.args.opened c.in-Ok.read c.in-Ok.is 
 
 pub returns : goal.returns
 returns c =
-    let z : c.fill.new.self ≡ replicate (length c.args.work.now) 0 = search rules in
-    λ axes job old pairs mid p j. look-late c.args.work.now c.args.m old pairs mid p j _ _ c.in-Ok.read c.in-Ok.is _ (λ o. c.look_read-reason.ensures axes job o mid) _ z
+    λ axes job old pairs mid p j. look-late c.args.work.now c.args.m old pairs mid p j _ _ c.in-Ok.read c.in-Ok.is _ (λ o. c.look_read-reason.ensures axes job o mid) _ (search (rules, filled-part))

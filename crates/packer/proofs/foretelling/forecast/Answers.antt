@@ -1,7 +1,8 @@
 use mathlib.Core.Path.{◌≡◌}
 use native.Mathlib.Omega.{arith}
 use borrow.Author.Rules.{rules}
-use lib.ListN.{length, replicate}
+use Rattle.job.proofs.FillLaws.{filled-part}
+use lib.ListN.{length}
 use Rattle.refusals.proofs.Passing.{passed}
 use Rattle.closing.proofs.CloseLaws.{foreseen-early, foreseen-late}
 use Rattle.packer.proofs.BuildLaws.{foretells}
@@ -21,6 +22,5 @@ returns c =
     let a = c.args in
     let e = c.in_ok-check_early.ensures.value in
     let long : length c.foretell_records-answer.new.pairs ≡ length a.pairs.now = omega arith in
-    let z : c.fill.new.self ≡ replicate (length a.work.now) 0 = search rules in
-    foretells a.axes a.mode a.job.now a.work.now a.pairs.now _ _ _ (foreseen-late a.axes a.mode a.job.now a.work.now (length a.pairs.now) e _ z _ c.foretell_records-answer.ensures)
+    foretells a.axes a.mode a.job.now a.work.now a.pairs.now _ _ _ (foreseen-late a.axes a.mode a.job.now a.work.now (length a.pairs.now) e _ (search (rules, filled-part)) _ c.foretell_records-answer.ensures)
     (pairs-late a.axes a.mode a.job.now (length a.work.now) a.pairs.now e c.foretell_records-answer.new.pairs long _ c.clear_pairs.ensures)
